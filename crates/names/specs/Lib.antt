@@ -1,0 +1,5 @@
+-- Names and signatures, by the D-Bus Specification.
+-- Assumes nothing.
+pub mod Names
+pub mod Types
+pub mod Signature

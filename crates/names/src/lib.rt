@@ -1,0 +1,1 @@
+// Names and signatures, by the D-Bus Specification.

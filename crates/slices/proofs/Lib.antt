@@ -1,0 +1,3 @@
+-- The laws on lists of bytes.
+-- Assumes nothing.
+pub mod Runs
