@@ -11,7 +11,7 @@ use native.Mathlib.Numerals.{add-one}
 use native.Mathlib.Omega.{arith}
 use lib.Dec.{eqb}
 use lib.ListN.{length, drop, take, getD, length-drop, drop-of-length-le}
-use lib.Seq.{drop-drop, drop-cons}
+use lib.Seq.{drop-drop, drop-cons, getD-drop}
 use Rattle.slices.specs.Bytes.{if, other, span, past, all, same, starts}
 use Rattle.slices.specs.Run.{Run}
 
@@ -65,6 +65,34 @@ past-drop p (b ∷ l) = go (p b) (past-drop p l)
 pub past-at : (p : ℕ → Bool) (doc : List ℕ) (at : ℕ) → past p (drop at doc) ≡ drop (at + length (span p (drop at doc))) doc
 past-at p doc at = past-drop p (drop at doc) ∙ drop-drop (length (span p (drop at doc))) at doc
 
+-- what is the same past a byte of a class, whichever bytes follow, is the same past a run of them
+pub run-skips : {A : Type 0} (f : List ℕ → ℕ → A) (p : ℕ → Bool) → ((b : ℕ) (l : List ℕ) (at : ℕ) → p b ≡ true → f (b ∷ l) at ≡ f l (suc at)) → (l : List ℕ) (at : ℕ) → f l at ≡ f (past p l) (at + length (span p l))
+run-skips f p one [] at = rw add-zero
+run-skips f p one (b ∷ l) at = go (p b) refl (run-skips f p one l (suc at))
+  where
+    go : (t : Bool) → p b ≡ t → f l (suc at) ≡ f (past p l) (suc at + length (span p l)) → f (b ∷ l) at ≡ f (if t (past p l) (b ∷ l)) (at + length (if t (b ∷ span p l) []))
+    go true e i =
+        let n : suc at + length (span p l) ≡ at + suc (length (span p l)) = omega arith in
+        rw (← n) (one b l at e ∙ i)
+    go false e i = rw add-zero
+
+pub run-past : {A : Type 0} (f : List ℕ → ℕ → A) (p : ℕ → Bool) → ((b : ℕ) (l : List ℕ) (at : ℕ) → p b ≡ true → f (b ∷ l) at ≡ f l (suc at)) → (s : List ℕ) (at : ℕ) {r : ℕ} → Run p s at r → f (drop at s) at ≡ f (drop r s) r
+run-past f p one s at n = run-skips f p one (drop at s) at ∙ rw (past-at p s at, ← n .ends)
+
+-- the byte at the end of a run is of another class
+span-end : (p : ℕ → Bool) (l : List ℕ) → length (span p l) < length l → p (getD l (length (span p l)) 0) ≡ false
+span-end p [] h = absurd (omega arith)
+span-end p (b ∷ l) h = go (p b) refl h (span-end p l)
+  where
+    go : (t : Bool) → p b ≡ t → length (if t (b ∷ span p l) []) < suc (length l) → (length (span p l) < length l → p (getD l (length (span p l)) 0) ≡ false) → p (getD (b ∷ l) (length (if t (b ∷ span p l) [])) 0) ≡ false
+    go true e h i = i (omega arith)
+    go false e h i = e
+
+pub run-stop : {p : ℕ → Bool} {s : List ℕ} {from r : ℕ} → Run p s from r → r < length s → p (getD s r 0) ≡ false
+run-stop {p} {s} {from} {r} n h =
+    let l : length (span p (drop from s)) < length (drop from s) = omega (arith, length-drop from s, n .ends) in
+    rw (n .ends, ← getD-drop from s (length (span p (drop from s))) 0) (span-end p (drop from s) l)
+
 -- a loop over a run that began at from and stands at at: what is left of the run is what was asked
 pub record Running (p : ℕ → Bool) (s : List ℕ) (from at : ℕ) : Type 0 where
   pub left : from + length (span p (drop from s)) ≡ at + length (span p (drop at s))
@@ -89,6 +117,13 @@ module _ {p : ℕ → Bool} {s : List ℕ} {from at : ℕ} (g : Running p s from
     within = g .inside;
   }
 
+  -- the same where a callee answers whether the byte is of the class
+  pub run-more-by : {r : Bool} → at < length s → r ≡ p (getD s at 0) → r ≡ true → Running p s from (at + 1)
+  run-more-by h e t = run-more h (sym e ∙ t)
+
+  pub run-stops-by : {r : Bool} → at < length s → r ≡ p (getD s at 0) → r ≡ false → Run p s from at
+  run-stops-by h e t = run-stops h (sym e ∙ t)
+
   pub run-ends : length s ≤ at → Run p s from at
   run-ends h = record {
     ends = sym (g .left ∙ rw (drop-of-length-le s h) (add-zero at));
@@ -103,7 +138,7 @@ pub other-true : (a b : ℕ) → (a ≡ b → ⊥) → other b a ≡ true
 other-true a b e = rw (ne-eqb a b e)
 
 -- what answers every need of a loop over a run
-pub ruleset runs = (run-begins, run-more, run-stops, run-ends, other-false, other-true, needs)
+pub ruleset runs = (run-begins, run-more, run-stops, run-more-by, run-stops-by, run-ends, other-false, other-true, needs)
 
 -- a comparison of a key with what stands at a place, after i equal bytes
 pub record Matching (s : List ℕ) (from : ℕ) (key : List ℕ) (i : ℕ) : Type 0 where
@@ -120,6 +155,12 @@ starts-short (a ∷ k) (b ∷ l) h = rw (starts-short k l (omega arith)) (either
     either : (t : Bool) → if t false false ≡ false
     either true = refl
     either false = refl
+
+-- one that stands there fits
+pub starts-fits : (key l : List ℕ) → starts key l ≡ true → length key ≤ length l
+starts-fits [] l h = omega arith
+starts-fits (a ∷ k) [] h = let z : _≡_ {A = ℕ} 0 1 = cc in absurd (omega arith)
+starts-fits (a ∷ k) (b ∷ l) h = let i = starts-fits k l (both (eqb a b) (starts k l) h .1) in omega arith
 
 pub match-short : (s : List ℕ) (from : ℕ) (key : List ℕ) → from ≤ length s → length s - from < length key → false ≡ starts key (drop from s)
 match-short s from key h l = sym (starts-short key (drop from s) (rw length-drop (omega arith)))
