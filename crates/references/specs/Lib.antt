@@ -1,0 +1,8 @@
+-- Attribute values: escaping, what a raw value shows, and the two entries.
+-- Assumes nothing.
+pub mod Characters
+pub mod Escape
+pub mod Unescape
+pub mod Outcome
+pub mod Entries
+pub mod Cases
