@@ -1,0 +1,72 @@
+-- Triples: whether one is inside, and the part that it shows.
+-- Assumes nothing.
+use Prim.Native.Nat.{ℕ, _+_, _-_, _≤_}
+use native.Mathlib.Nat.{add-comm, add-zero, add-sub-cancel-left}
+use mathlib.Core.Path.{_≡_, refl, sym, _∙_}
+use mathlib.Core.List.{List, []}
+use mathlib.Core.Bool.{Bool, true, false, _&&_, _||_}
+use borrow.Author.Needs.{needs}
+use borrow.Author.Tests.{ne-eqb, leb-true}
+use lib.Dec.{eqb, leb}
+use lib.ListN.{length, take, drop}
+use Rattle.tables.specs.Triple.{inside, beginning, resolved, shown}
+use Rattle.tables.specs.Place.{place}
+use Rattle.tables.specs.declared.Triple.{Triple}
+
+or-false : (b : Bool) → b || false ≡ b
+or-false true = refl
+or-false false = refl
+
+and-right : (a b : Bool) → a && b ≡ true → b ≡ true
+and-right true b e = e
+and-right false b e = cc
+
+module _ (document text : List ℕ) (t : Triple) where
+  pub inside-document : t .source ≡ 1 → leb (t .start + t .len) (length document) ≡ inside document text t
+  inside-document e = sym (rw e (or-false (leb (t .start + t .len) (length document))))
+
+  pub inside-text : t .source ≡ 2 → leb (t .start + t .len) (length text) ≡ inside document text t
+  inside-text e = rw e
+
+  pub inside-neither : (t .source ≡ 1 → ⊥) → (t .source ≡ 2 → ⊥) → false ≡ inside document text t
+  inside-neither p q = rw (ne-eqb (t .source) 1 p, ne-eqb (t .source) 2 q)
+
+  -- b is what the test of the triple gave
+  module _ (b : Bool) (q : b ≡ inside document text t) where
+    pub resolved-inside : b ≡ true → t ≡ resolved document text t
+    resolved-inside e = rw (sym q ∙ e)
+
+    pub resolved-outside : b ≡ false → beginning ≡ resolved document text t
+    resolved-outside e = rw (sym q ∙ e)
+
+    pub document-end : b ≡ true → t .source ≡ 1 → t .start + t .len ≤ length document
+    document-end e s = leb-true _ _ (inside-document s ∙ sym q ∙ e)
+
+    pub text-end : b ≡ true → (t .source ≡ 1 → ⊥) → t .start + t .len ≤ length text
+    text-end e s = leb-true _ _ (and-right (eqb (t .source) 2) _ (rw (ne-eqb (t .source) 1 s) at (sym q ∙ e)))
+
+    pub shown-document : b ≡ true → t .source ≡ 1 → take (t .start + t .len - t .start) (drop (t .start) document) ≡ shown document text t
+    unfolding shown
+    shown-document e s = rw (sym q ∙ e, s, add-sub-cancel-left)
+
+    pub shown-text : b ≡ true → (t .source ≡ 1 → ⊥) → take (t .start + t .len - t .start) (drop (t .start) text) ≡ shown document text t
+    unfolding shown
+    shown-text e s = rw (sym q ∙ e, ne-eqb (t .source) 1 s, add-sub-cancel-left)
+
+    pub shown-outside : b ≡ false → [] ≡ shown document text t
+    unfolding shown
+    shown-outside e = rw (sym q ∙ e)
+
+    module _ (d x : ℕ × ℕ) where
+      pub place-document : b ≡ true → t .source ≡ 1 → (d .0, t .start + d .1) ≡ place d x (resolved document text t)
+      place-document e s = rw (sym q ∙ e, s, add-comm (t .start))
+
+      pub place-text : b ≡ true → (t .source ≡ 1 → ⊥) → (x .0, t .start + x .1) ≡ place d x (resolved document text t)
+      place-text e s = rw (sym q ∙ e, ne-eqb (t .source) 1 s, add-comm (t .start))
+
+      pub place-outside : b ≡ false → d ≡ place d x (resolved document text t)
+      place-outside e = rw (sym q ∙ e, add-zero)
+
+-- what answers every need of the functions on triples
+pub ruleset triples =
+    (inside-document, inside-text, inside-neither, resolved-inside, resolved-outside, document-end, text-end, shown-document, shown-text, shown-outside, place-document, place-text, place-outside, needs)
