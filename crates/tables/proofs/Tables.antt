@@ -1,6 +1,6 @@
 -- Tables of rows of w words: rows added and given back, a docstring in a row, zeros from a place on.
 -- Assumes nothing.
-use Prim.Native.Nat.{ℕ, zero, suc, _+_, _-_, _*_, _/_, _<_, _≤_, min}
+use Prim.Native.Nat.{ℕ, zero, suc, _+_, _-_, _*_, _/_, _<_, _≤_}
 use mathlib.Core.Path.{_≡_, refl, sym, _∙_, ap}
 use mathlib.Core.List.{List, [], _∷_, _++_}
 use borrow.Author.Needs.{needs}
@@ -10,9 +10,9 @@ use native.Mathlib.Nat.{sub-zero, add-zero, mul-one, zero-mul, add-mul, one-mul,
 use native.Mathlib.Decide.{decLt}
 use mir.Syntax.{w64}
 use mir.Val.{Fits}
-use lib.ListN.{length, getD, set, take, drop, length-set, length-append, length-take, List·getD-append, drop-of-length-le, replicate}
+use lib.ListN.{length, getD, set, take, drop, length-set, length-append, List·getD-append, drop-of-length-le, replicate}
 use lib.Seq.{getD-set-same, getD-set-other, getD-append-add, getD-take, length-take-le, drop-cons, sets, length-sets}
-use Rattle.tables.specs.Table.{whole, Holds, Rep, Put, withDocstring, Documented, cleared, Wiped}
+use Rattle.tables.specs.Table.{whole, Rep, Put, withDocstring, Documented, cleared, Wiped}
 use Rattle.tables.specs.Copied.{Copied}
 
 -- ---- whole rows
@@ -42,8 +42,8 @@ whole-before w n room p h =
 
 -- ---- what a table stands for
 
-pub nothing-stands : (w : ℕ) (t : List ℕ) → Rep w t 0 []
-nothing-stands w t = record { many = sym (zero-mul w); holds = λ k h b. absurd (omega arith) }
+pub empty-stands : (w : ℕ) (t : List ℕ) → Rep w t 0 []
+empty-stands w t = record { many = sym (zero-mul w); holds = λ k h b. absurd (omega arith) }
 
 pub given-back : {w n m : ℕ} {t xs : List ℕ} → Rep w t n xs → m ≤ n → Rep w t m (take (m * w) xs)
 given-back {w} {n} {m} {t} {xs} r h =

@@ -10,7 +10,7 @@ use borrow.Author.Tests.{ne-eqb, leb-true}
 use lib.Dec.{eqb, leb}
 use lib.ListN.{length, take, drop}
 use Rattle.tables.specs.Triple.{inside, beginning, resolved, shown}
-use Rattle.tables.specs.Place.{place}
+use Rattle.tables.specs.Place.{Inside, place}
 use Rattle.tables.specs.declared.Triple.{Triple}
 
 or-false : (b : Bool) → b || false ≡ b
@@ -33,40 +33,44 @@ module _ (document text : List ℕ) (t : Triple) where
 
   -- b is what the test of the triple gave
   module _ (b : Bool) (q : b ≡ inside document text t) where
+    pub inside-holds : b ≡ true → Inside document text t
+    inside-holds e = record { holds = sym q ∙ e }
+
     pub resolved-inside : b ≡ true → t ≡ resolved document text t
     resolved-inside e = rw (sym q ∙ e)
 
     pub resolved-outside : b ≡ false → beginning ≡ resolved document text t
     resolved-outside e = rw (sym q ∙ e)
 
-    pub document-end : b ≡ true → t .source ≡ 1 → t .start + t .len ≤ length document
-    document-end e s = leb-true _ _ (inside-document s ∙ sym q ∙ e)
-
-    pub text-end : b ≡ true → (t .source ≡ 1 → ⊥) → t .start + t .len ≤ length text
-    text-end e s = leb-true _ _ (and-right (eqb (t .source) 2) _ (rw (ne-eqb (t .source) 1 s) at (sym q ∙ e)))
-
-    pub shown-document : b ≡ true → t .source ≡ 1 → take (t .start + t .len - t .start) (drop (t .start) document) ≡ shown document text t
-    unfolding shown
-    shown-document e s = rw (sym q ∙ e, s, add-sub-cancel-left)
-
-    pub shown-text : b ≡ true → (t .source ≡ 1 → ⊥) → take (t .start + t .len - t .start) (drop (t .start) text) ≡ shown document text t
-    unfolding shown
-    shown-text e s = rw (sym q ∙ e, ne-eqb (t .source) 1 s, add-sub-cancel-left)
-
     pub shown-outside : b ≡ false → [] ≡ shown document text t
     unfolding shown
     shown-outside e = rw (sym q ∙ e)
 
-    module _ (d x : ℕ × ℕ) where
-      pub place-document : b ≡ true → t .source ≡ 1 → (d .0, t .start + d .1) ≡ place d x (resolved document text t)
-      place-document e s = rw (sym q ∙ e, s, add-comm (t .start))
+    pub place-outside : (d x : ℕ × ℕ) → b ≡ false → d ≡ place d x (resolved document text t)
+    place-outside d x e = rw (sym q ∙ e, add-zero)
 
-      pub place-text : b ≡ true → (t .source ≡ 1 → ⊥) → (x .0, t .start + x .1) ≡ place d x (resolved document text t)
-      place-text e s = rw (sym q ∙ e, ne-eqb (t .source) 1 s, add-comm (t .start))
+module _ {document text : List ℕ} {t : Triple} (g : Inside document text t) where
+  pub document-end : t .source ≡ 1 → t .start + t .len ≤ length document
+  document-end s = leb-true _ _ (inside-document document text t s ∙ g .holds)
 
-      pub place-outside : b ≡ false → d ≡ place d x (resolved document text t)
-      place-outside e = rw (sym q ∙ e, add-zero)
+  pub text-end : (t .source ≡ 1 → ⊥) → t .start + t .len ≤ length text
+  text-end s = leb-true _ _ (and-right (eqb (t .source) 2) _ (rw (ne-eqb (t .source) 1 s) at (g .holds)))
+
+  pub shown-document : t .source ≡ 1 → take (t .start + t .len - t .start) (drop (t .start) document) ≡ shown document text t
+  unfolding shown
+  shown-document s = rw (g .holds, s, add-sub-cancel-left)
+
+  pub shown-text : (t .source ≡ 1 → ⊥) → take (t .start + t .len - t .start) (drop (t .start) text) ≡ shown document text t
+  unfolding shown
+  shown-text s = rw (g .holds, ne-eqb (t .source) 1 s, add-sub-cancel-left)
+
+  module _ (d x : ℕ × ℕ) where
+    pub place-document : t .source ≡ 1 → (d .0, t .start + d .1) ≡ place d x (resolved document text t)
+    place-document s = rw (g .holds, s, add-comm (t .start))
+
+    pub place-text : (t .source ≡ 1 → ⊥) → (x .0, t .start + x .1) ≡ place d x (resolved document text t)
+    place-text s = rw (g .holds, ne-eqb (t .source) 1 s, add-comm (t .start))
 
 -- what answers every need of the functions on triples
 pub ruleset triples =
-    (inside-document, inside-text, inside-neither, resolved-inside, resolved-outside, document-end, text-end, shown-document, shown-text, shown-outside, place-document, place-text, place-outside, needs)
+    (inside-document, inside-text, inside-neither, inside-holds, resolved-inside, resolved-outside, shown-outside, place-outside, document-end, text-end, shown-document, shown-text, place-document, place-text, needs)

@@ -6,7 +6,7 @@ ghost use lib.ListN.{length};
 ghost use Rattle.tables.specs.Table.{Put, Documented, Wiped};
 ghost use Rattle.tables.specs.Copied.{Copied};
 ghost use Rattle.tables.specs.Triple.{inside, resolved, shown};
-ghost use Rattle.tables.specs.Place.{place};
+ghost use Rattle.tables.specs.Place.{Inside, place};
 
 // Source 1 is the document, 2 the text buffer.
 pub struct Triple {
@@ -16,7 +16,7 @@ pub struct Triple {
 }
 
 // Stores the words from a place on.
-pub fn copy_words(table: &mut [u32], base: usize, words: &[u32])
+fn copy_words(table: &mut [u32], base: usize, words: &[u32])
     requires { ⌜ base + length (now words) ≤ length (now table) ⌝ }
     ensures { λ r. ⌜ Copied base (now (words .entry)) (now (table .entry)) (now (table .exit)) ⌝ }
 {
@@ -32,12 +32,14 @@ pub fn put_words(table: &mut [u32], n: usize, words: &[u32]) -> usize
     requires { ⌜ n < 1048576 ⌝ ∗ ⌜ 0 < length (now words) ⌝ ∗ ⌜ length (now words) ≤ 16 ⌝ }
     ensures { λ r. ⌜ Put (length (now (words .entry))) (now (words .entry)) n (now (table .entry)) (now (table .exit)) r ⌝ }
 {
+    let count = n + 1;
     let base = n * words.len();
-    if base + words.len() <= table.len() {
+    let end = base + words.len();
+    if end <= table.len() {
         copy_words(table, base, words);
-        return n + 1;
+        return count;
     }
-    n + 1
+    count
 }
 
 // Adds a byte where there is room, and counts it in any case.
@@ -116,18 +118,27 @@ pub fn resolve(document: &[u8], text: &[u8], t: Triple) -> Triple
     }
 }
 
+// The part that a triple inside its buffer leads to.
+fn part_of<'a>(document: &'a [u8], text: &'a [u8], t: Triple) -> &'a [u8]
+    requires { ⌜ Inside (now document) (now text) t ⌝ }
+    ensures bytes { λ r. ⌜ now r ≡ shown (now (document .entry)) (now (text .entry)) t ⌝ }
+    ensures place { λ r. ⌜ r .ptr ≡ place (document .entry .ptr) (text .entry .ptr) (resolved (now (document .entry)) (now (text .entry)) t) ⌝ }
+{
+    let from = t.start as usize;
+    let to = from + t.len as usize;
+    if t.source == 1 {
+        return &document[from..to];
+    }
+    &text[from..to]
+}
+
 // The part of the document or of the text that a triple leads to, never a copy.
 pub fn lookup<'a>(document: &'a [u8], text: &'a [u8], t: Triple) -> &'a [u8]
     ensures bytes { λ r. ⌜ now r ≡ shown (now (document .entry)) (now (text .entry)) t ⌝ }
     ensures place { λ r. ⌜ r .ptr ≡ place (document .entry .ptr) (text .entry .ptr) (resolved (now (document .entry)) (now (text .entry)) t) ⌝ }
 {
     if is_inside(document, text, t) {
-        let from = t.start as usize;
-        let to = from + t.len as usize;
-        if t.source == 1 {
-            return &document[from..to];
-        }
-        return &text[from..to];
+        return part_of(document, text, t);
     }
     &document[..0]
 }

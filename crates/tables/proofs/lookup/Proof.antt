@@ -1,6 +1,6 @@
 -- `tables::lookup` meets its contract. Each need follows by the laws on triples.
 -- Assumes nothing.
-use Rattle.tables.proofs.Triples.{text-end, triples}
+use Rattle.tables.proofs.Triples.{triples}
 use Rattle.tables.proofs.lookup.Statement.{statement}
 use Rattle.tables.proofs.lookup.Tie as tie
 
@@ -10,15 +10,6 @@ lookup-spec =
     (tie.spec
     (λ c. search triples)
     (λ c. search triples)
-    (λ c. search triples)
-    (λ c. search triples)
-    (λ c. search triples)
-    (λ c. search triples)
-    (λ c. search triples)
-    (λ c. search triples)
-    (λ c. search triples)
-    (λ c. search triples)
-    (λ c. search text-end)
     (λ c. search triples)
     (λ c. search triples)
     (λ c. search triples))

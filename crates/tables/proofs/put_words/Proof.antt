@@ -14,5 +14,4 @@ put-words-spec =
     (λ c. search tables)
     (λ c. search tables)
     (λ c. search tables)
-    (λ c. search tables)
     (λ c. search tables))
