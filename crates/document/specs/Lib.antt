@@ -1,0 +1,9 @@
+-- The definition of reading: tags and tokens, rows, elements, the fold over the tokens, the whole document.
+-- Assumes nothing.
+pub mod Tags
+pub mod Tokens
+pub mod Rows
+pub mod Elements
+pub mod Reading
+pub mod Whole
+pub mod Cases
