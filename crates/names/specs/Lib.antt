@@ -3,3 +3,4 @@
 pub mod Names
 pub mod Types
 pub mod Signature
+pub mod Checks

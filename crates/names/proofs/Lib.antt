@@ -1,0 +1,5 @@
+-- The laws on names and signatures.
+-- Assumes nothing.
+pub mod Codes
+pub mod Names
+pub mod Checks
