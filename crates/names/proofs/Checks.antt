@@ -20,7 +20,7 @@ use Rattle.names.proofs.Codes.{or-false, flag-on, flag-off}
 use Rattle.names.proofs.Names.{and-true, and-false}
 
 -- one byte
-accepts-bad : (l : List ℕ) → accepts l State.bad ≡ false
+pub accepts-bad : (l : List ℕ) → accepts l State.bad ≡ false
 accepts-bad [] = refl
 accepts-bad (b ∷ l) = accepts-bad l
 
@@ -39,7 +39,7 @@ module _ (s : List ℕ) (at b : ℕ) (h : at < length s) (e : getD s at 0 ≡ b)
   expects-at os f = accepts-byte os ∙ ap (accepts (drop (at + 1) s)) f ∙ sym (awaited-byte os)
 
 -- before a value and before the first field every byte does
-expects : (o : Open) (os : List Open) → ((b : ℕ) → byte (o ∷ os) b ≡ begins (o ∷ os) b) → (l : List ℕ) → accepts l (State.good (o ∷ os)) ≡ awaited (o ∷ os) l
+pub expects : (o : Open) (os : List Open) → ((b : ℕ) → byte (o ∷ os) b ≡ begins (o ∷ os) b) → (l : List ℕ) → accepts l (State.good (o ∷ os)) ≡ awaited (o ∷ os) l
 expects o os f [] = refl
 expects o os f (b ∷ l) = ap (accepts l) (f b)
 
@@ -117,7 +117,7 @@ module _ {s : List ℕ} {at a p : ℕ} where
       }
 
 -- the ways of `fields`, by the answer r of `complete`
-ended-field : (o : Open) (os : List Open) → isArray o ≡ false → ended (o ∷ os) ≡ Open.fields ∷ os
+pub ended-field : (o : Open) (os : List Open) → isArray o ≡ false → ended (o ∷ os) ≡ Open.fields ∷ os
 ended-field Open.element os e = absurd (subst T e tt)
 ended-field Open.key os e = absurd (subst T e tt)
 ended-field Open.value os e = absurd (subst T e tt)

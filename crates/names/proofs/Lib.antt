@@ -3,3 +3,4 @@
 pub mod Codes
 pub mod Names
 pub mod Checks
+pub mod Spelled
