@@ -4,3 +4,5 @@ pub mod Codes
 pub mod Names
 pub mod Checks
 pub mod Spelled
+pub mod Grammar
+pub mod Plain

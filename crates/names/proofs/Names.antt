@@ -137,7 +137,7 @@ elements-run (x ∷ a) r h =
     more [] = refl
     more (e ∷ es) = refl
 
-element-class : (a : List ℕ) → element a ≡ true → all elementByte a ≡ true
+pub element-class : (a : List ℕ) → element a ≡ true → all elementByte a ≡ true
 element-class [] h = refl
 element-class (b ∷ a) h = and-both (not (digit b)) (all elementByte (b ∷ a)) h .1
 

@@ -4,3 +4,5 @@ pub mod Names
 pub mod Types
 pub mod Signature
 pub mod Checks
+pub mod Plain
+pub mod Cases
