@@ -16,7 +16,8 @@ use Rattle.names.specs.Signature.{Open, State, isArray, count, basicCode
 use Rattle.names.specs.Checks.{isParenthesis, awaited, Onward, Ends, Counted, Typed, Fielded, Entered}
 use Rattle.names.specs.declared.End.{End}
 use Rattle.names.specs.declared.End.the-variants.{Bad, At}
-use Rattle.names.proofs.Codes.{or-false, flag-on, flag-off}
+use Rattle.names.proofs.Codes.{or-false, flag-on, flag-off, code-basic, basic-written}
+use Rattle.names.specs.Types.{code}
 use Rattle.names.proofs.Names.{and-true, and-false}
 
 -- one byte
@@ -235,6 +236,9 @@ one-byte b = and-true _ ∙ go (basicCode b || eqb b 118) (eqb b 97) (eqb b 40)
     go false true v = refl
     go false false true = refl
     go false false false = refl
+
+pub basic-is-signature : (s : List ℕ) → basicSignature s ≡ true → signature s ≡ true
+basic-is-signature s e = let k = basic-written s e in rw (k .1) (one-byte (code (k .0)) ∙ rw (code-basic (k .0)))
 
 pub one-variant : (s : List ℕ) → length s ≡ 1 → getD s 0 0 ≡ 118 → true ≡ signature s
 unfolding signature

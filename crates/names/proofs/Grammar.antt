@@ -243,8 +243,7 @@ all-begun zero (b ∷ l) h e = absurd (omega arith)
 all-begun (suc n) [] h e = ([], AllShallow.none, refl)
 all-begun (suc n) (b ∷ l) h e =
     let g = begun (2 * suc (length l)) [] (b ∷ l) (omega arith) record { few-arrays = omega arith; few-parentheses = omega arith } e in
-    let i = all-begun n (g .rest) (omega (arith, g .shorter)) (g .goes-on) in
-    (
+    let i = all-begun n (g .rest) (omega (arith, g .shorter)) (g .goes-on) in (
       g .type ∷ i .0,
       AllShallow.some {t = g .type} record { few-arrays = omega (arith, g .few-arrays); few-parentheses = omega (arith, g .few-parentheses) } (i .1),
       ap (λ (x : List ℕ). written (g .type) ++ x) (i .2) ∙ g .spelled,

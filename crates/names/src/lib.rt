@@ -173,7 +173,7 @@ fn fields(s: &[u8], from: usize, arrays: u32, parens: u32) -> End
     ensures { λ r. ⌜ Fielded (now (s .entry)) from arrays parens r ⌝ }
 {
     match complete(s, from, arrays, parens) {
-        End::Bad => End::Bad,
+        End::Bad => End::Bad, // no field
         End::At(e) => {
             if s.len() <= e {
                 return End::Bad;
@@ -226,11 +226,10 @@ pub fn complete(s: &[u8], at: usize, arrays: u32, parens: u32) -> End
 pub fn signature(s: &[u8]) -> bool
     ensures { λ r. ⌜ r ≡ signature (now (s .entry)) ⌝ }
 {
-    let n = s.len();
-    if 255 < n {
+    if 255 < s.len() {
         return false;
     }
-    if n == 1 {
+    if s.len() == 1 {
         let b = s[0];
         if b == b'v' {
             return true;

@@ -7,10 +7,10 @@ use Rattle.names.proofs.signature.Statement.{statement}
 use Rattle.names.proofs.signature.Tie as tie
 
 abbrev Inv-loop : tie.InvT-loop
-Inv-loop s n at₀ at = Signing s at
+Inv-loop s at₀ at = Signing s at
 
 abbrev μ-loop : tie.MeasureT-loop
-μ-loop s n at₀ at = length s - at
+μ-loop s at₀ at = length s - at
 
 pub signature-spec : {M : Type 1} → statement M
 signature-spec =
