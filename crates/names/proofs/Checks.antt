@@ -1,17 +1,17 @@
 -- The checker of signatures: what each way of `complete`, `fields`, `entry` and `signature` says.
 -- Assumes nothing.
-use Prim.Native.Nat.{ℕ, zero, suc, _+_, _-_, _*_, _≤_, _<_}
+use Prim.Native.Nat.{ℕ, _+_, _-_, _*_, _≤_, _<_}
 use mathlib.Core.Path.{_≡_, refl, ap, sym, subst, _∙_}
-use mathlib.Core.Bool.{Bool, true, false, not, _&&_, _||_}
+use mathlib.Core.Bool.{Bool, true, false, _||_}
 use mathlib.Core.List.{List, [], _∷_}
 use borrow.Author.Needs.{needs}
 use borrow.Author.Tests.{ne-eqb, le-leb, lt-leb, lt-ltb, le-ltb}
 use native.Mathlib.Numerals.{add-one}
 use native.Mathlib.Omega.{arith}
-use lib.Dec.{T, eqb, leb, ltb}
+use lib.Dec.{T, eqb}
 use lib.ListN.{length, drop, getD, drop-of-length-le}
 use lib.Seq.{drop-cons}
-use Rattle.slices.specs.Bytes.{if, empty}
+use Rattle.slices.specs.Bytes.{if}
 use Rattle.names.specs.Signature.{Open, State, isArray, count, basicCode, begins, byte, accepts, ended, nothingOpen, signature, basicSignature}
 use Rattle.names.specs.Checks.{isParenthesis, awaited, Onward, Ends, Counted, Typed, Fielded, Entered}
 use Rattle.names.specs.declared.End.{End}

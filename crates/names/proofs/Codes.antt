@@ -1,14 +1,13 @@
 -- Classes of bytes: the bytes of an element, and the codes of the basic types.
 -- Assumes nothing.
-use Prim.Native.Nat.{ℕ, zero, suc, _+_, _≤_, _<_}
+use Prim.Native.Nat.{ℕ, _≤_, _<_}
 use mathlib.Core.Path.{_≡_, refl, ap, sym, subst, _∙_}
 use mathlib.Core.Bool.{Bool, true, false, not, _&&_, _||_}
 use mathlib.Core.List.{List, [], _∷_}
 use borrow.Author.Needs.{needs}
-use borrow.Author.Tests.{eq-eqb, ne-eqb, le-leb, lt-leb, leb-true, eqb-true, not-true, not-false}
+use borrow.Author.Tests.{ne-eqb, le-leb, lt-leb, not-true, not-false}
 use native.Mathlib.Omega.{arith}
-use lib.Dec.{T, eqb, leb}
-use Rattle.slices.specs.Bytes.{empty}
+use lib.Dec.{T, leb}
 use Rattle.slices.proofs.Runs.{by-byte}
 use Rattle.names.specs.Names.{digit, elementByte}
 use Rattle.names.specs.Types.{Basic, code}

@@ -1,17 +1,17 @@
 -- The test that computes says the grammar of types: it accepts a text where it is what some types within the limits are written as,
 -- which proofs/Spelled.antt shows, and no other, which is shown here. Assumes nothing.
-use Prim.Native.Nat.{ℕ, zero, suc, max, _+_, _*_, _≤_, _<_}
+use Prim.Native.Nat.{ℕ, zero, suc, _+_, _*_, _≤_, _<_}
 use mathlib.Core.Path.{_≡_, refl, ap, sym, subst, _∙_}
-use mathlib.Core.Bool.{Bool, true, false, not, _&&_, _||_}
+use mathlib.Core.Bool.{Bool, true, false}
 use mathlib.Core.List.{List, [], _∷_, _++_, append-assoc}
-use borrow.Author.Tests.{leb-true, ltb-true, eqb-true, le-leb}
+use borrow.Author.Tests.{leb-true, ltb-true, eqb-true}
 use native.Mathlib.Omega.{arith}
 use lib.Dec.{T, eqb, leb, ltb}
 use lib.ListN.{length}
 use Rattle.slices.specs.Bytes.{if}
 use Rattle.slices.proofs.Runs.{by-byte}
-use Rattle.names.specs.Types.{Basic, Complete, Element, Fields, code, written, writtenElement, writtenFields, arrays, arraysElement, arraysFields, parentheses, parenthesesElement, parenthesesFields, Shallow, AllShallow, writtenAll, IsSignature}
-use Rattle.names.specs.Signature.{Open, State, isArray, count, basicCode, begins, byte, accepts, ended, signature}
+use Rattle.names.specs.Types.{Complete, Element, Fields, written, writtenElement, writtenFields, arrays, arraysElement, arraysFields, parentheses, parenthesesElement, parenthesesFields, AllShallow, writtenAll, IsSignature}
+use Rattle.names.specs.Signature.{Open, State, isArray, count, basicCode, begins, accepts, ended, signature}
 use Rattle.names.specs.Checks.{isParenthesis, awaited}
 use Rattle.names.proofs.Codes.{basic-code}
 use Rattle.names.proofs.Names.{and-both}

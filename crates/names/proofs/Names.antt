@@ -1,18 +1,18 @@
 -- Names: their elements, where each ends, and the loop over them.
 -- Assumes nothing.
-use Prim.Native.Nat.{ℕ, zero, suc, _+_, _-_, _≤_, _<_}
+use Prim.Native.Nat.{ℕ, suc, _+_, _≤_, _<_}
 use mathlib.Core.Path.{_≡_, refl, ap, sym, subst, _∙_}
 use mathlib.Core.Bool.{Bool, true, false, not, _&&_, _||_}
 use mathlib.Core.List.{List, [], _∷_, _++_, append-nil}
 use borrow.Author.Needs.{needs}
-use borrow.Author.Tests.{eq-eqb, ne-eqb, le-leb, lt-leb, leb-true, eqb-true, eqb-false}
+use borrow.Author.Tests.{ne-eqb, le-leb, lt-leb}
 use native.Mathlib.Nat.{add-zero}
 use native.Mathlib.Numerals.{add-one}
 use native.Mathlib.Omega.{arith}
 use lib.Dec.{T, eqb, leb, eqb·suc-suc, eqb·zero-suc}
-use lib.ListN.{length, drop, getD, length-append, length-drop, drop-of-length-le}
+use lib.ListN.{length, drop, getD, length-drop, drop-of-length-le}
 use lib.Seq.{drop-cons, drop-drop, getD-drop}
-use Rattle.slices.specs.Bytes.{if, all, empty, span, past}
+use Rattle.slices.specs.Bytes.{if, all, span}
 use Rattle.slices.specs.Run.{Run}
 use Rattle.slices.proofs.Runs.{both, by-byte, runs}
 use Rattle.names.specs.Names.{digit, elementByte, element, grown, elements, every, interfaceName, memberName, propertyName}

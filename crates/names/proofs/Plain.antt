@@ -9,10 +9,10 @@ use native.Mathlib.Decide.{decLt}
 use native.Mathlib.Omega.{arith}
 use lib.Dec.{T, eqb, leb}
 use lib.ListN.{length}
-use Rattle.slices.specs.Bytes.{if, all, empty}
+use Rattle.slices.specs.Bytes.{if, all}
 use Rattle.slices.proofs.Runs.{both, by-byte}
-use Rattle.names.specs.Names.{digit, elementByte, element, elements, grown, every, interfaceName, memberName}
-use Rattle.names.specs.Signature.{Open, State, isArray, count, basicCode, begins, byte, step, accepts, ended, signature, basicSignature}
+use Rattle.names.specs.Names.{elementByte, element, elements, grown, every, interfaceName, memberName}
+use Rattle.names.specs.Signature.{Open, State, basicCode, begins, byte, accepts, signature}
 use Rattle.names.specs.Plain.{nameByte, signatureByte, plainByte, covers}
 use Rattle.names.proofs.Names.{and-both, element-class}
 use Rattle.names.proofs.Checks.{accepts-bad}

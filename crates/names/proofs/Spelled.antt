@@ -1,12 +1,12 @@
 -- What types within the limits are written as is a signature.
 -- Assumes nothing.
-use Prim.Native.Nat.{ℕ, zero, suc, max, _+_, _*_, _≤_, _<_}
+use Prim.Native.Nat.{ℕ, suc, _+_, _≤_}
 use mathlib.Core.Path.{_≡_, refl, ap, sym, subst, _∙_}
-use mathlib.Core.Bool.{Bool, true, false, not, _&&_, _||_}
+use mathlib.Core.Bool.{Bool, true, false}
 use mathlib.Core.List.{List, [], _∷_, _++_, append-assoc}
 use borrow.Author.Tests.{ne-eqb, le-leb, lt-ltb}
 use native.Mathlib.Omega.{arith}
-use lib.Dec.{T, eqb, leb, ltb}
+use lib.Dec.{T, eqb}
 use lib.ListN.{length}
 use Rattle.slices.specs.Bytes.{if}
 use Rattle.names.specs.Types.{Basic, Complete, Element, Fields, code, written, writtenElement, writtenFields, arrays, arraysElement, arraysFields, parentheses, parenthesesElement, parenthesesFields, AllShallow, writtenAll, IsSignature}
