@@ -6,4 +6,5 @@ pub mod Rows
 pub mod Elements
 pub mod Reading
 pub mod Whole
+pub mod Outcome
 pub mod Cases

@@ -5,3 +5,74 @@ pub enum Verdict {
     Refused(u32, usize),
     Accepted(usize, usize, usize),
 }
+
+// The raw value of an attribute: kind 0 is absent, 1 shown as it stands, 2 changed.
+pub struct Value {
+    pub at: usize,
+    pub len: usize,
+    pub kind: u32,
+}
+
+// The values of the attributes that mean something.
+pub struct Values {
+    pub name: Value,
+    pub ty: Value,
+    pub value: Value,
+    pub access: Value,
+    pub direction: Value,
+    pub suffix: Value,
+    pub tp: Value,
+}
+
+// A start tag: the place and length of its name, the kind of that name, whether it is `/>`, the place after it, its values.
+pub struct StartTag {
+    pub at: usize,
+    pub len: usize,
+    pub kind: u32,
+    pub closes: bool,
+    pub end: usize,
+    pub values: Values,
+}
+
+// A place in the document, and the counts so far.
+pub struct Fill {
+    pub at: usize,
+    pub rows: usize,
+    pub warnings: usize,
+    pub text: usize,
+}
+
+// What reading an element comes to: a fault, or where it ended.
+pub enum Answer {
+    Fault(u32, usize),
+    Done(Fill),
+}
+
+// A closing tag: the place of `<`, the place and length of its name, the place after it.
+pub struct ClosingTag {
+    pub lt: usize,
+    pub at: usize,
+    pub len: usize,
+    pub end: usize,
+}
+
+// A token: a fault, the end, a closing tag or a start tag.
+pub enum Token {
+    Fault(u32, usize),
+    End(usize),
+    Close(ClosingTag),
+    Start(StartTag),
+}
+
+// What comes next in an open element: a fault, its closing tag (the place of `<` and the place after it), or a start tag.
+pub enum Next {
+    Fault(u32, usize),
+    Close(usize, usize),
+    Start(StartTag),
+}
+
+// What passing over an element comes to: a fault, or its closing tag.
+pub enum Passed {
+    Fault(u32, usize),
+    Closed(usize, usize),
+}

@@ -1,0 +1,3 @@
+-- The laws of runs.
+-- Assumes nothing.
+pub mod Runs

@@ -1,0 +1,195 @@
+-- What the reader's functions say: what the structs stand for, and how a run goes on after each answer.
+-- Assumes nothing.
+use Prim.Native.Nat.{ℕ, suc, _+_, _-_, _*_, _≤_, _<_}
+use mathlib.Core.Path.{_≡_}
+use mathlib.Core.List.{List, [], _∷_, _++_}
+use mathlib.Core.Option.{Option, none, some}
+use mathlib.Core.Bool.{Bool, true, false}
+use lib.ListN.{length, take, drop, getD}
+use Rattle.slices.specs.Bytes.{if, bytes, all}
+use Rattle.utf8.specs.WellFormed.{illFormed}
+use Rattle.tables.specs.Table.{Rep}
+use Rattle.references.specs.Unescape.{text, unescape, plain}
+use Rattle.document.specs.Tags.{Shown, lookup, tpType}
+use Rattle.document.specs.Tokens.{Tag, start, close, fault, end, more, last, next}
+use Rattle.document.specs.Rows.{Row, Warning, Tables, wordsFrom, texts, warned}
+use Rattle.document.specs.Elements.{kindOf}
+use Rattle.document.specs.Reading as reading
+use Rattle.document.specs.Reading.{Purpose, Frame, State, refused, nameOf, parentOf, closed, shut, started, noted, begins, passing, run}
+use Rattle.document.specs.declared.Value.{Value}
+use Rattle.document.specs.declared.Values.{Values}
+use Rattle.document.specs.declared.StartTag.{StartTag}
+use Rattle.document.specs.declared.Fill.{Fill}
+use Rattle.document.specs.declared.Answer.{Answer}
+use Rattle.document.specs.declared.Token.{Token}
+use Rattle.document.specs.declared.Next.{Next}
+use Rattle.document.specs.declared.Passed.{Passed}
+
+-- the reader keeps all of an attribute
+abbrev pub whole : Shown → Shown
+whole s = s
+
+abbrev pub runs : List ℕ → ℕ → State Shown → State Shown
+runs doc at s = run whole doc at s
+
+-- a value that is there: the attribute's raw value stands in the document, and shows its text
+pub record Held (doc : List ℕ) (v : Value) (s : Shown) : Type 0 where
+  pub at : v .at ≡ s .attr .valued
+  pub len : v .len ≡ length (s .attr .raw)
+  pub raw : take (v .len) (drop (v .at) doc) ≡ s .attr .raw
+  pub kind : v .kind ≡ if (all plain (s .attr .raw)) 1 2
+  pub shows : unescape (s .attr .raw) ≡ text (s .value)
+
+abbrev pub ValueIs : List ℕ → Value → Option Shown → Type 0
+ValueIs doc v none = v .kind ≡ 0
+ValueIs doc v (some s) = Held doc v s
+
+-- a value, there or not, is no longer than what is between the two places, and ends before the second
+pub record ValueFits (from to : ℕ) (v : Value) : Type 0 where
+  pub until : v .at + v .len ≤ to
+  pub short : from + v .len ≤ to
+
+pub record ValuesFit (from to : ℕ) (v : Values) : Type 0 where
+  pub name : ValueFits from to (v .name)
+  pub ty : ValueFits from to (v .ty)
+  pub value : ValueFits from to (v .value)
+  pub access : ValueFits from to (v .access)
+  pub direction : ValueFits from to (v .direction)
+  pub suffix : ValueFits from to (v .suffix)
+  pub tp : ValueFits from to (v .tp)
+
+-- the values of the attributes of a tag
+pub record ValuesAre (doc : List ℕ) (v : Values) (xs : List Shown) : Type 0 where
+  pub name : ValueIs doc (v .name) (lookup (bytes "name") xs)
+  pub ty : ValueIs doc (v .ty) (lookup (bytes "type") xs)
+  pub value : ValueIs doc (v .value) (lookup (bytes "value") xs)
+  pub access : ValueIs doc (v .access) (lookup (bytes "access") xs)
+  pub direction : ValueIs doc (v .direction) (lookup (bytes "direction") xs)
+  pub suffix : ValueIs doc (v .suffix) (lookup (bytes "suffix") xs)
+  pub tp : ValueIs doc (v .tp) (tpType xs)
+
+-- a start tag lies in the document
+pub record TagFits (doc : List ℕ) (c : StartTag) : Type 0 where
+  pub named : 0 < c .len
+  pub inside : c .at + c .len < c .end
+  pub within : c .end ≤ length doc
+  pub ends : getD doc (c .end - 1) 0 ≡ 62
+  pub values : ValuesFit (c .at) (c .end) (c .values)
+
+-- the name of a tag
+pub record NameIs (doc : List ℕ) (c : StartTag) (n : List ℕ) : Type 0 where
+  pub is : n ≡ take (c .len) (drop (c .at) doc)
+  pub len : length n ≡ c .len
+
+-- a start tag is the token's
+pub record TagIs (doc : List ℕ) (c : StartTag) (t : Tag) : Type 0 where
+  pub at : c .at ≡ suc (t .at)
+  pub named : NameIs doc c (t .name)
+  pub kind : c .kind ≡ kindOf (t .name)
+  pub closes : c .closes ≡ t .self
+  pub end : c .end ≡ t .after
+  pub values : ValuesAre doc (c .values) (t .attrs)
+
+-- the buffers that a caller lends: rows, warnings, text
+pub data Lent : Type 0 where
+  lent : List ℕ → List ℕ → List ℕ → Lent
+
+abbrev pub rowsIn : Lent → List ℕ
+rowsIn (lent r w t) = r
+
+abbrev pub warningsIn : Lent → List ℕ
+warningsIn (lent r w t) = w
+
+abbrev pub textIn : Lent → List ℕ
+textIn (lent r w t) = t
+
+-- the buffers, as far as they are used, stand for the tables
+pub record Stands (u : Tables Shown) (b : Lent) (f : Fill) : Type 0 where
+  pub rows : Rep 16 (rowsIn b) (f .rows) (wordsFrom 0 (u .rows))
+  pub many : length (u .rows) ≡ f .rows
+  pub warnings : Rep 4 (warningsIn b) (f .warnings) (warned (u .warnings))
+  pub text : Rep 1 (textIn b) (f .text) (texts (u .rows))
+
+-- the document is UTF-8 and within the limit
+pub record Sound (doc : List ℕ) : Type 0 where
+  pub small : length doc ≤ 1048576
+  pub utf8 : illFormed doc ≡ length doc
+
+-- between tags: the place is in the document, and the counts are small for it
+pub record Bounded (doc : List ℕ) (f : Fill) : Type 0 where
+  pub sound : Sound doc
+  pub inside : f .at ≤ length doc
+  pub few : 3 * (f .rows + f .warnings) ≤ f .at
+  pub text : f .text ≤ 3 * f .at
+
+-- after a start tag whose row or warning is not put yet
+pub record Ready (doc : List ℕ) (c : StartTag) (f : Fill) : Type 0 where
+  pub sound : Sound doc
+  pub fits : TagFits doc c
+  pub at : f .at ≡ c .end
+  pub few : 3 * (f .rows + f .warnings) < c .at
+  pub text : f .text ≤ 3 * c .at
+
+-- an answer that is no fault is further on, within bounds
+abbrev pub Onward : List ℕ → ℕ → Answer → Type 0
+Onward doc from (Answer.Fault n p) = Unit {0}
+Onward doc from (Answer.Done g) = (from ≤ g .at) × Bounded doc g
+
+-- a run refuses as the answer says; or it goes on with these frames, and the buffers stand for its tables
+abbrev pub Ends : List ℕ → State Shown → List Frame → Lent → Answer → Type 0
+Ends doc s fs b (Answer.Fault n p) = s ≡ refused n p
+Ends doc s fs b (Answer.Done g) = (u : Tables Shown) × Stands u b g × (s ≡ runs doc (g .at) (closed fs u))
+
+-- what reading from a state on says, which is that of the frames and the tables
+pub record Reads (doc : List ℕ) (s : List Frame → Tables Shown → State Shown) (rest : List Frame → List Frame) (on : List Frame → Type 0) (f : Fill) (b b′ : Lent) (r : Answer) : Type 0 where
+  pub onward : Onward doc (f .at) r
+  pub ends : (fs : List Frame) (u : Tables Shown) → on fs → Stands u b f → Ends doc (s fs u) (rest fs) b′ r
+
+-- the next token from a place on
+abbrev pub OnwardToken : List ℕ → ℕ → Token → Type 0
+OnwardToken doc from (Token.Fault n p) = Unit {0}
+OnwardToken doc from (Token.End p) = Unit {0}
+OnwardToken doc from (Token.Close c) =
+    (from ≤ c .lt) × (c .at ≡ c .lt + 2) × (c .at + c .len < c .end) × (c .end ≤ length doc) × (getD doc (c .lt) 0 ≡ 60)
+OnwardToken doc from (Token.Start c) = (from < c .at) × TagFits doc c
+
+abbrev pub IsToken : List ℕ → ℕ → Token → Type 0
+IsToken doc from (Token.Fault n p) = next (drop from doc) from ≡ last (fault n p)
+IsToken doc from (Token.End p) = next (drop from doc) from ≡ last (end p)
+IsToken doc from (Token.Close c) = next (drop from doc) from ≡ more (close (c .lt) (take (c .len) (drop (c .at) doc)) (c .end)) (c .end)
+IsToken doc from (Token.Start c) = (t : Tag) × TagIs doc c t × (next (drop from doc) from ≡ more (start t) (c .end))
+
+pub record Tokenises (doc : List ℕ) (from : ℕ) (r : Token) : Type 0 where
+  pub onward : OnwardToken doc from r
+  pub is : IsToken doc from r
+
+-- what comes next in an open element, whatever the element is
+abbrev pub OnwardNext : List ℕ → ℕ → Next → Type 0
+OnwardNext doc from (Next.Fault n p) = Unit {0}
+OnwardNext doc from (Next.Close lt q) = (from ≤ lt) × (lt < q) × (q ≤ length doc) × (getD doc lt 0 ≡ 60)
+OnwardNext doc from (Next.Start c) = (from < c .at) × TagFits doc c
+
+abbrev pub Leads : List ℕ → ℕ → Frame → List Frame → Tables Shown → Next → Type 0
+Leads doc from f fs u (Next.Fault n p) = runs doc from (reading.reading (f ∷ fs) u) ≡ refused n p
+Leads doc from f fs u (Next.Close lt q) = runs doc from (reading.reading (f ∷ fs) u) ≡ runs doc q (shut doc f fs u lt)
+Leads doc from f fs u (Next.Start c) =
+    (t : Tag) × TagIs doc c t × (runs doc from (reading.reading (f ∷ fs) u) ≡ runs doc (c .end) (started whole doc f fs u t))
+
+-- from a place on, in an element whose name stands at another, with a length
+pub record Steps (doc : List ℕ) (from at len : ℕ) (r : Next) : Type 0 where
+  pub onward : OnwardNext doc from r
+  pub leads : (f : Frame) (fs : List Frame) (u : Tables Shown) → nameOf f ≡ take len (drop at doc) → Leads doc from f fs u r
+
+-- what passing over the rest of an element says, whatever for, when so many elements are open in what is passed over
+abbrev pub OnwardPassed : List ℕ → ℕ → Passed → Type 0
+OnwardPassed doc from (Passed.Fault n p) = Unit {0}
+OnwardPassed doc from (Passed.Closed lt q) = (from ≤ lt) × (lt < q) × (q ≤ length doc) × (getD doc lt 0 ≡ 60)
+
+abbrev pub Passing : List ℕ → ℕ → Purpose → List (List ℕ) → List Frame → Tables Shown → Passed → Type 0
+Passing doc from p ns fs u (Passed.Fault n q) = runs doc from (reading.reading (passing p ns ∷ fs) u) ≡ refused n q
+Passing doc from p ns fs u (Passed.Closed lt q) =
+    runs doc from (reading.reading (passing p ns ∷ fs) u) ≡ runs doc q (shut doc (passing p ns) fs u lt)
+
+pub record Passes (doc : List ℕ) (from at len depth : ℕ) (r : Passed) : Type 0 where
+  pub onward : OnwardPassed doc from r
+  pub leads : (p : Purpose) (ns : List (List ℕ)) (fs : List Frame) (u : Tables Shown) → suc (length ns) ≡ depth → Passing doc from p (take len (drop at doc) ∷ ns) fs u r
