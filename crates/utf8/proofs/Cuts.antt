@@ -10,7 +10,7 @@ use lib.Seq.{take-append-add, drop-append-add, getD-append-add, getD-drop, take-
 use Rattle.utf8.specs.WellFormed.{sequence, illFormed}
 use Rattle.utf8.specs.Trim.{Boundary}
 use Rattle.utf8.proofs.Sequences.{Followed, Char, char-shape, below}
-use Rattle.utf8.proofs.Texts.{All, joined, Whole, whole, formed, whole-append, whole-char, after-whole, append-formed, sequence-char, ascii-char}
+use Rattle.utf8.proofs.Texts.{All, joined, Whole, none-whole, whole, formed, whole-append, whole-char, after-whole, append-formed, sequence-char, ascii-char}
 
 -- a byte that continues no character
 abbrev pub Lead : ℕ → Type 0
@@ -31,9 +31,6 @@ pub char-next : (c : List ℕ) (k : ℕ) → Char c → k < length c → (k ≡ 
 char-next [] k h l n = absurd (omega arith)
 char-next (a ∷ c) zero h l n = absurd (n refl)
 char-next (a ∷ c) (suc k) h l n = followed-byte (length c) c k (char-shape a c h .follow) (omega arith)
-
-none-whole : Whole []
-none-whole = record { parts = []; all = tt; is = refl }
 
 split : (cs : List (List ℕ)) (k : ℕ) → All cs → k < length (joined cs) → Lead (getD (joined cs) k 0) → Whole (take k (joined cs)) × Whole (drop k (joined cs))
 split [] k h l g = absurd (omega arith)

@@ -17,7 +17,7 @@ use Rattle.utf8.specs.WhiteSpace.{characters, codePoint, whiteSpace, lea
 use Rattle.utf8.specs.Trim.{Boundary, Last, Starts, Ends, white, trailing}
 use Rattle.utf8.specs.declared.Trimmed.{Trimmed}
 use Rattle.utf8.proofs.Sequences.{Char, char-first, below}
-use Rattle.utf8.proofs.Texts.{All, joined, joined-append, all-append, Whole, whole, formed, whole-append, whole-char, sequence-char, characters-joined}
+use Rattle.utf8.proofs.Texts.{All, joined, joined-append, all-append, Whole, none-whole, whole, formed, whole-append, whole-char, sequence-char, characters-joined}
 use Rattle.utf8.proofs.Cuts.{cut-end, cut-is-lead, char-next}
 use Rattle.utf8.proofs.Trims.{first-char, first-long, white-is, white-is-not}
 
@@ -31,7 +31,7 @@ record Snoc (x : List ℕ) : Type 0 where
 
 snoc : (cs : List (List ℕ)) → All cs → 0 < length (joined cs) → Snoc (joined cs)
 snoc [] h l = absurd (omega arith)
-snoc (c ∷ []) h l = record { front = []; last = c; whole-front = record { parts = []; all = tt; is = refl }; char = h .0; is = sym (append-nil c) }
+snoc (c ∷ []) h l = record { front = []; last = c; whole-front = none-whole; char = h .0; is = sym (append-nil c) }
 snoc (c ∷ d ∷ cs) h l =
     let r = snoc (d ∷ cs) (h .1) (omega (arith, length-append d (joined cs), h .1 .0 .some)) in
     record {

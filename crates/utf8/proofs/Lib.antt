@@ -10,3 +10,4 @@ pub mod Cuts
 pub mod Trims
 pub mod Points
 pub mod Ends
+pub mod Between

@@ -25,6 +25,9 @@ pub record Whole (s : List ℕ) : Type 0 where
   pub all : All parts
   pub is : joined parts ≡ s
 
+pub none-whole : Whole []
+none-whole = record { parts = []; all = tt; is = refl }
+
 -- a text that is characters, and then what is none
 record Parsed (s : List ℕ) : Type 0 where
   parts : List (List ℕ)
@@ -130,6 +133,11 @@ pub characters-joined : (cs : List (List ℕ)) → All cs → characters (joined
 characters-joined [] h = unfold characters in refl
 characters-joined (c ∷ cs) h = characters-first c (joined cs) (h .0) ∙ ap (_∷_ c) (characters-joined cs (h .1))
 
+pub characters-whole : {s : List ℕ} → Whole s → All (characters s) × (joined (characters s) ≡ s)
+characters-whole {s} w =
+    let e : characters s ≡ w .parts = rw (w .is) at (characters-joined (w .parts) (w .all)) in
+    rw e (w .all, w .is)
+
 pub all-append : (cs ds : List (List ℕ)) → All cs → All ds → All (cs ++ ds)
 all-append [] ds h k = k
 all-append (c ∷ cs) ds h k = (h .0, all-append cs ds (h .1) k)
@@ -171,7 +179,7 @@ pub ascii-char : {b : ℕ} → b < 128 → Char (b ∷ [])
 ascii-char {b} h = record { size = ascii-first b [] h; some = omega arith }
 
 pub ascii-whole : (l : List ℕ) → ((i : ℕ) → i < length l → getD l i 0 < 128) → Whole l
-ascii-whole [] h = record { parts = []; all = tt; is = refl }
+ascii-whole [] h = none-whole
 ascii-whole (b ∷ l) h =
     whole-append (whole-char (ascii-char (h 0 (omega arith)))) (ascii-whole l (λ i g. h (suc i) (omega arith)))
 

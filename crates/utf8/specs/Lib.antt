@@ -5,3 +5,4 @@ pub mod WhiteSpace
 pub mod Sequence
 pub mod Ascii
 pub mod Trim
+pub mod Cases
