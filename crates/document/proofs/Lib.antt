@@ -1,3 +1,6 @@
--- The laws of runs.
+-- The laws of runs, of values and of the loops over elements.
 -- Assumes nothing.
 pub mod Runs
+pub mod Presence
+pub mod Loops
+pub mod Openings

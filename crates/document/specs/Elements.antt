@@ -46,15 +46,17 @@ among k (x ∷ xs) = let r = among k xs in if (eqb k x) true r
 
 -- node holds node and interface; interface holds method, property, signal; annotation stands in interface and its members
 -- and in arg; arg in method and signal; kinds 8, 9, 11, 13 in node or interface; enumvalue in enum; member in struct and mapping
+abbrev pub heldBy : ℕ → List ℕ
+heldBy k =
+    if (eqb k 1) (1 ∷ 2 ∷ 8 ∷ 9 ∷ 11 ∷ 13 ∷ [])
+    (if (eqb k 2) (3 ∷ 4 ∷ 5 ∷ 6 ∷ 8 ∷ 9 ∷ 11 ∷ 13 ∷ [])
+    (if (among k (3 ∷ 5 ∷ [])) (6 ∷ 7 ∷ [])
+    (if (among k (4 ∷ 7 ∷ [])) (6 ∷ [])
+    (if (eqb k 9) (10 ∷ [])
+    (if (among k (11 ∷ 13 ∷ [])) (12 ∷ []) [])))))
+
 unfoldable pub mayHold : ℕ → ℕ → Bool
-mayHold k c =
-    (among c (1 ∷ 2 ∷ []) && eqb k 1)
-    || (among c (3 ∷ 4 ∷ 5 ∷ []) && eqb k 2)
-    || (eqb c 6 && among k (2 ∷ 3 ∷ 4 ∷ 5 ∷ 7 ∷ []))
-    || (eqb c 7 && among k (3 ∷ 5 ∷ []))
-    || (among c (8 ∷ 9 ∷ 11 ∷ 13 ∷ []) && among k (1 ∷ 2 ∷ []))
-    || (eqb c 10 && eqb k 9)
-    || (eqb c 12 && among k (11 ∷ 13 ∷ []))
+mayHold k c = among c (heldBy k)
 
 -- property 1 read, 2 write, 3 readwrite; arg 1 in, 2 out; 0 is none of these
 abbrev pub accessOf : List ℕ → ℕ

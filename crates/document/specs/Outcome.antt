@@ -4,7 +4,8 @@ use Prim.Native.Nat.{ℕ, suc, _+_, _-_, _*_, _≤_, _<_}
 use mathlib.Core.Path.{_≡_}
 use mathlib.Core.List.{List, [], _∷_, _++_}
 use mathlib.Core.Option.{Option, none, some}
-use mathlib.Core.Bool.{Bool, true, false}
+use mathlib.Core.Bool.{Bool, not}
+use lib.Dec.{eqb}
 use lib.ListN.{length, take, drop, getD}
 use Rattle.slices.specs.Bytes.{if, bytes, all}
 use Rattle.utf8.specs.WellFormed.{illFormed}
@@ -13,9 +14,9 @@ use Rattle.references.specs.Unescape.{text, unescape, plain}
 use Rattle.document.specs.Tags.{Shown, lookup, tpType}
 use Rattle.document.specs.Tokens.{Tag, start, close, fault, end, more, last, next}
 use Rattle.document.specs.Rows.{Row, Warning, Tables, wordsFrom, texts, warned}
-use Rattle.document.specs.Elements.{kindOf}
+use Rattle.document.specs.Elements.{kindOf, heldBy, opens, refuses, opensAs}
 use Rattle.document.specs.Reading as reading
-use Rattle.document.specs.Reading.{Purpose, Frame, State, refused, nameOf, parentOf, closed, shut, started, noted, begins, passing, run}
+use Rattle.document.specs.Reading.{Purpose, Frame, element, State, refused, nameOf, parentOf, closed, withRow, shut, started, child, noted, begins, unsupported, docstringIn, passing, run}
 use Rattle.document.specs.declared.Value.{Value}
 use Rattle.document.specs.declared.Values.{Values}
 use Rattle.document.specs.declared.StartTag.{StartTag}
@@ -130,20 +131,85 @@ pub record Ready (doc : List ℕ) (c : StartTag) (f : Fill) : Type 0 where
   pub few : 3 * (f .rows + f .warnings) < c .at
   pub text : f .text ≤ 3 * c .at
 
--- an answer that is no fault is further on, within bounds
-abbrev pub Onward : List ℕ → ℕ → Answer → Type 0
-Onward doc from (Answer.Fault n p) = Unit {0}
-Onward doc from (Answer.Done g) = (from ≤ g .at) × Bounded doc g
+-- an answer that is no fault is further on, with no fewer rows, within bounds
+abbrev pub Onward : List ℕ → Fill → Answer → Type 0
+Onward doc f (Answer.Fault n p) = Unit {0}
+Onward doc f (Answer.Done g) = (f .at ≤ g .at) × (f .rows ≤ g .rows) × Bounded doc g
 
--- a run refuses as the answer says; or it goes on with these frames, and the buffers stand for its tables
-abbrev pub Ends : List ℕ → State Shown → List Frame → Lent → Answer → Type 0
-Ends doc s fs b (Answer.Fault n p) = s ≡ refused n p
-Ends doc s fs b (Answer.Done g) = (u : Tables Shown) × Stands u b g × (s ≡ runs doc (g .at) (closed fs u))
+-- a run refuses as the answer says; or it goes on with these frames, the buffers stand for its tables, and the first n rows
+-- are as they were
+abbrev pub Ends : List ℕ → State Shown → List Frame → ℕ → List (Row Shown) → Lent → Answer → Type 0
+Ends doc s fs n before b (Answer.Fault m p) = s ≡ refused m p
+Ends doc s fs n before b (Answer.Done g) =
+    (v : Tables Shown) × Stands v b g × (s ≡ runs doc (g .at) (closed fs v)) × (take n (v .rows) ≡ before)
 
--- what reading from a state on says, which is that of the frames and the tables
-pub record Reads (doc : List ℕ) (s : List Frame → Tables Shown → State Shown) (rest : List Frame → List Frame) (on : List Frame → Type 0) (f : Fill) (b b′ : Lent) (r : Answer) : Type 0 where
-  pub onward : Onward doc (f .at) r
-  pub ends : (fs : List Frame) (u : Tables Shown) → on fs → Stands u b f → Ends doc (s fs u) (rest fs) b′ r
+-- what reading an element of kind k says, from after its start tag on; p is the parent's row plus one
+pub record Begins (doc : List ℕ) (k : ℕ) (c : StartTag) (p : ℕ) (f : Fill) (b b′ : Lent) (r : Answer) : Type 0 where
+  pub onward : Onward doc f r
+  pub ends :
+      (t : Tag) (fs : List Frame) (u : Tables Shown) →
+      TagIs doc c t →
+      parentOf fs ≡ p →
+      Stands u b f →
+      Ends doc (runs doc (c .end) (begins whole doc k t fs u)) (noted k t fs) (f .rows) (u .rows) b′ r
+
+-- what putting the row of an element of kind k says: the tag's first fault, or its row in the tables
+abbrev pub OnwardOpening : List ℕ → Fill → Answer → Type 0
+OnwardOpening doc f (Answer.Fault n p) = Unit {0}
+OnwardOpening doc f (Answer.Done g) = (g .at ≡ f .at) × (g .rows ≡ f .rows + 1) × Bounded doc g
+
+abbrev pub IsOpening : List ℕ → ℕ → StartTag → ℕ → Fill → List ℕ → List ℕ → List ℕ → List ℕ → Answer → Type 0
+IsOpening doc k c p f rows rows′ bytes bytes′ (Answer.Fault n q) = (t : Tag) → TagIs doc c t → opensAs whole k p t ≡ refuses n q
+IsOpening doc k c p f rows rows′ bytes bytes′ (Answer.Done g) =
+    (t : Tag) →
+    TagIs doc c t →
+    (row : Row Shown)
+    × (opensAs whole k p t ≡ opens row)
+    × ((u : Tables Shown) (w : List ℕ) → Stands u (lent rows w bytes) f → Stands (withRow row u) (lent rows′ w bytes′) g)
+
+pub record Opening (doc : List ℕ) (k : ℕ) (c : StartTag) (p : ℕ) (f : Fill) (rows rows′ bytes bytes′ : List ℕ) (r : Answer) : Type 0 where
+  pub at : f .at ≡ c .end
+  pub onward : OnwardOpening doc f r
+  pub is : IsOpening doc k c p f rows rows′ bytes bytes′ r
+
+-- what passing over an element that nobody asked for says: rows and text are left alone
+pub record Ignores (doc : List ℕ) (c : StartTag) (f : Fill) (w w′ : List ℕ) (r : Answer) : Type 0 where
+  pub onward : Onward doc f r
+  pub ends :
+      (t : Tag) (fs : List Frame) (u : Tables Shown) (rows bytes : List ℕ) →
+      TagIs doc c t →
+      Stands u (lent rows w bytes) f →
+      Ends doc (runs doc (c .end) (unsupported whole doc t fs u)) fs (f .rows) (u .rows) (lent rows w′ bytes) r
+
+-- what reading a docstring for row i says: warnings and text are left alone
+pub record Captures (doc : List ℕ) (c : StartTag) (i : ℕ) (f : Fill) (rows rows′ : List ℕ) (r : Answer) : Type 0 where
+  pub onward : Onward doc f r
+  pub ends :
+      (t : Tag) (fs : List Frame) (u : Tables Shown) (w bytes : List ℕ) →
+      TagIs doc c t →
+      Stands u (lent rows w bytes) f →
+      Ends doc (runs doc (c .end) (docstringIn whole doc t fs i u)) fs i (take i (u .rows)) (lent rows′ w bytes) r
+
+-- what reading a child says, in every element that holds these kinds, and docstrings or not, with row i
+pub record Child (doc : List ℕ) (hs : List ℕ) (docs : Bool) (c : StartTag) (i : ℕ) (f : Fill) (b b′ : Lent) (r : Answer) : Type 0 where
+  pub onward : Onward doc f r
+  pub ends :
+      (k : ℕ) (n : List ℕ) (t : Tag) (fs : List Frame) (u : Tables Shown) →
+      heldBy k ≡ hs →
+      not (eqb k 6) ≡ docs →
+      TagIs doc c t →
+      Stands u b f →
+      Ends doc (runs doc (c .end) (child whole doc k i t (element k n i ∷ fs) u)) (element k n i ∷ fs) i (take i (u .rows)) b′ r
+
+-- what reading the rest of such an element says, whose name stands in the document
+pub record Children (doc : List ℕ) (hs : List ℕ) (docs : Bool) (at len i : ℕ) (f : Fill) (b b′ : Lent) (r : Answer) : Type 0 where
+  pub onward : Onward doc f r
+  pub ends :
+      (k : ℕ) (fs : List Frame) (u : Tables Shown) →
+      heldBy k ≡ hs →
+      not (eqb k 6) ≡ docs →
+      Stands u b f →
+      Ends doc (runs doc (f .at) (reading.reading (element k (take len (drop at doc)) i ∷ fs) u)) fs i (take i (u .rows)) b′ r
 
 -- the next token from a place on
 abbrev pub OnwardToken : List ℕ → ℕ → Token → Type 0

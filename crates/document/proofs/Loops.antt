@@ -1,0 +1,199 @@
+-- The loop over the children of an element: what it has read so far, and what each way of a turn makes of that.
+-- Assumes nothing.
+use Prim.Native.Nat.{ℕ, suc, _+_, _-_, _*_, _≤_, _<_}
+use mathlib.Core.Path.{_≡_, refl, sym, _∙_, ap}
+use mathlib.Core.List.{List, [], _∷_}
+use mathlib.Core.Bool.{Bool, true, false, not, _&&_}
+use borrow.Author.Needs.{needs}
+use borrow.Author.Tests.{eq-eqb, ne-eqb}
+use native.Mathlib.Numerals.{add-one}
+use native.Mathlib.Omega.{arith}
+use lib.Dec.{eqb}
+use lib.ListN.{length, take, drop}
+use lib.Seq.{take-take}
+use Rattle.slices.specs.Bytes.{if}
+use Rattle.document.specs.Tags.{Shown}
+use Rattle.document.specs.Tokens.{Tag}
+use Rattle.document.specs.Rows.{Row, Tables}
+use Rattle.document.specs.Elements.{kindOf, heldBy, mayHold, among}
+use Rattle.document.specs.Reading.{Frame, element, State, reading, refused, closed, started, child, noted, begins, unsupported, docstringIn}
+use Rattle.document.specs.Outcome.{Lent, lent, Stands, Bounded, Ready, TagIs, TagFits, Steps, Leads, Ends, Onward, Begins, Ignores, Captures, Child, Children, runs, whole}
+use Rattle.document.specs.declared.StartTag.{StartTag}
+use Rattle.document.specs.declared.Fill.{Fill}
+use Rattle.document.specs.declared.Answer.{Answer}
+use Rattle.document.specs.declared.Next.{Next}
+
+-- the counts at another place
+abbrev pub moved : Fill → ℕ → Fill
+moved f at = record { at = at; rows = f .rows; warnings = f .warnings; text = f .text }
+
+pub moved-stands : {u : Tables Shown} {b : Lent} {f : Fill} (at : ℕ) → Stands u b f → Stands u b (moved f at)
+moved-stands at s = record { rows = s .rows; many = s .many; warnings = s .warnings; text = s .text }
+
+-- a loop over an element with row i that began with f₀ and b₀ came to f and b
+pub record Sofar (doc hs : List ℕ) (docs : Bool) (at len i : ℕ) (f₀ : Fill) (b₀ : Lent) (f : Fill) (b : Lent) : Type 0 where
+  pub since : f₀ .at ≤ f .at
+  pub grown : f₀ .rows ≤ f .rows
+  pub bounds : Bounded doc f
+  pub owner : i < f .rows
+  pub leads :
+      (k : ℕ) (fs : List Frame) (u : Tables Shown) →
+      heldBy k ≡ hs →
+      not (eqb k 6) ≡ docs →
+      Stands u b₀ f₀ →
+      (v : Tables Shown)
+      × Stands v b f
+      × (runs doc (f₀ .at) (reading (element k (take len (drop at doc)) i ∷ fs) u) ≡ runs doc (f .at) (reading (element k (take len (drop at doc)) i ∷ fs) v))
+      × (take i (v .rows) ≡ take i (u .rows))
+
+module _ {doc hs : List ℕ} {docs : Bool} {at len i : ℕ} {f₀ : Fill} {b₀ : Lent} where
+  pub loop-begins : Bounded doc f₀ → i < f₀ .rows → Sofar doc hs docs at len i f₀ b₀ f₀ b₀
+  loop-begins h o = record {
+    since = omega arith;
+    grown = omega arith;
+    bounds = h;
+    owner = o;
+    leads = λ k fs u e d s. (u, s, refl, refl);
+  }
+
+  module _ {f : Fill} {b : Lent} (g : Sofar doc hs docs at len i f₀ b₀ f b) {r : Next} (s : Steps doc (f .at) at len r) where
+    pub loop-fault : {n p : ℕ} → r ≡ Next.Fault n p → Children doc hs docs at len i f₀ b₀ b (Answer.Fault n p)
+    loop-fault q = record {
+      onward = tt;
+      ends = λ k fs u e d z.
+          let x = g .leads k fs u e d z in
+          x .2 ∙ (rw q at s) .leads (element k (take len (drop at doc)) i) fs (x .0) refl;
+    }
+
+    pub loop-close : {lt end : ℕ} → r ≡ Next.Close lt end → Children doc hs docs at len i f₀ b₀ b (Answer.Done (moved f end))
+    loop-close {lt} {end} q =
+        let c : Steps doc (f .at) at len (Next.Close lt end) = rw q at s in
+        record {
+          onward = (
+            omega (arith, g .since, c .onward),
+            g .grown,
+            record {
+              sound = g .bounds .sound;
+              inside = c .onward .2;
+              few = omega (arith, g .bounds .few, c .onward);
+              text = omega (arith, g .bounds .text, c .onward);
+            },
+          );
+          ends = λ k fs u e d z.
+              let x = g .leads k fs u e d z in
+              (x .0, moved-stands end (x .1), x .2 ∙ c .leads (element k (take len (drop at doc)) i) fs (x .0) refl, x .3);
+        }
+
+    module _ {c : StartTag} (q : r ≡ Next.Start c) where
+      start : Steps doc (f .at) at len (Next.Start c)
+      start = rw q at s
+
+      pub loop-ready : Ready doc c (moved f (c .end))
+      loop-ready = record {
+        sound = g .bounds .sound;
+        fits = start .onward .1;
+        at = refl;
+        few = omega (arith, g .bounds .few, start .onward .0);
+        text = omega (arith, g .bounds .text, start .onward .0);
+      }
+
+      module _ {b′ : Lent} {a : Answer} (h : Child doc hs docs c i (moved f (c .end)) b b′ a) where
+        pub loop-child-fault : {n p : ℕ} → a ≡ Answer.Fault n p → Children doc hs docs at len i f₀ b₀ b′ (Answer.Fault n p)
+        loop-child-fault w = record {
+          onward = tt;
+          ends = λ k fs u e d z.
+              let x = g .leads k fs u e d z in
+              let y = start .leads (element k (take len (drop at doc)) i) fs (x .0) refl in
+              x .2 ∙ y .2 ∙ (rw w at h) .ends k (take len (drop at doc)) (y .0) fs (x .0) e d (y .1) (moved-stands (c .end) (x .1));
+        }
+
+        pub loop-child : {g′ : Fill} → a ≡ Answer.Done g′ → Sofar doc hs docs at len i f₀ b₀ g′ b′
+        loop-child {g′} w =
+            let j : Child doc hs docs c i (moved f (c .end)) b b′ (Answer.Done g′) = rw w at h in
+            record {
+              since = omega (arith, g .since, start .onward .0, start .onward .1 .inside, j .onward .0);
+              grown = omega (arith, g .grown, j .onward .1);
+              bounds = j .onward .2;
+              owner = omega (arith, g .owner, j .onward .1);
+              leads = λ k fs u e d z.
+                  let x = g .leads k fs u e d z in
+                  let y = start .leads (element k (take len (drop at doc)) i) fs (x .0) refl in
+                  let o = j .ends k (take len (drop at doc)) (y .0) fs (x .0) e d (y .1) (moved-stands (c .end) (x .1)) in
+                  (o .0, o .1, x .2 ∙ y .2 ∙ o .2, o .3 ∙ x .3);
+            }
+
+        pub loop-less : {g′ : Fill} → a ≡ Answer.Done g′ → length doc - g′ .at < length doc - f .at
+        loop-less {g′} w =
+            let j : Child doc hs docs c i (moved f (c .end)) b b′ (Answer.Done g′) = rw w at h in
+            omega (arith, start .onward .0, start .onward .1 .inside, j .onward .0, j .onward .2 .inside)
+
+pub ruleset loops = (loop-begins, loop-fault, loop-close, loop-ready, loop-child-fault, loop-child, loop-less, needs)
+
+-- a child: a docstring, an element that may stand here, or any other
+among-none : (c : ℕ) → among c [] ≡ false
+among-none c = refl
+
+pub among-not : (c x : ℕ) (xs : List ℕ) → (c ≡ x → ⊥) → among c xs ≡ false → among c (x ∷ xs) ≡ false
+among-not c x xs n e = rw (ne-eqb c x n) e
+
+none-of : (m : ℕ) → among m (10 ∷ 12 ∷ 14 ∷ []) ≡ false → (eqb m 10 ≡ false) × (eqb m 12 ≡ false) × (eqb m 14 ≡ false)
+none-of m e = go (eqb m 10) (eqb m 12) (eqb m 14) e
+  where
+    go : (x y z : Bool) → if x true (if y true (if z true false)) ≡ false → (x ≡ false) × (y ≡ false) × (z ≡ false)
+    go true y z e = (cc, cc, cc)
+    go false true z e = (cc, cc, cc)
+    go false false true e = (cc, cc, cc)
+    go false false false e = (refl, refl, refl)
+
+rows-kept : (i n : ℕ) (v u : List (Row Shown)) → i ≤ n → take n v ≡ u → take i v ≡ take i u
+rows-kept i n v u h e = rw (← e) (sym (take-take i n v h))
+
+-- an answer that leaves the first n rows leaves the first i of them
+abbrev kept : (doc : List ℕ) (s s′ : State Shown) (fs : List Frame) (n i : ℕ) (u : List (Row Shown)) (b : Lent) (r : Answer) → i ≤ n → s ≡ s′ → Ends doc s′ fs n u b r → Ends doc s fs i (take i u) b r
+kept doc s s′ fs n i u b (Answer.Fault m p) h q e = q ∙ e
+kept doc s s′ fs n i u b (Answer.Done g) h q e = (e .0, e .1, q ∙ e .2, rows-kept i n (e .0 .rows) u h (e .3))
+
+module _ {doc hs : List ℕ} {docs : Bool} {c : StartTag} {i : ℕ} {f : Fill} where
+  pub child-docstring : {rows rows′ w bytes : List ℕ} {r : Answer} → c .kind ≡ 14 → docs ≡ true → Captures doc c i f rows rows′ r → Child doc hs docs c i f (lent rows w bytes) (lent rows′ w bytes) r
+  child-docstring {rows} {rows′} {w} {bytes} {r} k d h = record {
+    onward = h .onward;
+    ends = λ m n t fs u e o z s.
+        let j : kindOf (t .name) ≡ 14 = sym (z .kind) ∙ k in
+        rw (j, o ∙ d) (h .ends t (element m n i ∷ fs) u w bytes z s);
+  }
+
+  pub child-unsupported : {rows w w′ bytes : List ℕ} {r : Answer} → i < f .rows → (c .kind ≡ 14 → ⊥) → among (c .kind) hs ≡ false → Ignores doc c f w w′ r → Child doc hs docs c i f (lent rows w bytes) (lent rows w′ bytes) r
+  unfolding mayHold
+  child-unsupported {rows} {w} {w′} {bytes} {r} l k a h = record {
+    onward = h .onward;
+    ends = λ m n t fs u e o z s.
+        let j : eqb (kindOf (t .name)) 14 ≡ false = ne-eqb (kindOf (t .name)) 14 (λ q. k (z .kind ∙ q)) in
+        let y : among (kindOf (t .name)) (heldBy m) ≡ false = rw (← z .kind, e) a in
+        kept doc (runs doc (c .end) (child whole doc m i t (element m n i ∷ fs) u)) (runs doc (c .end) (unsupported whole doc t (element m n i ∷ fs) u)) (element m n i ∷ fs) (f .rows) i (u .rows) (lent rows w′ bytes) r (omega arith)
+        (not-held m i t (element m n i ∷ fs) u j y)
+        (h .ends t (element m n i ∷ fs) u rows bytes z s);
+  }
+    where
+      not-held : (m i : ℕ) (t : Tag) (fs : List Frame) (u : Tables Shown) → eqb (kindOf (t .name)) 14 ≡ false → among (kindOf (t .name)) (heldBy m) ≡ false → runs doc (c .end) (child whole doc m i t fs u) ≡ runs doc (c .end) (unsupported whole doc t fs u)
+      not-held m i t fs u j y = rw (j, y)
+
+  pub child-begins : {b b′ : Lent} {m : ℕ} {r : Answer} → i < f .rows → c .kind ≡ m → among m hs ≡ true → among m (10 ∷ 12 ∷ 14 ∷ []) ≡ false → Begins doc m c (i + 1) f b b′ r → Child doc hs docs c i f b b′ r
+  unfolding mayHold
+  child-begins {b} {b′} {m} {r} l k a x h = record {
+    onward = h .onward;
+    ends = λ j n t fs u e o z s.
+        let q : kindOf (t .name) ≡ m = sym (z .kind) ∙ k in
+        let y : among m (heldBy j) ≡ true = rw e a in
+        kept doc (runs doc (c .end) (child whole doc j i t (element j n i ∷ fs) u)) (runs doc (c .end) (begins whole doc m t (element j n i ∷ fs) u)) (element j n i ∷ fs) (f .rows) i (u .rows) b′ r (omega arith)
+        (held j t (element j n i ∷ fs) u q y)
+        (rw (alone t (element j n i ∷ fs)) at (h .ends t (element j n i ∷ fs) u z (rw add-one) s));
+  }
+    where
+      not-14 : eqb m 14 ≡ false
+      not-14 = none-of m x .2
+
+      held : (j : ℕ) (t : Tag) (fs : List Frame) (u : Tables Shown) → kindOf (t .name) ≡ m → among m (heldBy j) ≡ true → runs doc (c .end) (child whole doc j i t fs u) ≡ runs doc (c .end) (begins whole doc m t fs u)
+      held j t fs u q y = rw (q, not-14, y)
+
+      alone : (t : Tag) (fs : List Frame) → noted m t fs ≡ fs
+      alone t fs = rw (none-of m x .0, none-of m x .1)
