@@ -110,3 +110,6 @@ unescape v = shownFrom 0 v 0
 -- a byte that a value does not show as it is: `&`, tab, LF, CR
 abbrev pub special : ℕ → Bool
 special b = eqb b 38 || eqb b 9 || eqb b 10 || eqb b 13
+
+abbrev pub plain : ℕ → Bool
+plain b = not (special b)
