@@ -2,3 +2,7 @@
 -- Assumes nothing.
 pub mod WellFormed
 pub mod WhiteSpace
+pub mod Sequence
+pub mod Ascii
+pub mod Trim
+pub mod Cases

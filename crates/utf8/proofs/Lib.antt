@@ -1,0 +1,13 @@
+-- The laws on UTF-8: sequences, well-formed texts, White_Space.
+-- Assumes nothing.
+pub mod Sequences
+pub mod Texts
+pub mod Ascii
+pub mod Follows
+pub mod Finding
+pub mod WhiteSpaces
+pub mod Cuts
+pub mod Trims
+pub mod Points
+pub mod Ends
+pub mod Between
