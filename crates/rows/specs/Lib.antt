@@ -1,0 +1,3 @@
+-- What the functions say that fill the tables and test shown values.
+-- Assumes nothing.
+pub mod Outcome
