@@ -6,3 +6,4 @@ pub mod Pieces
 pub mod Putting
 pub mod Values
 pub mod Escapes
+pub mod Answers
