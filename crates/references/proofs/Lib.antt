@@ -7,3 +7,6 @@ pub mod Putting
 pub mod Values
 pub mod Escapes
 pub mod Answers
+pub mod Shapes
+pub mod Formed
+pub mod RoundTrip
