@@ -6,3 +6,7 @@ pub mod Pieces
 pub mod Putting
 pub mod Values
 pub mod Escapes
+pub mod Answers
+pub mod Shapes
+pub mod Formed
+pub mod RoundTrip

@@ -69,7 +69,7 @@ module _ (c : ℕ) where
 pub no-char : (c : ℕ) → 0x110000 ≤ c → xmlChar c ≡ false
 no-char c h = sym (char-high c (omega arith) (omega arith) (omega arith) (omega arith) (omega arith)) ∙ lt-leb c 0x10ffff (omega arith)
 
-never : (t : Bool) → t ≡ false → t ≡ true → ⊥
+pub never : (t : Bool) → t ≡ false → t ≡ true → ⊥
 never t e f = let z : _≡_ {A = ℕ} 0 1 = cc in omega arith
 
 pub char-small : (c : ℕ) → xmlChar c ≡ true → c < 1114112

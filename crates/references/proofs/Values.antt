@@ -27,7 +27,7 @@ use Rattle.references.specs.declared.Checked.the-variants.{Good, Fault}
 use Rattle.references.proofs.Putting.{puts-none, puts-one, puts-then}
 
 -- bytes that are taken already are dropped
-taken : (k : ℕ) (l : List ℕ) (at : ℕ) → k ≤ length l → shownFrom k l at ≡ shownFrom 0 (drop k l) (at + k)
+pub taken : (k : ℕ) (l : List ℕ) (at : ℕ) → k ≤ length l → shownFrom k l at ≡ shownFrom 0 (drop k l) (at + k)
 taken zero l at h = rw add-zero
 taken (suc k) [] at h = absurd (omega arith)
 taken (suc k) (b ∷ l) at h =
@@ -204,7 +204,7 @@ short-if : (t : Bool) (x y : List ℕ) → length x ≤ 4 → length y ≤ 4 →
 short-if true x y h l = h
 short-if false x y h l = l
 
-utf8-short : (c : ℕ) → length (utf8 c) ≤ 4
+pub utf8-short : (c : ℕ) → length (utf8 c) ≤ 4
 unfolding utf8
 utf8-short c =
     short-if (ltb c 0x80) _ _ (omega arith) (short-if (ltb c 0x800) _ _ (omega arith) (short-if (ltb c 0x10000) _ _ (omega arith) (omega arith)))

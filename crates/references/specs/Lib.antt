@@ -6,4 +6,5 @@ pub mod Unescape
 pub mod Digits
 pub mod Outcome
 pub mod Entries
+pub mod Admission
 pub mod Cases

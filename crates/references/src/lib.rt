@@ -5,8 +5,10 @@ ghost use lib.ListN.{length, drop, getD};
 ghost use Rattle.slices.specs.Bytes.{all, other};
 ghost use Rattle.scan.specs.Classes.{Classes};
 ghost use Rattle.references.specs.Escape.{escape};
-ghost use Rattle.references.specs.Unescape.{special, plain, ofNumber, charReference, reference};
+ghost use Rattle.references.specs.Unescape.{wrong, plain, ofNumber, charReference, reference};
 ghost use Rattle.references.specs.Outcome.{referenceOf, Pieces, Checks, Puts, Shows};
+ghost use Rattle.references.specs.Entries.{escaping, unescaping, answerOf, leftOf, Says};
+ghost use Rattle.references.specs.Admission.{Admits, Reads, Finishes};
 
 mod digits;
 mod put;
@@ -251,4 +253,77 @@ pub fn put_escaped(value: &[u8], classes: &[u8; 256], out: &mut [u8], n: usize) 
         }
     }
     m
+}
+
+// Whether a value is short enough and well-formed.
+fn admit(value: &[u8]) -> Checked
+    ensures { λ r. ⌜ Admits (now (value .entry)) r ⌝ }
+{
+    if 1048576 < value.len() {
+        return Checked::Fault(2, ValuePlace(1048576));
+    }
+    let at = utf8::ill_formed(value);
+    if at < value.len() {
+        return Checked::Fault(1, ValuePlace(at));
+    }
+    Checked::Good
+}
+
+// Whether a value is short enough and well-formed, and its references good.
+fn admit_shown(value: &[u8]) -> Checked
+    ensures { λ r. ⌜ Reads (now (value .entry)) r ⌝ }
+{
+    match admit(value) {
+        Checked::Fault(number, place) => Checked::Fault(number, place),
+        Checked::Good => check(value),
+    }
+}
+
+// Leaves zeros.
+fn refuse(out: &mut [u8], number: u32, place: usize) -> Answer
+    ensures { λ r. ⌜ Says (wrong number place) (length (now (out .entry))) (now (out .exit)) r ⌝ }
+{
+    tables::clear_bytes(out, 0);
+    Answer::Refused(number, place)
+}
+
+// Leaves n bytes and zeros after them, or zeros where they do not fit.
+fn finish(out: &mut [u8], n: usize, number: u32, place: usize) -> Answer
+    ensures { λ r. ⌜ Finishes n number place (now (out .entry)) (now (out .exit)) r ⌝ }
+{
+    if out.len() < n {
+        return refuse(out, number, place);
+    }
+    tables::clear_bytes(out, n);
+    Answer::Done(n)
+}
+
+// Escapes a value. A value of more than 1,048,576 bytes is refused with 2, an ill-formed one with 1, one that has no room with 21 and the
+// bytes needed.
+pub fn escape(value: &[u8], out: &mut [u8]) -> Answer
+    ensures answer { λ r. ⌜ r ≡ answerOf (escaping (now (value .entry)) (length (now (out .entry)))) ⌝ }
+    ensures left { λ r. ⌜ now (out .exit) ≡ leftOf (length (now (out .entry))) (escaping (now (value .entry)) (length (now (out .entry)))) ⌝ }
+{
+    match admit(value) {
+        Checked::Fault(number, place) => refuse(out, number, place.0),
+        Checked::Good => {
+            let classes = scan::classes();
+            let n = put_escaped(value, &classes, out, 0);
+            finish(out, n, 21, n)
+        }
+    }
+}
+
+// Unescapes a value. Refused as for `escape` with 2 and 1, then with 9 to 11 at a reference, and with 18 where there is no room.
+pub fn unescape(value: &[u8], out: &mut [u8]) -> Answer
+    ensures answer { λ r. ⌜ r ≡ answerOf (unescaping (now (value .entry)) (length (now (out .entry)))) ⌝ }
+    ensures left { λ r. ⌜ now (out .exit) ≡ leftOf (length (now (out .entry))) (unescaping (now (value .entry)) (length (now (out .entry)))) ⌝ }
+{
+    match admit_shown(value) {
+        Checked::Fault(number, place) => refuse(out, number, place.0),
+        Checked::Good => {
+            let n = put_shown(value, out, 0);
+            finish(out, n, 18, value.len())
+        }
+    }
 }

@@ -1,0 +1,16 @@
+-- `references::finish` meets its contract.
+-- Assumes nothing.
+use Rattle.references.proofs.Answers.{steps}
+use Rattle.references.proofs.finish.Statement.{statement}
+use Rattle.references.proofs.finish.Tie as tie
+
+pub finish-spec : {M : Type 1} → statement M
+finish-spec =
+    tie.close
+    (tie.spec
+    (λ c. search steps)
+    (λ c. search steps)
+    (λ c. search steps)
+    (λ c. search steps)
+    (λ c. search steps)
+    (λ c. search steps))
