@@ -17,7 +17,7 @@ use Rattle.document.specs.Tokens.{Tag}
 use Rattle.document.specs.Rows.{Row, Tables}
 use Rattle.document.specs.Elements.{kindOf, heldBy, mayHold, among}
 use Rattle.document.specs.Reading.{Frame, element, State, reading, refused, closed, started, child, noted, begins, unsupported, docstringIn}
-use Rattle.document.specs.Outcome.{Lent, lent, Stands, Bounded, Ready, TagIs, TagFits, Steps, Leads, Ends, Onward, Begins, Ignores, Captures, Child, Children, runs, whole}
+use Rattle.document.specs.Outcome.{Lent, lent, Stands, Bounded, Ready, TagIs, TagFits, Steps, Leads, Ends, Onward, Begins, Ignores, Captures, Others, Child, Children, runs, whole}
 use Rattle.document.specs.declared.StartTag.{StartTag}
 use Rattle.document.specs.declared.Fill.{Fill}
 use Rattle.document.specs.declared.Answer.{Answer}
@@ -153,30 +153,53 @@ abbrev kept : (doc : List ℕ) (s s′ : State Shown) (fs : List Frame) (n i : �
 kept doc s s′ fs n i u b (Answer.Fault m p) h q e = q ∙ e
 kept doc s s′ fs n i u b (Answer.Done g) h q e = (e .0, e .1, q ∙ e .2, rows-kept i n (e .0 .rows) u h (e .3))
 
-module _ {doc hs : List ℕ} {docs : Bool} {c : StartTag} {i : ℕ} {f : Fill} where
-  pub child-docstring : {rows rows′ w bytes : List ℕ} {r : Answer} → c .kind ≡ 14 → docs ≡ true → Captures doc c i f rows rows′ r → Child doc hs docs c i f (lent rows w bytes) (lent rows′ w bytes) r
-  child-docstring {rows} {rows′} {w} {bytes} {r} k d h = record {
+not-held : (doc : List ℕ) (at m i : ℕ) (t : Tag) (fs : List Frame) (u : Tables Shown) → (eqb (kindOf (t .name)) 14 && not (eqb m 6)) ≡ false → among (kindOf (t .name)) (heldBy m) ≡ false → runs doc at (child whole doc m i t fs u) ≡ runs doc at (unsupported whole doc t fs u)
+unfolding mayHold
+not-held doc at m i t fs u j y = rw (j, y)
+
+module _ {doc : List ℕ} {c : StartTag} {i : ℕ} {f : Fill} where
+  pub other-docstring : {rows rows′ w : List ℕ} {r : Answer} → c .kind ≡ 14 → Captures doc c i f rows rows′ r → Others doc c i f rows rows′ w w r
+  other-docstring {rows} {rows′} {w} {r} k h = record {
     onward = h .onward;
-    ends = λ m n t fs u e o z s.
+    ends = λ m t fs u bytes a o z s.
         let j : kindOf (t .name) ≡ 14 = sym (z .kind) ∙ k in
-        rw (j, o ∙ d) (h .ends t (element m n i ∷ fs) u w bytes z s);
+        rw (j, o) (h .ends t fs u w bytes z s);
   }
 
-  pub child-unsupported : {rows w w′ bytes : List ℕ} {r : Answer} → i < f .rows → (c .kind ≡ 14 → ⊥) → among (c .kind) hs ≡ false → Ignores doc c f w w′ r → Child doc hs docs c i f (lent rows w bytes) (lent rows w′ bytes) r
-  unfolding mayHold
-  child-unsupported {rows} {w} {w′} {bytes} {r} l k a h = record {
+  pub other-unsupported : {rows w w′ : List ℕ} {r : Answer} → i < f .rows → (c .kind ≡ 14 → ⊥) → Ignores doc c f w w′ r → Others doc c i f rows rows w w′ r
+  other-unsupported {rows} {w} {w′} {r} l k h = record {
+    onward = h .onward;
+    ends = λ m t fs u bytes a o z s.
+        let j : (eqb (kindOf (t .name)) 14 && not (eqb m 6)) ≡ false = rw (ne-eqb (kindOf (t .name)) 14 (λ q. k (z .kind ∙ q))) in
+        kept doc (runs doc (c .end) (child whole doc m i t fs u)) (runs doc (c .end) (unsupported whole doc t fs u)) fs (f .rows) i (u .rows) (lent rows w′ bytes) r (omega arith)
+        (not-held doc (c .end) m i t fs u j (rw (← z .kind) a))
+        (h .ends t fs u rows bytes z s);
+  }
+
+  -- in an annotation every child is unsupported
+  pub child-bare : {rows w w′ bytes : List ℕ} {r : Answer} → i < f .rows → Ignores doc c f w w′ r → Child doc [] false c i f (lent rows w bytes) (lent rows w′ bytes) r
+  child-bare {rows} {w} {w′} {bytes} {r} l h = record {
     onward = h .onward;
     ends = λ m n t fs u e o z s.
-        let j : eqb (kindOf (t .name)) 14 ≡ false = ne-eqb (kindOf (t .name)) 14 (λ q. k (z .kind ∙ q)) in
-        let y : among (kindOf (t .name)) (heldBy m) ≡ false = rw (← z .kind, e) a in
+        let j : (eqb (kindOf (t .name)) 14 && not (eqb m 6)) ≡ false = rw o (and-false (eqb (kindOf (t .name)) 14)) in
         kept doc (runs doc (c .end) (child whole doc m i t (element m n i ∷ fs) u)) (runs doc (c .end) (unsupported whole doc t (element m n i ∷ fs) u)) (element m n i ∷ fs) (f .rows) i (u .rows) (lent rows w′ bytes) r (omega arith)
-        (not-held m i t (element m n i ∷ fs) u j y)
+        (not-held doc (c .end) m i t (element m n i ∷ fs) u j (rw e))
         (h .ends t (element m n i ∷ fs) u rows bytes z s);
   }
     where
-      not-held : (m i : ℕ) (t : Tag) (fs : List Frame) (u : Tables Shown) → eqb (kindOf (t .name)) 14 ≡ false → among (kindOf (t .name)) (heldBy m) ≡ false → runs doc (c .end) (child whole doc m i t fs u) ≡ runs doc (c .end) (unsupported whole doc t fs u)
-      not-held m i t fs u j y = rw (j, y)
+      and-false : (t : Bool) → (t && false) ≡ false
+      and-false true = refl
+      and-false false = refl
 
+  pub child-other : {hs rows rows′ w w′ bytes : List ℕ} {r : Answer} → among (c .kind) hs ≡ false → Others doc c i f rows rows′ w w′ r → Child doc hs true c i f (lent rows w bytes) (lent rows′ w′ bytes) r
+  child-other {bytes = bytes} a h = record {
+    onward = h .onward;
+    ends = λ k n t fs u e o z s. h .ends k t (element k n i ∷ fs) u bytes (rw e a) o z s;
+  }
+
+pub ruleset others = (other-docstring, other-unsupported, needs)
+
+module _ {doc hs : List ℕ} {docs : Bool} {c : StartTag} {i : ℕ} {f : Fill} where
   pub child-begins : {b b′ : Lent} {m : ℕ} {r : Answer} → i < f .rows → c .kind ≡ m → among m hs ≡ true → among m (10 ∷ 12 ∷ 14 ∷ []) ≡ false → Begins doc m c (i + 1) f b b′ r → Child doc hs docs c i f b b′ r
   unfolding mayHold
   child-begins {b} {b′} {m} {r} l k a x h = record {

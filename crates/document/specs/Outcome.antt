@@ -4,7 +4,7 @@ use Prim.Native.Nat.{ℕ, suc, _+_, _-_, _*_, _≤_, _<_}
 use mathlib.Core.Path.{_≡_}
 use mathlib.Core.List.{List, [], _∷_, _++_}
 use mathlib.Core.Option.{Option, none, some}
-use mathlib.Core.Bool.{Bool, not}
+use mathlib.Core.Bool.{Bool, true, false, not}
 use lib.Dec.{eqb}
 use lib.ListN.{length, take, drop, getD}
 use Rattle.slices.specs.Bytes.{if, bytes, all}
@@ -14,7 +14,7 @@ use Rattle.references.specs.Unescape.{text, unescape, plain}
 use Rattle.document.specs.Tags.{Shown, lookup, tpType}
 use Rattle.document.specs.Tokens.{Tag, start, close, fault, end, more, last, next}
 use Rattle.document.specs.Rows.{Row, Warning, Tables, wordsFrom, texts, warned}
-use Rattle.document.specs.Elements.{kindOf, heldBy, opens, refuses, opensAs}
+use Rattle.document.specs.Elements.{kindOf, among, heldBy, opens, refuses, opensAs}
 use Rattle.document.specs.Reading as reading
 use Rattle.document.specs.Reading.{Purpose, Frame, element, State, refused, nameOf, parentOf, closed, withRow, shut, started, child, noted, begins, unsupported, docstringIn, passing, run}
 use Rattle.document.specs.declared.Value.{Value}
@@ -189,6 +189,17 @@ pub record Captures (doc : List ℕ) (c : StartTag) (i : ℕ) (f : Fill) (rows r
       TagIs doc c t →
       Stands u (lent rows w bytes) f →
       Ends doc (runs doc (c .end) (docstringIn whole doc t fs i u)) fs i (take i (u .rows)) (lent rows′ w bytes) r
+
+-- what reading a docstring or an element that nobody asked for says, in every element that holds docstrings, with row i
+pub record Others (doc : List ℕ) (c : StartTag) (i : ℕ) (f : Fill) (rows rows′ w w′ : List ℕ) (r : Answer) : Type 0 where
+  pub onward : Onward doc f r
+  pub ends :
+      (k : ℕ) (t : Tag) (fs : List Frame) (u : Tables Shown) (bytes : List ℕ) →
+      among (c .kind) (heldBy k) ≡ false →
+      not (eqb k 6) ≡ true →
+      TagIs doc c t →
+      Stands u (lent rows w bytes) f →
+      Ends doc (runs doc (c .end) (child whole doc k i t fs u)) fs i (take i (u .rows)) (lent rows′ w′ bytes) r
 
 -- what reading a child says, in every element that holds these kinds, and docstrings or not, with row i
 pub record Child (doc : List ℕ) (hs : List ℕ) (docs : Bool) (c : StartTag) (i : ℕ) (f : Fill) (b b′ : Lent) (r : Answer) : Type 0 where
