@@ -52,7 +52,7 @@ texts-append (r ∷ rs) ss = rw (texts-append rs ss) (sym (append-assoc (rowText
 pub wordsFrom-append : (n : ℕ) (rs ss : List (Row Shown)) → wordsFrom n (rs ++ ss) ≡ wordsFrom n rs ++ wordsFrom (n + length (texts rs)) ss
 wordsFrom-append n [] ss = rw add-zero
 wordsFrom-append n (r ∷ rs) ss =
-    let e : n + length (rowText r ++ texts rs) ≡ n + length (rowText r) + length (texts rs) = rw length-append (omega arith) in
+    let e : n + length (rowText r ++ texts rs) ≡ n + length (rowText r) + length (texts rs) = omega (arith, length-append (rowText r) (texts rs)) in
     rw (e, wordsFrom-append (n + length (rowText r)) rs ss) (sym (append-assoc (rowWords n r) _ _))
 
 pub warned-append : (ws vs : List Warning) → warned (ws ++ vs) ≡ warned ws ++ warned vs

@@ -4,8 +4,7 @@ use Prim.Native.Nat.{ℕ, suc, _+_, _*_, _≤_, _<_}
 use mathlib.Core.Path.{_≡_}
 use mathlib.Core.List.{List, [], _∷_}
 use mathlib.Core.Option.{Option, none}
-use lib.ListN.{length, take}
-use Rattle.references.specs.Unescape.{text, unescape}
+use lib.ListN.{length}
 use Rattle.references.specs.Outcome.{Puts}
 use Rattle.document.specs.Tags.{Shown}
 use Rattle.document.specs.Rows.{Row, Tables, triple, textOf}
@@ -81,8 +80,6 @@ pub record WarningPut (reason place len : ℕ) (f : Fill) (before after : List �
 pub record Tests {A : Type 0} (p : List ℕ → A) (doc : List ℕ) (v : Value) (r : A) : Type 0 where
   pub is : (s : Shown) → Held doc v s → r ≡ p (s .value)
 
--- what unescaping into a buffer says: the count of all shown bytes, and that they stand there, if they have room
-pub record Unescaped (raw after : List ℕ) (r : ℕ) : Type 0 where
-  pub most : r ≤ length raw
-  pub many : (t : List ℕ) → unescape raw ≡ text t → length t ≡ r
-  pub is : (t : List ℕ) → unescape raw ≡ text t → r ≤ length after → take r after ≡ t
+-- the function says d of every text of more than 255 bytes
+pub record Short {A : Type 0} (p : List ℕ → A) (d : A) : Type 0 where
+  pub long : (s : List ℕ) → 255 < length s → p s ≡ d

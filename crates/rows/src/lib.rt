@@ -2,7 +2,13 @@
 ghost use mathlib.Core.Path.{_≡_};
 ghost use Prim.Native.Nat.{_+_, _*_, _<_, _≤_};
 ghost use lib.ListN.{length};
-ghost use Rattle.rows.specs.Outcome.{Lies, Places, RowFits, RowPut, WarningFits, WarningPut};
+ghost use Rattle.names.specs.Names.{interfaceName, memberName, propertyName};
+ghost use Rattle.names.specs.Signature.{basicSignature, signature};
+ghost use Rattle.document.specs.Elements.{accessOf, directionOf, someSignature};
+ghost use Rattle.rows.specs.Outcome.{Lies, Places, RowFits, RowPut, WarningFits, WarningPut, Tests};
+
+mod texts;
+
 use document::Fill;
 use document::Value;
 
@@ -111,4 +117,148 @@ pub fn put_warning(warnings: &mut [u32], reason: u32, at: usize, len: usize, f: 
         warnings: n,
         text: f.text,
     }
+}
+
+// Whether a value shows an interface name.
+pub fn shown_interface(doc: &[u8], v: Value) -> bool
+    requires { ⌜ Lies (now doc) v ⌝ }
+    ensures { λ r. ⌜ Tests interfaceName (now (doc .entry)) v r ⌝ }
+{
+    let at = v.at;
+    let end = at + v.len;
+    if v.kind == 1 {
+        return names::interface_name(&doc[at..end]);
+    }
+    let mut own = [0u8; 256];
+    let n = references::put_shown(&doc[at..end], &mut own, 0);
+    if 255 < n {
+        return false;
+    }
+    names::interface_name(&own[..n])
+}
+
+// Whether a value shows a member name.
+pub fn shown_member(doc: &[u8], v: Value) -> bool
+    requires { ⌜ Lies (now doc) v ⌝ }
+    ensures { λ r. ⌜ Tests memberName (now (doc .entry)) v r ⌝ }
+{
+    let at = v.at;
+    let end = at + v.len;
+    if v.kind == 1 {
+        return names::member_name(&doc[at..end]);
+    }
+    let mut own = [0u8; 256];
+    let n = references::put_shown(&doc[at..end], &mut own, 0);
+    if 255 < n {
+        return false;
+    }
+    names::member_name(&own[..n])
+}
+
+// Whether a value shows a property name.
+pub fn shown_property(doc: &[u8], v: Value) -> bool
+    requires { ⌜ Lies (now doc) v ⌝ }
+    ensures { λ r. ⌜ Tests propertyName (now (doc .entry)) v r ⌝ }
+{
+    let at = v.at;
+    let end = at + v.len;
+    if v.kind == 1 {
+        return names::property_name(&doc[at..end]);
+    }
+    let mut own = [0u8; 256];
+    let n = references::put_shown(&doc[at..end], &mut own, 0);
+    if 255 < n {
+        return false;
+    }
+    names::property_name(&own[..n])
+}
+
+// Whether a value shows a signature.
+pub fn shown_signature(doc: &[u8], v: Value) -> bool
+    requires { ⌜ Lies (now doc) v ⌝ }
+    ensures { λ r. ⌜ Tests signature (now (doc .entry)) v r ⌝ }
+{
+    let at = v.at;
+    let end = at + v.len;
+    if v.kind == 1 {
+        return names::signature(&doc[at..end]);
+    }
+    let mut own = [0u8; 256];
+    let n = references::put_shown(&doc[at..end], &mut own, 0);
+    if 255 < n {
+        return false;
+    }
+    names::signature(&own[..n])
+}
+
+// Whether a value shows a signature that is not empty.
+pub fn shown_some_signature(doc: &[u8], v: Value) -> bool
+    requires { ⌜ Lies (now doc) v ⌝ }
+    ensures { λ r. ⌜ Tests someSignature (now (doc .entry)) v r ⌝ }
+{
+    let at = v.at;
+    let end = at + v.len;
+    if v.kind == 1 {
+        return texts::some_signature(&doc[at..end]);
+    }
+    let mut own = [0u8; 256];
+    let n = references::put_shown(&doc[at..end], &mut own, 0);
+    if 255 < n {
+        return false;
+    }
+    texts::some_signature(&own[..n])
+}
+
+// Whether a value shows the signature of a basic type.
+pub fn shown_basic(doc: &[u8], v: Value) -> bool
+    requires { ⌜ Lies (now doc) v ⌝ }
+    ensures { λ r. ⌜ Tests basicSignature (now (doc .entry)) v r ⌝ }
+{
+    let at = v.at;
+    let end = at + v.len;
+    if v.kind == 1 {
+        return names::basic_signature(&doc[at..end]);
+    }
+    let mut own = [0u8; 256];
+    let n = references::put_shown(&doc[at..end], &mut own, 0);
+    if 255 < n {
+        return false;
+    }
+    names::basic_signature(&own[..n])
+}
+
+// The number of the access that a value shows, or 0.
+pub fn shown_access(doc: &[u8], v: Value) -> u32
+    requires { ⌜ Lies (now doc) v ⌝ }
+    ensures { λ r. ⌜ Tests accessOf (now (doc .entry)) v r ⌝ }
+{
+    let at = v.at;
+    let end = at + v.len;
+    if v.kind == 1 {
+        return texts::access(&doc[at..end]);
+    }
+    let mut own = [0u8; 256];
+    let n = references::put_shown(&doc[at..end], &mut own, 0);
+    if 255 < n {
+        return 0;
+    }
+    texts::access(&own[..n])
+}
+
+// The number of the direction that a value shows, or 0.
+pub fn shown_direction(doc: &[u8], v: Value) -> u32
+    requires { ⌜ Lies (now doc) v ⌝ }
+    ensures { λ r. ⌜ Tests directionOf (now (doc .entry)) v r ⌝ }
+{
+    let at = v.at;
+    let end = at + v.len;
+    if v.kind == 1 {
+        return texts::direction(&doc[at..end]);
+    }
+    let mut own = [0u8; 256];
+    let n = references::put_shown(&doc[at..end], &mut own, 0);
+    if 255 < n {
+        return 0;
+    }
+    texts::direction(&own[..n])
 }

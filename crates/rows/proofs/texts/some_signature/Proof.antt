@@ -1,0 +1,13 @@
+-- `rows::texts::some_signature` meets its contract.
+-- Assumes nothing.
+use Rattle.rows.proofs.Shown.{texts}
+use Rattle.rows.proofs.texts.some_signature.Statement.{statement}
+use Rattle.rows.proofs.texts.some_signature.Tie as tie
+
+pub some-signature-spec : {M : Type 1} → statement M
+some-signature-spec =
+    tie.close
+    (tie.spec
+    (λ c. search texts)
+    (λ c. search texts)
+    (λ c. search texts))
