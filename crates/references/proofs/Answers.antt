@@ -12,7 +12,7 @@ use lib.Dec.{ltb}
 use lib.ListN.{length, replicate}
 use Rattle.slices.specs.Bytes.{if}
 use Rattle.tables.specs.Table.{Rep, Wiped, cleared}
-use Rattle.tables.proofs.Tables.{nothing-stands, clear-all, clear-rest}
+use Rattle.tables.proofs.Tables.{empty-stands, clear-all, clear-rest}
 use Rattle.utf8.specs.WellFormed.{illFormed}
 use Rattle.references.specs.Escape.{escape}
 use Rattle.references.specs.Unescape.{Text, text, wrong, unescape}
@@ -92,7 +92,7 @@ module _ {v : List ℕ} {a : Checked} (c : Admits v a) where
     unfolding escaping
     escape-done {n} {t} e q l f =
         let d : Admits v Good = rw e at c in
-        let s = f .says (escape v) (q .stands [] (nothing-stands 1 t)) in
+        let s = f .says (escape v) (q .stands [] (empty-stands 1 t)) in
         let k : n ≡ length (escape v) = q .counts ∙ omega arith in
         rw (d .is .1 _) (rw (l, k) at s)
 
@@ -108,7 +108,7 @@ module _ {v : List ℕ} {a : Checked} (c : Reads v a) where
     unfolding unescaping
     unescape-done {n} {t} e q l f =
         let d : Reads v Good = rw e at c in
-        let s = f .says (d .is .2 .0) (q .puts (d .is .2 .0) (d .is .2 .1) .stands [] (nothing-stands 1 t)) in
+        let s = f .says (d .is .2 .0) (q .puts (d .is .2 .0) (d .is .2 .1) .stands [] (empty-stands 1 t)) in
         rw (d .is .1 _, d .is .2 .1) (rw l at s)
 
 pub said : (f : List ℕ → ℕ → Text) (v : List ℕ) (room : ℕ) (t : List ℕ) (r : Answer) → Says (f v room) room t r → (r ≡ answerOf (f v room)) × (t ≡ leftOf room (f v room))
