@@ -2,23 +2,20 @@
 -- Assumes nothing.
 use Prim.Native.Nat.{ℕ, _+_, _-_, _*_, _^_, _≤_, _<_}
 use mathlib.Core.Path.{_≡_, refl, sym, ap, _∙_}
-use mathlib.Core.List.{List, [], _∷_, _++_}
-use mathlib.Core.Bool.{Bool, true, false}
+use mathlib.Core.List.{List, [], _++_}
 use borrow.Author.Needs.{needs}
 use borrow.Author.Tests.{lt-ltb, le-ltb}
 use native.Mathlib.Nat.{mul-one}
 use native.Mathlib.Omega.{arith}
-use lib.Dec.{ltb}
 use lib.ListN.{length, replicate}
-use Rattle.slices.specs.Bytes.{if}
 use Rattle.tables.specs.Table.{Rep, Wiped, cleared}
 use Rattle.tables.proofs.Tables.{empty-stands, clear-all, clear-rest}
 use Rattle.utf8.specs.WellFormed.{illFormed}
 use Rattle.references.specs.Escape.{escape}
-use Rattle.references.specs.Unescape.{Text, text, wrong, unescape}
-use Rattle.references.specs.Outcome.{Checks, IsChecked, Puts, Shows}
-use Rattle.references.specs.Entries.{checked, roomy, escaping, fitting, unescaping, answerOf, leftOf, Says}
-use Rattle.references.specs.Admission.{Admits, IsRead, Reads, Finishes}
+use Rattle.references.specs.Unescape.{Text, wrong, unescape}
+use Rattle.references.specs.Outcome.{Checks, Puts, Shows}
+use Rattle.references.specs.Entries.{escaping, fitting, unescaping, answerOf, leftOf, Says}
+use Rattle.references.specs.Admission.{Admits, Reads, Finishes}
 use Rattle.references.specs.declared.ValuePlace.{ValuePlace}
 use Rattle.references.specs.declared.Checked.{Checked}
 use Rattle.references.specs.declared.Checked.the-variants.{Good, Fault}

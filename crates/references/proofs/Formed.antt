@@ -1,15 +1,15 @@
 -- Escaping and unescaping leave a well-formed text well-formed.
 -- Assumes nothing.
-use Prim.Native.Nat.{ℕ, zero, suc, _+_, _-_, _/_, _%_, _≤_, _<_}
+use Prim.Native.Nat.{ℕ, zero, suc, _+_, _/_, _%_, _≤_, _<_}
 use mathlib.Core.Path.{_≡_, refl, sym, ap, _∙_}
-use mathlib.Core.List.{List, [], _∷_, _++_, append-nil}
-use mathlib.Core.Bool.{Bool, true, false}
+use mathlib.Core.List.{List, [], _∷_, _++_}
+use mathlib.Core.Bool.{true, false}
 use borrow.Author.Tests.{lt-ltb, le-ltb, ne-eqb, ltb-true, leb-true, le-leb}
 use native.Mathlib.Numerals.{add-one}
 use native.Mathlib.Omega.{arith}
-use lib.Dec.{eqb, leb, ltb}
+use lib.Dec.{leb, ltb}
 use lib.ListN.{length, drop, getD, length-append, length-drop}
-use Rattle.slices.specs.Bytes.{if, all}
+use Rattle.slices.specs.Bytes.{all}
 use Rattle.slices.proofs.Runs.{both}
 use Rattle.scan.specs.Classes.{escapable}
 use Rattle.utf8.specs.WellFormed.{to, table, begins, sequence, illFormed}
@@ -20,11 +20,11 @@ use Rattle.utf8.proofs.Texts.{All, joined, Whole, none-whole, whole, formed, wh
 use Rattle.utf8.proofs.Cuts.{cut-after-ascii}
 use Rattle.references.specs.Characters.{xmlChar, utf8}
 use Rattle.references.specs.Escape.{escaped, escape}
-use Rattle.references.specs.Unescape.{Text, text, wrong, before, shownFrom, unescape, plain}
+use Rattle.references.specs.Unescape.{text, shownFrom, unescape, plain}
 use Rattle.references.proofs.Numbers.{never, char-small, char-surrogate}
 use Rattle.references.proofs.Values.{plain-above}
 use Rattle.references.proofs.Escapes.{by-escape, escape-append, escape-one, escape-same}
-use Rattle.references.proofs.Shapes.{Shape, itself, space, line, referred-to, plain-shows, piece-next}
+use Rattle.references.proofs.Shapes.{Shape, itself, space, line, referred-to, plain-shows, after-text, piece-next}
 
 -- ---- the UTF-8 of a character is one sequence
 
@@ -155,10 +155,6 @@ all-plain (b ∷ c) h =
 -- what is shown of n bytes at most is well-formed
 abbrev Shown : ℕ → Type 0
 Shown n = (l : List ℕ) (at : ℕ) (t : List ℕ) → length l ≤ n → Whole l → shownFrom 0 l at ≡ text t → Whole t
-
-after-text : (s t : List ℕ) (x : Text) → before s x ≡ text t → (u : List ℕ) × (x ≡ text u) × (t ≡ s ++ u)
-after-text s t (text u) e = (u, refl, cc)
-after-text s t (wrong n p) e = let z : _≡_ {A = ℕ} 0 1 = cc in absurd (omega arith)
 
 whole-step : (n : ℕ) → Shown n → (cs : List (List ℕ)) (at : ℕ) (t : List ℕ) → All cs → length (joined cs) ≤ suc n → shownFrom 0 (joined cs) at ≡ text t → Whole t
 whole-step n i [] at t a h e = let q : [] ≡ t = cc in rw q at none-whole

@@ -1,11 +1,11 @@
 -- Digits, the number that they write, and the characters that have a number.
 -- Assumes nothing.
-use Prim.Native.Nat.{ℕ, zero, suc, _+_, _-_, _*_, _≤_, _<_}
-use mathlib.Core.Path.{_≡_, refl, sym, ap, _∙_}
+use Prim.Native.Nat.{ℕ, suc, _+_, _-_, _*_, _≤_, _<_}
+use mathlib.Core.Path.{_≡_, refl, sym, _∙_}
 use mathlib.Core.List.{List, [], _∷_}
-use mathlib.Core.Bool.{Bool, true, false, not, _&&_, _||_}
+use mathlib.Core.Bool.{Bool, true, false, _&&_, _||_}
 use borrow.Author.Needs.{needs}
-use borrow.Author.Tests.{lt-ltb, le-ltb, le-leb, lt-leb, eq-eqb, ne-eqb, leb-true, leb-false, ltb-true, ltb-false}
+use borrow.Author.Tests.{lt-ltb, le-ltb, le-leb, lt-leb, eq-eqb, ne-eqb, ltb-true, ltb-false}
 use native.Mathlib.Nat.{mul-le-mul, mul-one}
 use native.Mathlib.Numerals.{add-one}
 use native.Mathlib.Omega.{arith}
@@ -14,10 +14,10 @@ use mir.Val.{Fits}
 use lib.Dec.{eqb, leb, ltb}
 use lib.ListN.{length, drop, getD, drop-of-length-le}
 use lib.Seq.{drop-cons}
-use Rattle.slices.specs.Bytes.{if, all, empty}
+use Rattle.slices.specs.Bytes.{if, all}
 use Rattle.references.specs.Characters.{xmlChar}
 use Rattle.references.specs.Unescape as definition
-use Rattle.references.specs.Unescape.{decimalDigit, hexDigit, digitValue, number, character, fault, ofCode, ofDigits}
+use Rattle.references.specs.Unescape.{decimalDigit, hexDigit, digitValue, number, fault, ofCode, ofDigits}
 use Rattle.references.specs.Digits.{digitIn, bounded, Base}
 use Rattle.references.specs.Outcome.{referenceOf}
 use Rattle.references.specs.declared.Reference.the-variants.{Character, Bad}

@@ -5,17 +5,15 @@ use mathlib.Core.Path.{_≡_, refl, sym, ap, _∙_}
 use mathlib.Core.List.{List, [], _∷_}
 use mathlib.Core.Bool.{Bool, true, false}
 use borrow.Author.Needs.{needs}
-use borrow.Author.Tests.{eq-eqb, ne-eqb}
+use borrow.Author.Tests.{ne-eqb}
 use native.Mathlib.Numerals.{add-one}
 use native.Mathlib.Omega.{arith}
-use lib.Dec.{eqb}
 use lib.ListN.{length, drop, take, getD, length-drop, drop-of-length-le}
 use lib.Seq.{drop-cons, length-take-le}
 use Rattle.slices.specs.Bytes.{if, other, span, past, empty}
 use Rattle.slices.specs.Run.{Run}
 use Rattle.slices.proofs.Runs.{past-at}
-use Rattle.references.specs.Characters.{utf8}
-use Rattle.references.specs.Unescape.{character, fault, reference, referred, shows, bad, afterAmpersand, afterCr, piece}
+use Rattle.references.specs.Unescape.{reference, referred, piece}
 use Rattle.references.specs.Outcome.{referenceOf, Pieces}
 use Rattle.references.specs.declared.Reference.{Reference}
 use Rattle.references.specs.declared.Reference.the-variants.{Character, Bad}

@@ -1,20 +1,20 @@
 -- Escaping is undone by unescaping, and leaves neither `"` nor `<`; and so at the entries.
 -- Assumes nothing.
-use Prim.Native.Nat.{ℕ, _+_, _≤_, _<_}
-use mathlib.Core.Path.{_≡_, refl, sym, _∙_}
+use Prim.Native.Nat.{ℕ, _≤_}
+use mathlib.Core.Path.{_≡_, refl, _∙_}
 use mathlib.Core.List.{List, [], _∷_, _++_}
 use mathlib.Core.Bool.{Bool, true, false, not, _||_}
 use borrow.Author.Tests.{le-ltb, ne-eqb}
 use native.Mathlib.Omega.{arith}
-use lib.Dec.{eqb, ltb}
+use lib.Dec.{eqb}
 use lib.ListN.{length}
-use Rattle.slices.specs.Bytes.{if, other, all}
+use Rattle.slices.specs.Bytes.{other, all}
 use Rattle.slices.proofs.Runs.{both}
 use Rattle.scan.specs.Classes.{escapable}
 use Rattle.utf8.specs.WellFormed.{illFormed}
 use Rattle.references.specs.Characters.{xmlChar, utf8}
 use Rattle.references.specs.Escape.{escaped, escape}
-use Rattle.references.specs.Unescape.{Text, text, wrong, before, reference, piece, shownFrom, unescape, special, plain}
+use Rattle.references.specs.Unescape.{Text, text, reference, piece, shownFrom, unescape, plain}
 use Rattle.references.specs.Entries.{checked, escaping, unescaping}
 use Rattle.references.proofs.Numbers.{never}
 use Rattle.references.proofs.Escapes.{by-escape, escape-least}

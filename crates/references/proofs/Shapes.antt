@@ -1,10 +1,10 @@
 -- What a piece of a value may be; and so the bytes that show themselves, and no text longer than its value.
 -- Assumes nothing.
-use Prim.Native.Nat.{ℕ, zero, suc, _+_, _-_, _≤_, _<_}
+use Prim.Native.Nat.{ℕ, zero, suc, _+_, _≤_, _<_}
 use mathlib.Core.Path.{_≡_, refl, sym, ap, _∙_}
 use mathlib.Core.List.{List, [], _∷_, _++_, append-nil}
 use mathlib.Core.Bool.{Bool, true, false, not, _||_}
-use borrow.Author.Tests.{eqb-true, not-true, not-false}
+use borrow.Author.Tests.{eqb-true, not-false}
 use native.Mathlib.Nat.{add-zero, zero-add}
 use native.Mathlib.Omega.{arith}
 use lib.Dec.{eqb}
@@ -13,9 +13,9 @@ use Rattle.slices.specs.Bytes.{if, other, span, past, empty, all}
 use Rattle.slices.specs.Run.{Run}
 use Rattle.slices.proofs.Runs.{both, past-drop, run-stop}
 use Rattle.references.specs.Characters.{xmlChar, utf8}
-use Rattle.references.specs.Unescape.{Reference, character, fault, reference, Piece, shows, bad, referred, afterAmpersand, afterCr, piece, Text, text, wrong, before, joined, shownFrom, unescape, special, plain}
+use Rattle.references.specs.Unescape.{Reference, character, fault, reference, Piece, shows, bad, referred, afterAmpersand, afterCr, piece, Text, text, wrong, before, joined, shownFrom, unescape, plain}
 use Rattle.references.proofs.Entities.{reference-good}
-use Rattle.references.proofs.Values.{taken, utf8-short}
+use Rattle.references.proofs.Values.{taken, before-nil, before-before, utf8-short}
 
 -- ---- bytes that show themselves
 
@@ -31,19 +31,11 @@ plain-piece b l h = go (eqb b 38) (eqb b 9) (eqb b 10) (eqb b 13) h
     go false false false false e = refl
 
 pub plain-shows : (s x : List ℕ) (at : ℕ) → all plain s ≡ true → shownFrom 0 (s ++ x) at ≡ before s (shownFrom 0 x (at + length s))
-plain-shows [] x at h = rw add-zero (none (shownFrom 0 x at))
-  where
-    none : (t : Text) → t ≡ before [] t
-    none (text t) = refl
-    none (wrong n p) = refl
+plain-shows [] x at h = rw add-zero (sym (before-nil (shownFrom 0 x at)))
 plain-shows (b ∷ s) x at h =
     let t = both (plain b) (all plain s) h in
     let e : at + suc (length s) ≡ suc at + length s = omega arith in
-    rw (plain-piece b (s ++ x) (t .0), plain-shows s x (suc at) (t .1), e) (once (shownFrom 0 x (suc at + length s)))
-  where
-    once : (t : Text) → before (b ∷ []) (before s t) ≡ before (b ∷ s) t
-    once (text t) = refl
-    once (wrong n p) = refl
+    rw (plain-piece b (s ++ x) (t .0), plain-shows s x (suc at) (t .1), e) (before-before (b ∷ []) s (shownFrom 0 x (suc at + length s)))
 
 -- a value free of `&`, tab, LF and CR shows itself
 pub unescape-plain : (v : List ℕ) → all plain v ≡ true → unescape v ≡ text v
@@ -133,20 +125,21 @@ shape-bounds (space q u) = rw (q, u) (omega arith, omega arith)
 shape-bounds (line k e q u) = rw (e, q, u) (omega arith, omega arith)
 shape-bounds (referred-to c n x h i e q u) = rw (q, u) (omega (arith, utf8-short c), omega arith)
 
+-- what is shown after some bytes
+pub after-text : (s t : List ℕ) (x : Text) → before s x ≡ text t → (u : List ℕ) × (x ≡ text u) × (t ≡ s ++ u)
+after-text s t (text u) e = (u, refl, cc)
+after-text s t (wrong n p) e = let z : _≡_ {A = ℕ} 0 1 = cc in absurd (omega arith)
+
 -- what is shown after a piece
 pub piece-next : (b : ℕ) (l : List ℕ) (at : ℕ) (t : List ℕ) → shownFrom 0 (b ∷ l) at ≡ text t → (s : List ℕ) × (w : ℕ) × (u : List ℕ) × Shape b l s w × (w ≤ length l) × (shownFrom 0 (drop w l) (suc at + w) ≡ text u) × (t ≡ s ++ u)
 piece-next b l at t = go (piece b l) refl
   where
-    after : (s : List ℕ) (x : Text) → before s x ≡ text t → (u : List ℕ) × (x ≡ text u) × (t ≡ s ++ u)
-    after s (text u) e = (u, refl, cc)
-    after s (wrong n p) e = let z : _≡_ {A = ℕ} 0 1 = cc in absurd (omega arith)
-
     go : (p : Piece) → piece b l ≡ p → joined p at (λ w. shownFrom w l (suc at)) ≡ text t → (s : List ℕ) × (w : ℕ) × (u : List ℕ) × Shape b l s w × (w ≤ length l) × (shownFrom 0 (drop w l) (suc at + w) ≡ text u) × (t ≡ s ++ u)
     go (bad n) e f = let z : _≡_ {A = ℕ} 0 1 = cc in absurd (omega arith)
     go (shows s w) e f =
         let h = shape b l s w e in
         let i = shape-bounds h .1 in
-        let a = after s (shownFrom w l (suc at)) f in
+        let a = after-text s t (shownFrom w l (suc at)) f in
         (s, w, a .0, h, i, sym (taken w l (suc at) i) ∙ a .1, a .2)
 
 -- by what holds of what is left after a piece

@@ -5,20 +5,20 @@ use mathlib.Core.Path.{_≡_, refl, sym, ap, _∙_}
 use mathlib.Core.List.{List, [], _∷_, _++_, append-nil, append-assoc}
 use mathlib.Core.Bool.{Bool, true, false, not, _||_}
 use borrow.Author.Needs.{needs}
-use borrow.Author.Tests.{eq-eqb, ne-eqb, eqb-true, not-true}
+use borrow.Author.Tests.{ne-eqb, eqb-true, not-true}
 use native.Mathlib.Nat.{add-zero}
 use native.Mathlib.Numerals.{add-one}
 use native.Mathlib.Omega.{arith}
 use lib.Dec.{eqb, ltb}
-use lib.ListN.{length, drop, getD, length-drop, length-append, drop-of-length-le}
+use lib.ListN.{length, drop, getD, length-drop, drop-of-length-le}
 use lib.Seq.{drop-cons, drop-drop}
 use Rattle.slices.specs.Bytes.{if, other, all}
 use Rattle.slices.specs.Run.{Run}
-use Rattle.slices.proofs.Runs.{both, by-byte, run-past}
+use Rattle.slices.proofs.Runs.{run-past}
 use Rattle.tables.specs.Table.{Put}
 use Rattle.references.specs.Characters.{utf8}
 use Rattle.references.specs.Unescape as definition
-use Rattle.references.specs.Unescape.{Text, text, wrong, shows, bad, afterCr, piece, before, joined, shownFrom, unescape, special, plain}
+use Rattle.references.specs.Unescape.{Text, text, wrong, shows, bad, afterCr, piece, before, joined, shownFrom, unescape, plain}
 use Rattle.references.specs.Outcome.{Pieces, IsPiece, Checks, Puts, Shows}
 use Rattle.references.specs.declared.ValuePlace.{ValuePlace}
 use Rattle.references.specs.declared.Piece.{Piece}
@@ -57,13 +57,23 @@ pub rest-all : (v : List ℕ) → unescape v ≡ rest v 0
 unfolding rest unescape
 rest-all v = refl
 
-before-before : (a b : List ℕ) (t : Text) → before a (before b t) ≡ before (a ++ b) t
+pub before-before : (a b : List ℕ) (t : Text) → before a (before b t) ≡ before (a ++ b) t
 before-before a b (text t) = ap text (sym (append-assoc a b t))
 before-before a b (wrong n p) = refl
 
-before-nil : (t : Text) → before [] t ≡ t
+pub before-nil : (t : Text) → before [] t ≡ t
 before-nil (text t) = refl
 before-nil (wrong n p) = refl
+
+-- a piece by its kind
+is-byte : {v : List ℕ} {at b next : ℕ} {p : Piece} → Pieces v at p → p ≡ Byte b next → IsPiece v at (Byte b next)
+is-byte {v} {at} {b} {next} c e = let d : Pieces v at (Byte b next) = rw e at c in d .is
+
+is-char : {v : List ℕ} {at k next : ℕ} {p : Piece} → Pieces v at p → p ≡ Char k next → IsPiece v at (Char k next)
+is-char {v} {at} {k} {next} c e = let d : Pieces v at (Char k next) = rw e at c in d .is
+
+is-wrong : {v : List ℕ} {at n : ℕ} {p : Piece} → Pieces v at p → p ≡ Wrong n → IsPiece v at (Wrong n)
+is-wrong {v} {at} {n} c e = let d : Pieces v at (Wrong n) = rw e at c in d .is
 
 -- ---- the faults alone
 
@@ -125,38 +135,30 @@ module _ {v : List ℕ} {at : ℕ} (g : Checking v at) where
 
   module _ (h : at < length v) {p : Piece} (c : Pieces v at p) where
     pub check-fault : {n : ℕ} {q : ValuePlace} → p ≡ Wrong n → q .0 ≡ at → Checks v (Fault n q)
-    check-fault {n} e f =
-        let d : Pieces v at (Wrong n) = rw e at c in
-        record { is = rw f (fault-some (unescape v) n at (g .left ∙ rw (rest-bad v at h (d .is)))) }
+    check-fault {n} e f = record { is = rw f (fault-some (unescape v) n at (g .left ∙ rw (rest-bad v at h (is-wrong c e)))) }
 
     check-on : {s : List ℕ} {next r : ℕ} → piece (getD v at 0) (drop (suc at) v) ≡ shows s (next - suc at) → at < next → next ≤ length v → Run (other 38) v next r → Checking v r
     check-on {s} {next} e a b = to-ampersand (g .left ∙ rw (rest-shows v at h e a b) (fault-before s (rest v next)))
 
     module _ {b next : ℕ} (e : p ≡ Byte b next) where
-      at-byte : Pieces v at (Byte b next)
-      at-byte = rw e at c
-
       pub byte-inside : next ≤ length v
-      byte-inside = at-byte .is .2
+      byte-inside = is-byte c e .2
 
       pub check-byte : {r : ℕ} → Run (other 38) v next r → Checking v r
-      check-byte = check-on (at-byte .is .0) (at-byte .is .1) (at-byte .is .2)
+      check-byte = check-on (is-byte c e .0) (is-byte c e .1) (is-byte c e .2)
 
       pub check-byte-less : {r : ℕ} → Run (other 38) v next r → length v - r < length v - at
-      check-byte-less n = omega (arith, n .onward, at-byte .is .1)
+      check-byte-less n = omega (arith, n .onward, is-byte c e .1)
 
     module _ {k next : ℕ} (e : p ≡ Char k next) where
-      at-char : Pieces v at (Char k next)
-      at-char = rw e at c
-
       pub char-inside : next ≤ length v
-      char-inside = at-char .is .2
+      char-inside = is-char c e .2
 
       pub check-char : {r : ℕ} → Run (other 38) v next r → Checking v r
-      check-char = check-on (at-char .is .0) (omega (arith, at-char .is .1)) (at-char .is .2)
+      check-char = check-on (is-char c e .0) (omega (arith, is-char c e .1)) (is-char c e .2)
 
       pub check-char-less : {r : ℕ} → Run (other 38) v next r → length v - r < length v - at
-      check-char-less n = omega (arith, n .onward, at-char .is .1)
+      check-char-less n = omega (arith, n .onward, is-char c e .1)
 
 pub ruleset checks = (check-begins, check-ends, check-fault, byte-inside, check-byte, check-byte-less, char-inside, check-char, check-char-less, needs)
 
@@ -253,8 +255,7 @@ module _ {v t₀ t : List ℕ} {n at m : ℕ} (g : Showing v n t₀ t at m) wher
       where
         none : (s : List ℕ) → unescape v ≡ text s → ⊥
         none s f =
-            let d : Pieces v at (Wrong k) = rw e at c in
-            let q : text s ≡ wrong k at = sym f ∙ g .left ∙ rw (rest-bad v at h (d .is)) in
+            let q : text s ≡ wrong k at = sym f ∙ g .left ∙ rw (rest-bad v at h (is-wrong c e)) in
             let z : _≡_ {A = ℕ} 0 1 = cc in
             omega arith
 
@@ -271,30 +272,22 @@ module _ {v t₀ t : List ℕ} {n at m : ℕ} (g : Showing v n t₀ t at m) wher
 
     module _ {b next : ℕ} (e : p ≡ Byte b next) where
       pub show-byte : {t′ : List ℕ} {r : ℕ} → length t′ ≡ length t → Put 1 (b ∷ []) m t t′ r → Showing v n t₀ t′ next r
-      show-byte l q = let d = at-byte′ in show-on (d .is .0) (d .is .2) (d .is .1) (omega (arith, d .is .1)) l (puts-one q)
-        where
-          at-byte′ : Pieces v at (Byte b next)
-          at-byte′ = rw e at c
+      show-byte l q = let d = is-byte c e in show-on (d .0) (d .2) (d .1) (omega (arith, d .1)) l (puts-one q)
 
       pub show-byte-less : length v - next < length v - at
-      show-byte-less = let d : Pieces v at (Byte b next) = rw e at c in omega (arith, d .is .1, d .is .2)
+      show-byte-less = let d = is-byte c e in omega (arith, d .1, d .2)
 
     module _ {k next : ℕ} (e : p ≡ Char k next) where
-      at-char′ : Pieces v at (Char k next)
-      at-char′ = rw e at c
-
       pub show-char : {t′ : List ℕ} {r : ℕ} → length t′ ≡ length t → Puts (utf8 k) m t t′ r → Showing v n t₀ t′ next r
-      show-char l q =
-          let d = at-char′ in
-          show-on (d .is .0) (d .is .2) (omega (arith, d .is .1)) (omega (arith, d .is .1, utf8-short k)) l q
+      show-char l q = let d = is-char c e in show-on (d .0) (d .2) (omega (arith, d .1)) (omega (arith, d .1, utf8-short k)) l q
 
       pub show-char-less : length v - next < length v - at
-      show-char-less = omega (arith, at-char′ .is .1, at-char′ .is .2)
+      show-char-less = let d = is-char c e in omega (arith, d .1, d .2)
 
       pub show-char-small : k < 1114112
-      show-char-small = at-char′ .is .3
+      show-char-small = is-char c e .3
 
       pub show-char-room : n + length v < 2 ^ 62 → m + 4 < 2 ^ 62
-      show-char-room b = omega (arith, at-char′ .is .1, at-char′ .is .2, g .most)
+      show-char-room b = let d = is-char c e in omega (arith, d .1, d .2, g .most)
 
 pub ruleset shown = (show-begins, show-ends, show-stops, show-byte, show-byte-less, show-char, show-char-less, show-char-small, show-char-room, needs)

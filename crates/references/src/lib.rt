@@ -1,8 +1,8 @@
 // References in attribute values: unescape, char_reference, escape.
 ghost use mathlib.Core.Path.{_≡_};
-ghost use Prim.Native.Nat.{_+_, _*_, _≤_, _<_, _^_};
+ghost use Prim.Native.Nat.{_+_, _*_, _<_, _^_};
 ghost use lib.ListN.{length, drop, getD};
-ghost use Rattle.slices.specs.Bytes.{all, other};
+ghost use Rattle.slices.specs.Bytes.{all};
 ghost use Rattle.scan.specs.Classes.{Classes};
 ghost use Rattle.references.specs.Escape.{escape};
 ghost use Rattle.references.specs.Unescape.{wrong, plain, ofNumber, charReference, reference};

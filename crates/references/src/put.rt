@@ -1,7 +1,7 @@
 // Bytes put at a count into a lent text that may be full.
-ghost use mathlib.Core.Path.{_≡_};
+
 ghost use mathlib.Core.List.{[], _∷_};
-ghost use Prim.Native.Nat.{_+_, _≤_, _<_, _^_};
+ghost use Prim.Native.Nat.{_+_, _<_, _^_};
 ghost use lib.ListN.{length};
 ghost use Rattle.references.specs.Characters.{utf8};
 ghost use Rattle.references.specs.Escape.{escaped};
