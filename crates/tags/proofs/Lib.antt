@@ -1,0 +1,3 @@
+-- The laws of kinds and of tags.
+-- Assumes nothing.
+pub mod Kind
