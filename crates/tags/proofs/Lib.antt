@@ -1,3 +1,6 @@
--- The laws of kinds and of tags.
+-- The laws of kinds, tags, tokens and steps.
 -- Assumes nothing.
 pub mod Kind
+pub mod Parts
+pub mod Nexts
+pub mod Stepping

@@ -1,3 +1,4 @@
--- The kinds of names by length, and what the functions on tags say.
+-- The kinds of names, and what the functions on tags say.
 -- Assumes nothing.
 pub mod Kinds
+pub mod Outcome

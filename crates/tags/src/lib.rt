@@ -1,8 +1,21 @@
 // Tags: the kind of a name, closing tags, start tags, and the next token from a place on.
 ghost use mathlib.Core.Path.{_≡_};
+ghost use Prim.Native.Nat.{_+_, _≤_, _<_};
+ghost use lib.ListN.{length, drop, getD};
 ghost use Rattle.slices.specs.Bytes.{if, same};
+ghost use Rattle.scan.specs.Classes.{Classes};
+ghost use Rattle.document.specs.Tokens.{closing};
 ghost use Rattle.document.specs.Elements.{localKind, kindOf};
 ghost use Rattle.tags.specs.Kinds.{exactKind, Local};
+ghost use Rattle.tags.specs.Outcome.{TagStart, TagAt, Ends};
+use document::ClosingTag;
+use document::Token;
+
+// Where a start tag's end was wanted, or whether it is `/>` and the place after it.
+pub enum TagEnd {
+    Missing(usize),
+    Here(bool, usize),
+}
 
 // The kind if the name is the key.
 fn one(name: &[u8], key: &[u8], kind: u32) -> u32
@@ -78,4 +91,54 @@ pub fn kind_of(name: &[u8]) -> u32
     }
     let from = local(name);
     local_kind(&name[from..])
+}
+
+// The closing tag whose `</` stands at a place: a name, white space, `>`.
+fn closing_tag(doc: &[u8], classes: &[u8; 256], lt: usize) -> Token
+    requires { ⌜ TagStart (now doc) lt × (lt + 2 ≤ length (now doc)) × Classes (now classes) ⌝ }
+    ensures { λ r. ⌜ TagAt (now (doc .entry)) lt (closing (drop (lt + 2) (now (doc .entry))) lt) r ⌝ }
+{
+    let at = lt + 2;
+    let named = scan::name_end(doc, classes, at);
+    if named == at {
+        return Token::Fault(4, lt + 1);
+    }
+    let end = scan::space_end(doc, classes, named);
+    if doc.len() <= end {
+        return Token::Fault(4, lt + 1);
+    }
+    if doc[end] != b'>' {
+        return Token::Fault(4, lt + 1);
+    }
+    Token::Close(ClosingTag {
+        lt,
+        at,
+        len: named - at,
+        end: end + 1,
+    })
+}
+
+// The end of a start tag, past the white space from a place on.
+fn tag_end(doc: &[u8], classes: &[u8; 256], from: usize) -> TagEnd
+    requires { ⌜ (from ≤ length (now doc)) × Classes (now classes) ⌝ }
+    ensures { λ r. ⌜ Ends (now (doc .entry)) from r ⌝ }
+{
+    let at = scan::space_end(doc, classes, from);
+    if doc.len() <= at {
+        return TagEnd::Missing(at);
+    }
+    if doc[at] == b'>' {
+        return TagEnd::Here(false, at + 1);
+    }
+    if doc[at] != b'/' {
+        return TagEnd::Missing(at); // neither
+    }
+    let next = at + 1;
+    if doc.len() <= next {
+        return TagEnd::Missing(at);
+    }
+    if doc[next] != b'>' {
+        return TagEnd::Missing(at);
+    }
+    TagEnd::Here(true, at + 2)
 }
