@@ -3,6 +3,7 @@
 pub mod Characters
 pub mod Escape
 pub mod Unescape
+pub mod Digits
 pub mod Outcome
 pub mod Entries
 pub mod Cases

@@ -1,4 +1,15 @@
 // References in attribute values: unescape, char_reference, escape.
+ghost use mathlib.Core.Path.{_≡_};
+ghost use Prim.Native.Nat.{_+_, _*_, _≤_, _<_, _^_};
+ghost use lib.ListN.{length, drop, getD};
+ghost use Rattle.slices.specs.Bytes.{all, other};
+ghost use Rattle.scan.specs.Classes.{Classes};
+ghost use Rattle.references.specs.Escape.{escape};
+ghost use Rattle.references.specs.Unescape.{special, plain, ofNumber, charReference, reference};
+ghost use Rattle.references.specs.Outcome.{referenceOf, Pieces, Checks, Puts, Shows};
+
+mod digits;
+mod put;
 
 // A place in a value, and one in the document.
 pub struct ValuePlace(pub usize);
@@ -28,4 +39,216 @@ pub enum Checked {
 pub enum Answer {
     Refused(u32, usize),
     Done(usize),
+}
+
+// A place in a value as one in the document, where the value begins at an offset.
+pub fn in_document(value_offset: usize, at: ValuePlace) -> DocumentPlace
+    requires { ⌜ «value_offset» + at .0 < 2 ^ 63 ⌝ }
+    ensures { λ r. ⌜ r .0 ≡ «value_offset» + at .0 ⌝ }
+{
+    DocumentPlace(value_offset + at.0)
+}
+
+// After `&#`.
+fn of_number(entity: &[u8]) -> Reference
+    requires { ⌜ 0 < length (now entity) ⌝ }
+    ensures { λ r. ⌜ referenceOf r ≡ ofNumber (drop 1 (now (entity .entry))) ⌝ }
+{
+    if entity.len() <= 1 {
+        return Reference::Bad(11);
+    }
+    let b = entity[1];
+    if b == 120 {
+        return digits::of_digits(entity, 2, 16);
+    }
+    if b == 88 {
+        return digits::of_digits(entity, 2, 16);
+    }
+    digits::of_digits(entity, 1, 10)
+}
+
+// What stands between `&` and `;`, where it names none of the five entities.
+pub fn char_reference(entity: &[u8]) -> Reference
+    ensures { λ r. ⌜ referenceOf r ≡ charReference (now (entity .entry)) ⌝ }
+{
+    if entity.len() == 0 {
+        return Reference::Bad(10);
+    }
+    if entity[0] == 35 {
+        return of_number(entity);
+    }
+    Reference::Bad(10)
+}
+
+// What stands between `&` and `;`.
+pub fn reference_of(entity: &[u8]) -> Reference
+    ensures { λ r. ⌜ referenceOf r ≡ reference (now (entity .entry)) ⌝ }
+{
+    if slices::equal(entity, b"amp") {
+        return Reference::Character(38);
+    }
+    if slices::equal(entity, b"lt") {
+        return Reference::Character(60);
+    }
+    if slices::equal(entity, b"gt") {
+        return Reference::Character(62);
+    }
+    if slices::equal(entity, b"quot") {
+        return Reference::Character(34);
+    }
+    if slices::equal(entity, b"apos") {
+        return Reference::Character(39);
+    }
+    char_reference(entity)
+}
+
+// What stands at a `&`.
+fn reference_at(v: &[u8], at: usize) -> Piece
+    requires { ⌜ (at < length (now v)) × (getD (now v) at 0 ≡ 38) ⌝ }
+    ensures { λ r. ⌜ Pieces (now (v .entry)) at r ⌝ }
+{
+    let from = at + 1;
+    let end = slices::find(v, from, 59);
+    if v.len() <= end {
+        return Piece::Wrong(9);
+    }
+    match reference_of(&v[from..end]) {
+        Reference::Character(c) => Piece::Char(c, end + 1),
+        Reference::Bad(n) => Piece::Wrong(n),
+    }
+}
+
+// What stands at a CR: it is one line end with a LF after it.
+fn line_end(v: &[u8], at: usize) -> Piece
+    requires { ⌜ (at < length (now v)) × (getD (now v) at 0 ≡ 13) ⌝ }
+    ensures { λ r. ⌜ Pieces (now (v .entry)) at r ⌝ }
+{
+    let next = at + 1;
+    if v.len() <= next {
+        return Piece::Byte(32, next);
+    }
+    if v[next] == 10 {
+        return Piece::Byte(32, at + 2);
+    }
+    Piece::Byte(32, next)
+}
+
+// What stands at a place of a value.
+fn piece_at(v: &[u8], at: usize) -> Piece
+    requires { ⌜ at < length (now v) ⌝ }
+    ensures { λ r. ⌜ Pieces (now (v .entry)) at r ⌝ }
+{
+    let b = v[at];
+    if b == 38 {
+        return reference_at(v, at);
+    }
+    if b == 13 {
+        return line_end(v, at);
+    }
+    if b == 10 {
+        return Piece::Byte(32, at + 1);
+    }
+    if b == 9 {
+        return Piece::Byte(32, at + 1);
+    }
+    Piece::Byte(b, at + 1)
+}
+
+// Whether the references of a value are good. Writes nothing.
+pub fn check(value: &[u8]) -> Checked
+    ensures { λ r. ⌜ Checks (now (value .entry)) r ⌝ }
+{
+    let mut at = slices::find(value, 0, 38);
+    while at < value.len() {
+        match piece_at(value, at) {
+            Piece::Byte(_, next) => {
+                at = slices::find(value, next, 38);
+            }
+            Piece::Char(_, next) => {
+                at = slices::find(value, next, 38);
+            }
+            Piece::Wrong(number) => {
+                return Checked::Fault(number, ValuePlace(at));
+            }
+        }
+    }
+    Checked::Good
+}
+
+fn is_plain_byte(b: u8) -> bool
+    ensures { λ r. ⌜ r ≡ plain b ⌝ }
+{
+    if 38 < b {
+        return true;
+    }
+    if b == 38 {
+        return false;
+    }
+    if b == 9 {
+        return false;
+    }
+    if b == 10 {
+        return false;
+    }
+    b != 13
+}
+
+// Whether a value shows itself: it is free of `&`, tab, LF and CR.
+pub fn is_plain(value: &[u8]) -> bool
+    ensures { λ r. ⌜ r ≡ all plain (now (value .entry)) ⌝ }
+{
+    let mut at = 0;
+    while at < value.len() {
+        if is_plain_byte(value[at]) {
+            at += 1;
+        } else {
+            return false;
+        }
+    }
+    true
+}
+
+// Puts the shown bytes of a value at a count, up to its first fault.
+pub fn put_shown(value: &[u8], out: &mut [u8], n: usize) -> usize
+    requires { ⌜ n + length (now value) < 2 ^ 62 ⌝ }
+    ensures { λ r. ⌜ Shows (now (value .entry)) n (now (out .entry)) (now (out .exit)) r ⌝ }
+{
+    let mut at = 0;
+    let mut m = n;
+    while at < value.len() {
+        match piece_at(value, at) {
+            Piece::Byte(b, next) => {
+                m = tables::put_byte(out, m, b);
+                at = next;
+            }
+            Piece::Char(c, next) => {
+                m = put::put_char(out, m, c);
+                at = next;
+            }
+            Piece::Wrong(_) => {
+                return m;
+            }
+        }
+    }
+    m
+}
+
+// Puts the escaped bytes of a value at a count.
+pub fn put_escaped(value: &[u8], classes: &[u8; 256], out: &mut [u8], n: usize) -> usize
+    requires { ⌜ Classes (now classes) × (n + 6 * length (now value) < 2 ^ 62) ⌝ }
+    ensures { λ r. ⌜ Puts (escape (now (value .entry))) n (now (out .entry)) (now (out .exit)) r ⌝ }
+{
+    let mut at = 0;
+    let mut m = n;
+    while at < value.len() {
+        let b = value[at];
+        if scan::is_escapable(classes, b) {
+            m = put::put_reference(out, m, b);
+            at += 1;
+        } else {
+            m = tables::put_byte(out, m, b);
+            at += 1;
+        }
+    }
+    m
 }

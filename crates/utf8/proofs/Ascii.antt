@@ -1,7 +1,7 @@
 -- Runs of bytes below 128, by blocks and byte by byte.
 -- Assumes nothing.
 use Prim.Native.Nat.{ℕ, _+_, _-_, _≤_, _<_}
-use mathlib.Core.Path.{_≡_, refl, sym, _∙_}
+use mathlib.Core.Path.{_≡_}
 use mathlib.Core.List.{List}
 use borrow.Author.Needs.{needs}
 use native.Mathlib.Omega.{arith}

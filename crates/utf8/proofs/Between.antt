@@ -1,7 +1,7 @@
 -- What is left of a well-formed text once it is trimmed: its ends are in order, and it is well-formed.
 -- Assumes nothing.
-use Prim.Native.Nat.{ℕ, _+_, _-_, _≤_, _<_}
-use mathlib.Core.Path.{_≡_, refl, ap, sym, _∙_}
+use Prim.Native.Nat.{ℕ, _+_, _-_, _≤_}
+use mathlib.Core.Path.{_≡_, refl}
 use mathlib.Core.List.{List, [], _∷_, _++_, append-nil, reverse, reverse-cons, reverse-reverse}
 use mathlib.Core.Bool.{Bool, true, false}
 use native.Mathlib.Omega.{arith}
@@ -11,7 +11,6 @@ use Rattle.slices.specs.Bytes.{if}
 use Rattle.utf8.specs.WellFormed.{illFormed}
 use Rattle.utf8.specs.WhiteSpace.{characters, codePoint, whiteSpace, leading, trimStart, trimEnd}
 use Rattle.utf8.specs.Trim.{Boundary, trailing}
-use Rattle.utf8.proofs.Sequences.{Char}
 use Rattle.utf8.proofs.Texts.{All, joined, joined-append, all-append, Whole, whole, formed, none-whole, whole-append, whole-char, characters-whole}
 
 -- the first characters that are White_Space, and those after them

@@ -3,10 +3,9 @@
 use Prim.Native.Nat.{ℕ, zero, suc, _+_, _-_, _≤_, _<_}
 use mathlib.Core.Path.{_≡_, refl, ap, sym, _∙_}
 use mathlib.Core.List.{List, [], _∷_, _++_}
-use native.Mathlib.Numerals.{add-one}
 use native.Mathlib.Omega.{arith}
-use lib.ListN.{length, take, drop, getD, length-append, length-drop, length-take, take-append-drop, List·getD-append}
-use lib.Seq.{take-append-add, drop-append-add, getD-append-add, getD-drop, take-length, drop-length, take-all, take-add, drop-drop, drop-cons, length-take-le}
+use lib.ListN.{length, take, drop, getD, length-append, length-drop, take-append-drop, List·getD-append}
+use lib.Seq.{take-append-add, drop-append-add, getD-append-add, getD-drop, take-length, drop-length, take-all, take-add, drop-drop, drop-cons}
 use Rattle.utf8.specs.WellFormed.{sequence, illFormed}
 use Rattle.utf8.specs.Trim.{Boundary}
 use Rattle.utf8.proofs.Sequences.{Followed, Char, char-shape, below}

@@ -1,21 +1,18 @@
 -- Trimming from the end: back to the start of the last character, one character after the other.
 -- Assumes nothing.
-use Prim.Native.Nat.{ℕ, zero, suc, _+_, _-_, _≤_, _<_, _^_}
+use Prim.Native.Nat.{ℕ, _+_, _-_, _≤_, _<_, _^_}
 use mathlib.Core.Path.{_≡_, refl, ap, sym, _∙_}
-use mathlib.Core.List.{List, [], _∷_, _++_, append-assoc, append-nil, reverse, reverse-append}
-use mathlib.Core.Bool.{Bool, true, false}
+use mathlib.Core.List.{List, [], _∷_, _++_, append-assoc, append-nil, reverse-append}
 use borrow.Author.Needs.{needs}
-use native.Mathlib.Nat.{add-zero}
 use native.Mathlib.Omega.{arith}
 use mir.Syntax.{w64}
 use mir.Val.{Fits}
-use lib.ListN.{length, take, drop, getD, length-append, length-drop, take-append-drop, List·getD-append}
-use lib.Seq.{take-length, take-add, take-at, drop-at, take-append-seam, drop-append-seam, getD-append-add, length-take-le, getD-take, getD-drop, take-all}
+use lib.ListN.{length, take, drop, getD, length-append, length-drop, take-append-drop}
+use lib.Seq.{take-length, take-add, take-append-seam, drop-append-seam, length-take-le, getD-take, getD-drop, take-all}
 use Rattle.slices.specs.Bytes.{if}
 use Rattle.utf8.specs.WellFormed.{sequence, illFormed}
-use Rattle.utf8.specs.WhiteSpace.{characters, codePoint, whiteSpace, leading, trimStart, trimEnd, Trims}
+use Rattle.utf8.specs.WhiteSpace.{characters, codePoint, whiteSpace, trimEnd, Trims}
 use Rattle.utf8.specs.Trim.{Boundary, Last, Starts, Ends, white, trailing}
-use Rattle.utf8.specs.declared.Trimmed.{Trimmed}
 use Rattle.utf8.proofs.Sequences.{Char, char-first, below}
 use Rattle.utf8.proofs.Texts.{All, joined, joined-append, all-append, Whole, none-whole, whole, formed, whole-append, whole-char, sequence-char, characters-joined}
 use Rattle.utf8.proofs.Cuts.{cut-end, cut-is-lead, char-next}
@@ -176,8 +173,8 @@ rest-is : (s : List ℕ) (a : ℕ) → take (length s - a) (drop a s) ≡ drop a
 rest-is s a = take-all (length s - a) (drop a s) (omega (arith, length-drop a s))
 
 module _ {s : List ℕ} {a : ℕ} (t : Starts s a) where
-  pub rest-formed : illFormed (take (length s - a) (drop a s)) ≡ length (take (length s - a) (drop a s))
-  rest-formed = rw (rest-is s a) (t .cut .after)
+  pub lent-formed : illFormed (take (length s - a) (drop a s)) ≡ length (take (length s - a) (drop a s))
+  lent-formed = rw (rest-is s a) (t .cut .after)
 
   module _ {n : ℕ} (e : Ends (take (length s - a) (drop a s)) n) where
     both : n + trailing (drop a s) ≡ length s - a
@@ -190,4 +187,4 @@ module _ {s : List ℕ} {a : ℕ} (t : Starts s a) where
     pub both-fit : length s < 2 ^ 64 → Fits w64 (a + n)
     both-fit h = omega (arith, both, t .cut .inside)
 
-pub ruleset boths = (rest-formed, both-ends, both-fit, needs)
+pub ruleset boths = (lent-formed, both-ends, both-fit, needs)

@@ -1,6 +1,6 @@
 -- The character at a place where a text may be cut: its bytes, its code point, and whether it is White_Space.
 -- Assumes nothing.
-use Prim.Native.Nat.{ℕ, zero, suc, _+_, _-_, _*_, _≤_, _<_}
+use Prim.Native.Nat.{ℕ, zero, suc, _+_, _≤_, _<_}
 use mathlib.Core.Path.{_≡_, refl, ap, sym, _∙_}
 use mathlib.Core.List.{List, [], _∷_}
 use mathlib.Core.Bool.{Bool, true, false}
@@ -15,7 +15,7 @@ use Rattle.utf8.specs.WellFormed.{to, table, within, sequence}
 use Rattle.utf8.specs.WhiteSpace.{codePoint, whiteSpace}
 use Rattle.utf8.specs.Trim.{Boundary, white}
 use Rattle.utf8.specs.Sequence.{taken}
-use Rattle.utf8.proofs.Sequences.{Leads, Shape, shape, only, within-bounds, below}
+use Rattle.utf8.proofs.Sequences.{Leads, shape, only, within-bounds, below}
 use Rattle.utf8.proofs.Texts.{sequence-none}
 use Rattle.utf8.proofs.Cuts.{followed-byte}
 use Rattle.utf8.proofs.WhiteSpaces.{white-no}

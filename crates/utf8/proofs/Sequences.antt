@@ -1,17 +1,18 @@
 -- One sequence: which row of the table its first byte picks, what follows that byte, and what stands before other bytes.
 -- Assumes nothing.
-use Prim.Native.Nat.{ℕ, zero, suc, pred, _+_, _≤_, _<_}
+use Prim.Native.Nat.{ℕ, zero, suc, _≤_, _<_}
 use mathlib.Core.Path.{_≡_, refl, ap, sym, _∙_}
 use mathlib.Core.List.{List, [], _∷_, _++_, append-nil}
 use mathlib.Core.Bool.{Bool, true, false, _&&_}
-use borrow.Author.Tests.{le-leb, lt-leb, leb-true, leb-false}
+use borrow.Author.Tests.{le-leb, leb-true}
 use native.Mathlib.Decide.{decLt}
 use native.Mathlib.Omega.{arith}
 use lib.Dec.{leb}
 use lib.ListN.{length, take}
 use lib.Seq.{length-take-le, take-length}
 use Rattle.slices.specs.Bytes.{if}
-use Rattle.utf8.specs.WellFormed.{Range, to, table, within, begins, firstRow, sequence}
+use Rattle.slices.proofs.Runs.{both}
+use Rattle.utf8.specs.WellFormed.{Range, table, within, begins, firstRow, sequence}
 use Rattle.utf8.specs.Sequence.{taken}
 
 pub within-true : (r : Range) (b : ℕ) → r .low ≤ b → b ≤ r .high → within r b ≡ true
@@ -132,10 +133,6 @@ pub record Shape (a n : ℕ) (l : List ℕ) : Type 0 where
 if-some : (t : Bool) (n k : ℕ) → if t (suc k) 0 ≡ suc n → (t ≡ true) × (k ≡ n)
 if-some true n k e = (refl, omega arith)
 if-some false n k e = absurd (omega arith)
-
-both : (t u : Bool) → if t u false ≡ true → (t ≡ true) × (u ≡ true)
-both true u e = (refl, e)
-both false u e = (cc, cc)
 
 begins-follow : (rs : List Range) (l : List ℕ) → Tails rs → begins rs l ≡ true → Followed (length rs) l
 begins-follow [] l t e = tt

@@ -1,15 +1,15 @@
 -- Well-formed texts: they are characters, one after the other; where they may be cut, and how they are put together.
 -- Assumes nothing.
-use Prim.Native.Nat.{ℕ, zero, suc, pred, _+_, _-_, _≤_, _<_}
+use Prim.Native.Nat.{ℕ, zero, suc, _+_, _≤_, _<_}
 use mathlib.Core.Path.{_≡_, refl, ap, sym, _∙_}
 use mathlib.Core.List.{List, [], _∷_, _++_, append-nil, append-assoc}
 use native.Mathlib.Nat.{add-zero}
 use native.Mathlib.Omega.{arith}
 use lib.ListN.{length, take, drop, getD, length-append, length-drop, take-append-drop}
-use lib.Seq.{take-append-seam, length-take-le}
+use lib.Seq.{take-append-seam}
 use Rattle.utf8.specs.WellFormed.{sequence, onward, illFormedFrom, illFormed}
 use Rattle.utf8.specs.WhiteSpace.{charactersFrom, characters}
-use Rattle.utf8.proofs.Sequences.{Char, Shape, ascii-first, shape, shape-char, char-first, char-shape}
+use Rattle.utf8.proofs.Sequences.{Char, ascii-first, shape, shape-char, char-first}
 
 abbrev pub All : List (List ℕ) → Type 0
 All [] = Unit {0}

@@ -1,24 +1,23 @@
 -- Trimming: from the start, character by character; from the end, back to the start of the last character.
 -- Assumes nothing.
-use Prim.Native.Nat.{ℕ, zero, suc, _+_, _-_, _≤_, _<_, _^_}
-use mathlib.Core.Path.{_≡_, refl, ap, sym, _∙_}
-use mathlib.Core.List.{List, [], _∷_, _++_, reverse, reverse-append, reverse-cons}
+use Prim.Native.Nat.{ℕ, _+_, _≤_, _<_, _^_}
+use mathlib.Core.Path.{_≡_, refl, sym, _∙_}
+use mathlib.Core.List.{List, _++_}
 use mathlib.Core.Bool.{Bool, true, false}
 use borrow.Author.Needs.{needs}
 use native.Mathlib.Nat.{add-zero}
 use native.Mathlib.Omega.{arith}
 use mir.Syntax.{w64}
 use mir.Val.{Fits}
-use lib.ListN.{length, take, drop, getD, length-append, length-drop, take-append-drop, drop-of-length-le}
-use lib.Seq.{take-length, drop-drop, length-take-le, take-append-le, take-all}
+use lib.ListN.{length, take, drop, length-drop, take-append-drop, drop-of-length-le}
+use lib.Seq.{drop-drop, length-take-le}
 use Rattle.slices.specs.Bytes.{if}
 use Rattle.utf8.specs.WellFormed.{sequence, illFormed}
-use Rattle.utf8.specs.WhiteSpace.{characters, codePoint, whiteSpace, leading, trimStart, trimEnd, Trims}
-use Rattle.utf8.specs.Trim.{Boundary, Last, Starts, Ends, white, trailing}
-use Rattle.utf8.specs.declared.Trimmed.{Trimmed}
-use Rattle.utf8.proofs.Sequences.{Char, below}
-use Rattle.utf8.proofs.Texts.{All, joined, Whole, whole, formed, whole-char, sequence-char, sequence-none, characters-first, characters-joined}
-use Rattle.utf8.proofs.Cuts.{cut-start, cut-end, cut-past}
+use Rattle.utf8.specs.WhiteSpace.{characters, codePoint, whiteSpace, trimStart}
+use Rattle.utf8.specs.Trim.{Boundary, Starts, white}
+use Rattle.utf8.proofs.Sequences.{Char}
+use Rattle.utf8.proofs.Texts.{whole-char, sequence-char, sequence-none, characters-first}
+use Rattle.utf8.proofs.Cuts.{cut-start, cut-past}
 
 -- some sequence stands first in a well-formed text that is not empty
 some-first : (l : List ℕ) → illFormed l ≡ length l → 0 < length l → sequence l ≡ 0 → ⊥

@@ -1,12 +1,11 @@
 -- Code points: which are White_Space.
 -- Assumes nothing.
 use Prim.Native.Nat.{ℕ, _≤_, _<_}
-use mathlib.Core.Path.{_≡_, refl, sym, _∙_}
-use mathlib.Core.Bool.{Bool, true, false}
+use mathlib.Core.Path.{_≡_, sym}
+use mathlib.Core.Bool.{true, false}
 use borrow.Author.Needs.{needs}
-use borrow.Author.Tests.{ne-eqb, le-leb}
+use borrow.Author.Tests.{ne-eqb}
 use native.Mathlib.Omega.{arith}
-use lib.Dec.{eqb, leb}
 use Rattle.utf8.specs.WellFormed.{to}
 use Rattle.utf8.specs.WhiteSpace.{whiteSpace}
 use Rattle.utf8.proofs.Sequences.{within-true, within-false}

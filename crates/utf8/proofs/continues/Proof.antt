@@ -1,4 +1,4 @@
--- `utf8::continues` meets its contract.
+-- `utf8::continues` meets its contract. Each need follows by the laws on bytes at a place.
 -- Assumes nothing.
 use Rattle.utf8.proofs.Follows.{bytes}
 use Rattle.utf8.proofs.continues.Statement.{statement}

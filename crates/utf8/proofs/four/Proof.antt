@@ -1,4 +1,4 @@
--- `utf8::four` meets its contract.
+-- `utf8::four` meets its contract. Each need follows by the laws on bytes that follow the first.
 -- Assumes nothing.
 use Rattle.utf8.proofs.Follows.{takes}
 use Rattle.utf8.proofs.four.Statement.{statement}

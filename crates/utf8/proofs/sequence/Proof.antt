@@ -1,4 +1,4 @@
--- `utf8::sequence` meets its contract.
+-- `utf8::sequence` meets its contract. Each need follows by the laws on first bytes.
 -- Assumes nothing.
 use Rattle.utf8.proofs.Follows.{firsts}
 use Rattle.utf8.proofs.sequence.Statement.{statement}

@@ -1,4 +1,4 @@
--- `utf8::trim` meets its contract.
+-- `utf8::trim` meets its contract. Each need follows by the laws on both ends.
 -- Assumes nothing.
 use Rattle.utf8.proofs.Ends.{boths}
 use Rattle.utf8.proofs.trim.Statement.{statement}

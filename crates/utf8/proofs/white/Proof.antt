@@ -1,4 +1,4 @@
--- `utf8::white` meets its contract.
+-- `utf8::white` meets its contract. Each need follows by the laws on the character at a place.
 -- Assumes nothing.
 use Rattle.utf8.proofs.Points.{points}
 use Rattle.utf8.proofs.white.Statement.{statement}

@@ -1,4 +1,4 @@
--- `utf8::wide_space` meets its contract.
+-- `utf8::wide_space` meets its contract. Each need follows by the laws on code points.
 -- Assumes nothing.
 use Rattle.utf8.proofs.WhiteSpaces.{whites}
 use Rattle.utf8.proofs.wide_space.Statement.{statement}
