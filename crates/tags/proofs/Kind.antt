@@ -1,16 +1,16 @@
 -- The kind of a name: by its length, and by the place of its last colon.
 -- Assumes nothing.
-use Prim.Native.Nat.{ℕ, zero, suc, _+_, _-_, _≤_, _<_}
+use Prim.Native.Nat.{ℕ, zero, suc, _-_, _≤_, _<_}
 use mathlib.Core.Path.{_≡_, refl, sym, _∙_}
 use mathlib.Core.List.{List, [], _∷_}
-use mathlib.Core.Bool.{Bool, true, false, not, _&&_}
+use mathlib.Core.Bool.{Bool, true, false}
 use borrow.Author.Needs.{needs}
-use borrow.Author.Tests.{eq-eqb, ne-eqb, eqb-true, eqb-false}
+use borrow.Author.Tests.{ne-eqb, eqb-false}
 use native.Mathlib.Omega.{arith}
 use lib.Dec.{eqb}
 use lib.ListN.{length, take, drop, getD, length-drop, drop-of-length-le}
 use lib.Seq.{drop-cons, take-all}
-use Rattle.slices.specs.Bytes.{if, bytes, other, all, same}
+use Rattle.slices.specs.Bytes.{if, other, all, same}
 use Rattle.slices.proofs.Runs.{same-short}
 use Rattle.document.specs.Elements.{localName, localKind, kindOf}
 use Rattle.tags.specs.Kinds.{numbered, exactKinds, localKinds, exactKind, Local}

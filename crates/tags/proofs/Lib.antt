@@ -2,5 +2,6 @@
 -- Assumes nothing.
 pub mod Kind
 pub mod Parts
+pub mod Startings
 pub mod Nexts
 pub mod Stepping

@@ -1,22 +1,18 @@
 -- A step in an open element: how a run goes on after each token.
 -- Assumes nothing.
-use Prim.Native.Nat.{ℕ, _+_, _-_, _≤_, _<_}
-use mathlib.Core.Path.{_≡_, refl, sym, _∙_}
-use mathlib.Core.List.{List, [], _∷_}
+use Prim.Native.Nat.{ℕ, _+_, _-_, _≤_}
+use mathlib.Core.Path.{_≡_, sym, _∙_}
+use mathlib.Core.List.{List, _∷_}
 use mathlib.Core.Bool.{Bool, true, false}
 use borrow.Author.Needs.{needs}
 use mir.Syntax.{w64}
 use mir.Val.{Fits}
 use native.Mathlib.Omega.{arith}
-use lib.ListN.{length, take, drop, getD}
+use lib.ListN.{length, take, drop}
 use Rattle.slices.specs.Bytes.{same}
-use Rattle.document.specs.Tokens as tokens
-use Rattle.document.specs.Tokens.{start, close, fault, end, more, last, next}
-use Rattle.document.specs.Rows.{Tables}
-use Rattle.document.specs.Tags.{Shown}
+use Rattle.document.specs.Tokens.{start, close, fault, end}
 use Rattle.document.specs.Reading as reading
-use Rattle.document.specs.Reading.{Frame, State, refused, nameOf, shut, run}
-use Rattle.document.specs.Outcome.{whole, runs, Tokenises, Steps}
+use Rattle.document.specs.Outcome.{whole, Tokenises, Steps}
 use Rattle.document.specs.declared.ClosingTag.{ClosingTag}
 use Rattle.document.specs.declared.StartTag.{StartTag}
 use Rattle.document.specs.declared.Token.{Token}

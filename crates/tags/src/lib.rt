@@ -1,15 +1,20 @@
 // Tags: the kind of a name, closing tags, start tags, and the next token from a place on.
 ghost use mathlib.Core.Path.{_≡_};
-ghost use Prim.Native.Nat.{_+_, _≤_, _<_};
-ghost use lib.ListN.{length, drop, getD};
+ghost use Prim.Native.Nat.{_+_, _≤_};
+ghost use lib.ListN.{length, drop};
 ghost use Rattle.slices.specs.Bytes.{if, same};
 ghost use Rattle.scan.specs.Classes.{Classes};
-ghost use Rattle.document.specs.Tokens.{closing};
+ghost use Rattle.document.specs.Tokens.{opening, closing, tag};
 ghost use Rattle.document.specs.Elements.{localKind, kindOf};
+ghost use Rattle.document.specs.Outcome.{Tokenises, Steps};
 ghost use Rattle.tags.specs.Kinds.{exactKind, Local};
 ghost use Rattle.tags.specs.Outcome.{TagStart, TagAt, Ends};
+use attributes::Attrs;
 use document::ClosingTag;
+use document::Next;
+use document::StartTag;
 use document::Token;
+use scan::Scan;
 
 // Where a start tag's end was wanted, or whether it is `/>` and the place after it.
 pub enum TagEnd {
@@ -131,14 +136,95 @@ fn tag_end(doc: &[u8], classes: &[u8; 256], from: usize) -> TagEnd
         return TagEnd::Here(false, at + 1);
     }
     if doc[at] != b'/' {
-        return TagEnd::Missing(at); // neither
+        return TagEnd::Missing(at);
     }
     let next = at + 1;
     if doc.len() <= next {
         return TagEnd::Missing(at);
     }
     if doc[next] != b'>' {
-        return TagEnd::Missing(at);
+        return TagEnd::Missing(at); // at the slash
     }
     TagEnd::Here(true, at + 2)
+}
+
+// The start tag whose `<` stands at a place.
+fn start_tag(doc: &[u8], classes: &[u8; 256], lt: usize) -> Token
+    requires { ⌜ TagStart (now doc) lt × Classes (now classes) ⌝ }
+    ensures { λ r. ⌜ TagAt (now (doc .entry)) lt (opening (drop (lt + 1) (now (doc .entry))) lt) r ⌝ }
+{
+    let at = lt + 1;
+    let named = scan::name_end(doc, classes, at);
+    if named == at {
+        return Token::Fault(4, at);
+    }
+    match attributes::attributes(doc, classes, named) {
+        Attrs::Fault(number, place) => Token::Fault(number, place),
+        Attrs::All(from, values) => match tag_end(doc, classes, from) {
+            TagEnd::Missing(place) => Token::Fault(4, place),
+            TagEnd::Here(closes, end) => {
+                let kind = kind_of(&doc[at..named]);
+                Token::Start(StartTag {
+                    at,
+                    len: named - at,
+                    kind,
+                    closes,
+                    end,
+                    values,
+                })
+            }
+        },
+    }
+}
+
+// The tag whose `<` stands at a place.
+fn tag(doc: &[u8], classes: &[u8; 256], lt: usize) -> Token
+    requires { ⌜ TagStart (now doc) lt × Classes (now classes) ⌝ }
+    ensures { λ r. ⌜ TagAt (now (doc .entry)) lt (tag (drop (lt + 1) (now (doc .entry))) lt) r ⌝ }
+{
+    let next = lt + 1;
+    if doc.len() <= next {
+        return Token::Fault(4, next);
+    }
+    if doc[next] == b'/' {
+        return closing_tag(doc, classes, lt);
+    }
+    start_tag(doc, classes, lt)
+}
+
+// The next token from a place on.
+pub fn token(doc: &[u8], classes: &[u8; 256], from: usize) -> Token
+    requires { ⌜ (from ≤ length (now doc)) × (length (now doc) ≤ 1048576) × Classes (now classes) ⌝ }
+    ensures { λ r. ⌜ Tokenises (now (doc .entry)) from r ⌝ }
+{
+    match scan::ignorable(doc, from) {
+        Scan::Fault(number, place) => Token::Fault(number, place),
+        Scan::At(at) => {
+            if doc.len() <= at {
+                return Token::End(at);
+            }
+            tag(doc, classes, at)
+        }
+    }
+}
+
+// What comes next in an open element, whose name stands at a place with a length: 5 at the end, 6 after another closing tag.
+pub fn step(doc: &[u8], classes: &[u8; 256], from: usize, at: usize, len: usize) -> Next
+    requires { ⌜ (from ≤ length (now doc)) × (at + len ≤ length (now doc)) × (length (now doc) ≤ 1048576) × Classes (now classes) ⌝ }
+    ensures { λ r. ⌜ Steps (now (doc .entry)) from at len r ⌝ }
+{
+    match token(doc, classes, from) {
+        Token::Fault(number, place) => Next::Fault(number, place),
+        Token::End(place) => Next::Fault(5, place),
+        Token::Close(c) => {
+            let open = at + len;
+            let named = c.at;
+            let close = named + c.len;
+            if slices::equal(&doc[named..close], &doc[at..open]) {
+                return Next::Close(c.lt, c.end);
+            }
+            Next::Fault(6, c.end)
+        }
+        Token::Start(c) => Next::Start(c),
+    }
 }
