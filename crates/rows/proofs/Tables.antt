@@ -1,28 +1,28 @@
 -- Lent buffers that stand for tables: with a row more, a warning more, a docstring; and with the last rows given back.
 -- Assumes nothing.
-use Prim.Native.Nat.{ℕ, zero, suc, _+_, _-_, _*_, _≤_, _<_}
+use Prim.Native.Nat.{ℕ, _+_, _-_, _≤_, _<_}
 use mathlib.Core.Path.{_≡_, refl, sym, ap, _∙_}
 use mathlib.Core.List.{List, [], _∷_, _++_}
-use mathlib.Core.Option.{Option, none}
+use mathlib.Core.Option.{none}
 use borrow.Author.Needs.{needs}
 use native.Mathlib.Nat.{mul-one}
 use native.Mathlib.Omega.{arith}
 use lib.ListN.{length, take, drop, length-append, take-append-drop, length-take}
 use lib.Seq.{length-take-le, take-append-le}
-use Rattle.tables.specs.Table.{Rep, Put, Documented}
+use Rattle.tables.specs.Table.{Put, Documented}
 use Rattle.tables.proofs.Tables.{given-back-to}
 use Rattle.references.specs.Outcome.{Puts}
 use Rattle.references.proofs.Putting.{puts-then}
 use Rattle.document.specs.Tags.{Shown}
-use Rattle.document.specs.Rows.{Row, Tables, documented, textOf, triple, rowText, rowWords, wordsFrom, texts, warned}
-use Rattle.document.specs.Reading.{withRow, withWarning}
+use Rattle.document.specs.Rows.{Row, Tables, documented, textOf, rowText, rowWords, wordsFrom, texts, warned}
+use Rattle.document.specs.Reading.{withRow}
 use Rattle.document.specs.Outcome.{ValueIs, Lent, lent, Stands}
 use Rattle.document.specs.declared.Value.{Value}
 use Rattle.document.specs.declared.Fill.{Fill}
 use Rattle.rows.specs.Outcome.{Places, RowPut, WarningPut}
 use Rattle.rows.specs.declared.Head.{Head}
 use Rattle.rows.specs.declared.Placed.{Placed}
-use Rattle.rows.proofs.Words.{length-wordsFrom, length-warned, texts-append, wordsFrom-append, warned-append, texts-more, wordsFrom-more, length-documented, texts-documented, wordsFrom-documented}
+use Rattle.rows.proofs.Words.{length-wordsFrom, texts-append, wordsFrom-append, warned-append, texts-more, wordsFrom-more, length-documented, texts-documented, wordsFrom-documented}
 
 -- the text's count
 pub text-counted : {u : Tables Shown} {b : Lent} {f : Fill} → Stands u b f → length (texts (u .rows)) ≡ f .text

@@ -2,9 +2,10 @@
 -- Assumes nothing.
 use Prim.Native.Nat.{ℕ, suc, _+_, _*_, _≤_, _<_}
 use mathlib.Core.Path.{_≡_}
+use mathlib.Core.Logic.{_⊎_}
 use mathlib.Core.List.{List, [], _∷_}
 use mathlib.Core.Option.{Option, none}
-use lib.ListN.{length}
+use lib.ListN.{length, take, drop}
 use Rattle.references.specs.Outcome.{Puts}
 use Rattle.document.specs.Tags.{Shown}
 use Rattle.document.specs.Rows.{Row, Tables, triple, textOf}
@@ -19,6 +20,11 @@ use Rattle.rows.specs.declared.Placed.{Placed}
 pub record Lies (doc : List ℕ) (v : Value) : Type 0 where
   pub small : length doc ≤ 1048576
   pub inside : v .at + v .len ≤ length doc
+
+-- the raw bytes of a value
+pub record Raw (doc : List ℕ) (v : Value) (r : List ℕ) : Type 0 where
+  pub is : r ≡ take (v .len) (drop (v .at) doc)
+  pub many : length r ≡ v .len
 
 -- what placing a value says, when n bytes of text stand before it: the words of its triple, and its bytes put
 pub record Places (doc : List ℕ) (v : Value) (n : ℕ) (before after : List ℕ) (r : Placed) : Type 0 where
@@ -75,6 +81,11 @@ pub record WarningPut (reason place len : ℕ) (f : Fill) (before after : List �
       → length name ≡ len
       → Stands u (lent rows before text) f
       → Stands (withWarning reason lt name u) (lent rows after text) r
+
+-- what unescaping a value into a buffer of 256 bytes says: the beginning of the buffer is the text, or both have more than 255 bytes
+pub record Changed (doc : List ℕ) (v : Value) (buf : List ℕ) (r : ℕ) : Type 0 where
+  pub inside : r ≤ length buf
+  pub is : (s : Shown) → Held doc v s → (take r buf ≡ s .value) ⊎ ((255 < r) × (255 < length (s .value)))
 
 -- the answer is that of a function of texts, at the text that a value shows
 pub record Tests {A : Type 0} (p : List ℕ → A) (doc : List ℕ) (v : Value) (r : A) : Type 0 where
