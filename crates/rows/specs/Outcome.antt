@@ -33,11 +33,16 @@ pub record Places (doc : List ℕ) (v : Value) (n : ℕ) (before after : List �
   pub words : (o : Option Shown) → ValueIs doc v o → triple n o ≡ r .source ∷ r .start ∷ r .len ∷ []
   pub puts : (o : Option Shown) → ValueIs doc v o → Puts (textOf o) n before after (r .text)
 
+-- the words of a row with three values that are placed, and no docstring
+abbrev pub placed : Head → Placed → Placed → Placed → List ℕ
+placed h a b c =
+    h .kind ∷ h .parent ∷ a .source ∷ a .start ∷ a .len ∷ b .source ∷ b .start ∷ b .len ∷ c .source ∷ c .start ∷ c .len ∷ 0 ∷ 0 ∷ 0 ∷ h .word ∷ 0 ∷ []
+
 -- the bounds within which every word of a row fits
 pub record RowFits (doc : List ℕ) (h : Head) (name second tp : Value) (f : Fill) : Type 0 where
   pub small : length doc ≤ 1048576
   pub named : name .at + name .len ≤ length doc
-  pub seconded : second .at + second .len ≤ length doc
+  pub valued : second .at + second .len ≤ length doc
   pub typed : tp .at + tp .len ≤ length doc
   pub parent : h .parent ≤ 1048576
   pub rows : f .rows < 1048576

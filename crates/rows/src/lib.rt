@@ -1,11 +1,12 @@
 // Rows and warnings in the tables that a caller lends, and tests on the text that a value shows.
 ghost use mathlib.Core.Path.{_≡_};
-ghost use Prim.Native.Nat.{_+_, _*_, _<_, _≤_};
+ghost use Prim.Native.Nat.{_*_, _<_, _≤_};
 ghost use lib.ListN.{length};
+ghost use Rattle.tables.specs.Table.{Put};
 ghost use Rattle.names.specs.Names.{interfaceName, memberName, propertyName};
 ghost use Rattle.names.specs.Signature.{basicSignature, signature};
 ghost use Rattle.document.specs.Elements.{accessOf, directionOf, someSignature};
-ghost use Rattle.rows.specs.Outcome.{Lies, Raw, Places, RowFits, RowPut, WarningFits, WarningPut, Changed, Tests};
+ghost use Rattle.rows.specs.Outcome.{Lies, Raw, Places, placed, RowFits, RowPut, WarningFits, WarningPut, Changed, Tests};
 
 mod texts;
 
@@ -67,23 +68,11 @@ fn place(doc: &[u8], text: &mut [u8], v: Value, n: usize) -> Placed
     }
 }
 
-// Adds a row where a whole one has room, and the text of its changed values; counts in any case.
-pub fn put_row(
-    doc: &[u8],
-    rows: &mut [u32],
-    text: &mut [u8],
-    head: Head,
-    name: Value,
-    second: Value,
-    tp: Value,
-    f: Fill,
-) -> Fill
-    requires { ⌜ RowFits (now doc) head name second tp f ⌝ }
-    ensures { λ r. ⌜ RowPut (now (doc .entry)) head name second tp f (now (rows .entry)) (now (rows .exit)) (now (text .entry)) (now (text .exit)) r ⌝ }
+// Adds the words of a row where a whole one has room, and counts it in any case.
+fn put_placed(rows: &mut [u32], n: usize, head: Head, a: Placed, b: Placed, c: Placed) -> usize
+    requires { ⌜ (n < 1048576) × (head .parent ≤ 1048576) ⌝ }
+    ensures { λ r. ⌜ Put 16 (placed head a b c) n (now (rows .entry)) (now (rows .exit)) r ⌝ }
 {
-    let a = place(doc, text, name, f.text);
-    let b = place(doc, text, second, a.text);
-    let c = place(doc, text, tp, b.text);
     let row = [
         head.kind,
         head.parent as u32,
@@ -102,7 +91,27 @@ pub fn put_row(
         head.word,
         0,
     ];
-    let n = tables::put_words(rows, f.rows, &row);
+    tables::put_words(rows, n, &row)
+}
+
+// Adds a row where a whole one has room, and the text of its changed values; counts in any case.
+pub fn put_row(
+    doc: &[u8],
+    rows: &mut [u32],
+    text: &mut [u8],
+    head: Head,
+    name: Value,
+    second: Value,
+    tp: Value,
+    f: Fill,
+) -> Fill
+    requires { ⌜ RowFits (now doc) head name second tp f ⌝ }
+    ensures { λ r. ⌜ RowPut (now (doc .entry)) head name second tp f (now (rows .entry)) (now (rows .exit)) (now (text .entry)) (now (text .exit)) r ⌝ }
+{
+    let a = place(doc, text, name, f.text);
+    let b = place(doc, text, second, a.text);
+    let c = place(doc, text, tp, b.text);
+    let n = put_placed(rows, f.rows, head, a, b, c);
     Fill {
         at: f.at,
         rows: n,
