@@ -1,30 +1,30 @@
 -- Tests on the text that a value shows: in the document, or in a buffer of 256 bytes; a longer text fails each of them.
 -- Assumes nothing.
-use Prim.Native.Nat.{ℕ, zero, suc, _+_, _-_, _≤_, _<_}
+use Prim.Native.Nat.{ℕ, suc, _≤_, _<_}
 use mathlib.Core.Path.{_≡_, refl, sym, ap, _∙_}
-use mathlib.Core.List.{List, [], _∷_, _++_}
+use mathlib.Core.Logic.{inl, inr, ⊎-elim}
+use mathlib.Core.List.{List, [], _∷_}
 use mathlib.Core.Bool.{Bool, true, false, not, _&&_, _||_}
 use borrow.Author.Needs.{needs}
 use borrow.Author.Tests.{lt-leb}
-use native.Mathlib.Nat.{mul-one}
 use native.Mathlib.Omega.{arith}
-use lib.Dec.{eqb, leb}
-use lib.ListN.{length, take, drop, getD}
+use lib.Dec.{eqb}
+use lib.ListN.{length, take}
 use lib.Seq.{length-take-le, ext-getD, getD-take}
-use Rattle.slices.specs.Bytes.{if, bytes, all, empty, same}
+use Rattle.slices.specs.Bytes.{if, bytes, all, same}
 use Rattle.slices.proofs.Runs.{both, same-short}
 use Rattle.tables.specs.Table.{Rep}
 use Rattle.tables.proofs.Tables.{whole-one, empty-stands}
-use Rattle.names.specs.Names.{interfaceName, memberName, propertyName, every, element, elements}
+use Rattle.names.specs.Names.{interfaceName, memberName, propertyName}
 use Rattle.names.specs.Signature.{signature, basicCode, basicSignature}
-use Rattle.references.specs.Unescape.{Piece, text, shows, piece, shownFrom, unescape, plain}
+use Rattle.references.specs.Unescape.{text, shows, piece, shownFrom, unescape, plain}
 use Rattle.references.specs.Outcome.{Shows}
 use Rattle.document.specs.Tags.{Shown}
 use Rattle.document.specs.Elements.{someSignature, accessOf, directionOf}
 use Rattle.document.specs.Outcome.{Held}
 use Rattle.document.specs.declared.Value.{Value}
-use Rattle.rows.specs.Outcome.{Tests, Short}
-use Rattle.rows.proofs.Values.{held-plain, held-raw}
+use Rattle.rows.specs.Outcome.{Raw, Changed, Tests, Short}
+use Rattle.rows.proofs.Values.{held-plain, held-raw, held-puts}
 
 -- ---- a value without special bytes shows itself
 
@@ -57,35 +57,46 @@ unescape-plain l h = shown-plain l 0 h
 
 -- ---- tests
 
--- the bytes put into a buffer stand for the text
-shown-stands : {doc : List ℕ} {v : Value} {t t′ : List ℕ} {n : ℕ} {s : Shown} → Shows (take (v .at + v .len - v .at) (drop (v .at) doc)) 0 t t′ n → Held doc v s → Rep 1 t′ n (s .value)
-shown-stands {t = t} {s = s} w h = w .puts (s .value) (rw (held-raw h) (h .shows)) .stands [] (empty-stands 1 t)
-
 stands-read : {t xs : List ℕ} {n : ℕ} → Rep 1 t n xs → n ≤ length t → take n t ≡ xs
 stands-read {t} {xs} {n} z h =
     let c : length (take n t) ≡ n = length-take-le n t h in
     ext-getD 0 (take n t) xs (omega (arith, z .many))
     (λ i b. getD-take n t i 0 (omega arith) ∙ z .holds i (omega (arith, z .many)) (rw whole-one (omega arith)))
 
-module _ {A : Type 0} {p : List ℕ → A} {doc : List ℕ} {v : Value} {r : A} where
-  pub tests-plain : v .kind ≡ 1 → r ≡ p (take (v .at + v .len - v .at) (drop (v .at) doc)) → Tests p doc v r
-  tests-plain k e = record {
-    is = λ s h.
-        let q : text (s .attr .raw) ≡ text (s .value) = sym (unescape-plain (s .attr .raw) (held-plain h k)) ∙ h .shows in
-        let w : s .attr .raw ≡ s .value = cc in
-        e ∙ ap p (held-raw h ∙ w);
+module _ {doc : List ℕ} {v : Value} {r t t′ : List ℕ} {n : ℕ} (w : Raw doc v r) (g : Shows r 0 t t′ n) (m : length t ≡ 256) (k : length t′ ≡ length t) where
+  stands-for : (s : Shown) → Held doc v s → Rep 1 t′ n (s .value)
+  stands-for s h = held-puts h w g .stands [] (empty-stands 1 t)
+
+  pub changed-long : 255 < n → Changed doc v t′ 256
+  changed-long l = record {
+    inside = omega arith;
+    is = λ s h. inr ((omega arith), (omega (arith, stands-for s h .many)));
   }
 
-  module _ {t t′ : List ℕ} {n : ℕ} (w : Shows (take (v .at + v .len - v .at) (drop (v .at) doc)) 0 t t′ n) where
-    pub tests-long : Short p r → 255 < n → Tests p doc v r
-    tests-long q l = record { is = λ s h. sym (q .long (s .value) (omega (arith, shown-stands w h .many))) }
+  pub changed-short : n ≤ 255 → Changed doc v t′ n
+  changed-short l = record { inside = omega arith; is = λ s h. inl (stands-read (stands-for s h) (omega arith)) }
 
-    pub tests-short : n ≤ 255 → length t′ ≡ 256 → r ≡ p (take n t′) → Tests p doc v r
-    tests-short l m e = record { is = λ s h. e ∙ ap p (stands-read (shown-stands w h) (omega arith)) }
+module _ {A : Type 0} {p : List ℕ → A} {doc : List ℕ} {v : Value} {r : A} where
+  pub tests-plain : {x : List ℕ} → v .kind ≡ 1 → Raw doc v x → r ≡ p x → Tests p doc v r
+  tests-plain k w e = record {
+    is = λ s h.
+        let q : text (s .attr .raw) ≡ text (s .value) = sym (unescape-plain (s .attr .raw) (held-plain h k)) ∙ h .shows in
+        let y : s .attr .raw ≡ s .value = cc in
+        e ∙ ap p (held-raw h w ∙ y);
+  }
+
+  pub tests-changed : {t : List ℕ} {n : ℕ} {d : A} → Short p d → Changed doc v t n → r ≡ p (take n t) → Tests p doc v r
+  tests-changed {t} {n} q g e = record {
+    is = λ s h.
+        ⊎-elim
+        (λ f. e ∙ ap p f)
+        (λ f. e ∙ q .long (take n t) (omega (arith, f .0, length-take-le n t (g .inside))) ∙ sym (q .long (s .value) (f .1)))
+        (g .is s h);
+  }
 
 -- the beginning of the buffer has as many bytes as are shown
-pub part-counted : (n : ℕ) (t : List ℕ) → n ≤ 255 → length t ≡ 256 → n ≡ length (take n t)
-part-counted n t h l = sym (length-take-le n t (omega arith))
+pub part-counted : {doc t : List ℕ} {v : Value} {n : ℕ} → Changed doc v t n → n ≡ length (take n t)
+part-counted {t = t} {n = n} g = sym (length-take-le n t (g .inside))
 
 -- ---- what is longer than 255 bytes is none of these
 
@@ -147,7 +158,9 @@ first-is b x y e f g = rw (sym e ∙ f) g
 pub later-is : (b : Bool) {t : Bool} (x y : ℕ) {z : ℕ} → t ≡ b → t ≡ false → z ≡ y → z ≡ if b x y
 later-is b x y e f g = rw (sym e ∙ f) g
 
--- what answers every need of the tests
+-- what answers every need of unescaping, of the tests on a text and of those on a value
+pub ruleset changes = (changed-long, changed-short, needs)
+
 pub ruleset texts = (some-empty, some-there, first-is, later-is, needs)
 
-pub ruleset tests = (part-counted, tests-plain, tests-long, tests-short, short-interface, short-member, short-property, short-signature, short-some, short-basic, short-access, short-direction, needs)
+pub ruleset tests = (part-counted, tests-plain, tests-changed, short-interface, short-member, short-property, short-signature, short-some, short-basic, short-access, short-direction, needs)

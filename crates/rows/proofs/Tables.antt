@@ -1,28 +1,28 @@
 -- Lent buffers that stand for tables: with a row more, a warning more, a docstring; and with the last rows given back.
 -- Assumes nothing.
-use Prim.Native.Nat.{ℕ, zero, suc, _+_, _-_, _*_, _≤_, _<_}
+use Prim.Native.Nat.{ℕ, _+_, _-_, _≤_, _<_}
 use mathlib.Core.Path.{_≡_, refl, sym, ap, _∙_}
 use mathlib.Core.List.{List, [], _∷_, _++_}
-use mathlib.Core.Option.{Option, none}
+use mathlib.Core.Option.{none}
 use borrow.Author.Needs.{needs}
 use native.Mathlib.Nat.{mul-one}
 use native.Mathlib.Omega.{arith}
 use lib.ListN.{length, take, drop, length-append, take-append-drop, length-take}
 use lib.Seq.{length-take-le, take-append-le}
-use Rattle.tables.specs.Table.{Rep, Put, Documented}
+use Rattle.tables.specs.Table.{Put, Documented}
 use Rattle.tables.proofs.Tables.{given-back-to}
 use Rattle.references.specs.Outcome.{Puts}
 use Rattle.references.proofs.Putting.{puts-then}
 use Rattle.document.specs.Tags.{Shown}
-use Rattle.document.specs.Rows.{Row, Tables, documented, textOf, triple, rowText, rowWords, wordsFrom, texts, warned}
-use Rattle.document.specs.Reading.{withRow, withWarning}
+use Rattle.document.specs.Rows.{Row, Tables, documented, textOf, rowText, rowWords, wordsFrom, texts, warned}
+use Rattle.document.specs.Reading.{withRow}
 use Rattle.document.specs.Outcome.{ValueIs, Lent, lent, Stands}
 use Rattle.document.specs.declared.Value.{Value}
 use Rattle.document.specs.declared.Fill.{Fill}
-use Rattle.rows.specs.Outcome.{Places, RowPut, WarningPut}
+use Rattle.rows.specs.Outcome.{Places, placed, RowPut, WarningPut}
 use Rattle.rows.specs.declared.Head.{Head}
 use Rattle.rows.specs.declared.Placed.{Placed}
-use Rattle.rows.proofs.Words.{length-wordsFrom, length-warned, texts-append, wordsFrom-append, warned-append, texts-more, wordsFrom-more, length-documented, texts-documented, wordsFrom-documented}
+use Rattle.rows.proofs.Words.{length-wordsFrom, texts-append, wordsFrom-append, warned-append, texts-more, wordsFrom-more, length-documented, texts-documented, wordsFrom-documented}
 
 -- the text's count
 pub text-counted : {u : Tables Shown} {b : Lent} {f : Fill} → Stands u b f → length (texts (u .rows)) ≡ f .text
@@ -30,13 +30,8 @@ text-counted {f = f} s = s .text .many ∙ mul-one (f .text)
 
 -- ---- a row more
 
--- the words that a row is made of
-abbrev pub rowOf : Head → Placed → Placed → Placed → List ℕ
-rowOf h a b c =
-    h .kind ∷ h .parent ∷ a .source ∷ a .start ∷ a .len ∷ b .source ∷ b .start ∷ b .len ∷ c .source ∷ c .start ∷ c .len ∷ 0 ∷ 0 ∷ 0 ∷ h .word ∷ 0 ∷ []
-
 module _ {doc : List ℕ} {name second tp : Value} {m : ℕ} {t t₁ t₂ t₃ : List ℕ} {a b c : Placed} (p : Places doc name m t t₁ a) (q : Places doc second (a .text) t₁ t₂ b) (s : Places doc tp (b .text) t₂ t₃ c) (row : Row Shown) (n : ValueIs doc name (row .name)) (v : ValueIs doc second (row .value)) (y : ValueIs doc tp (row .tp)) where
-  row-words : (h : Head) → row .kind ≡ h .kind → row .parent ≡ h .parent → row .word ≡ h .word → row .doc ≡ none → rowWords m row ≡ rowOf h a b c
+  row-words : (h : Head) → row .kind ≡ h .kind → row .parent ≡ h .parent → row .word ≡ h .word → row .doc ≡ none → rowWords m row ≡ placed h a b c
   unfolding rowWords
   row-words h k e w d =
       let i : m + length (textOf (row .name)) ≡ a .text = sym (p .puts (row .name) n .counts) in
@@ -46,7 +41,7 @@ module _ {doc : List ℕ} {name second tp : Value} {m : ℕ} {t t₁ t₂ t₃ :
   row-text : Puts (rowText row) m t t₃ (c .text)
   row-text = puts-then (puts-then (p .puts (row .name) n) (q .puts (row .value) v)) (s .puts (row .tp) y)
 
-pub row-put : {doc : List ℕ} {h : Head} {name second tp : Value} {f : Fill} {t t₁ t₂ t₃ rows rows′ : List ℕ} {a b c : Placed} {n : ℕ} → Places doc name (f .text) t t₁ a → Places doc second (a .text) t₁ t₂ b → Places doc tp (b .text) t₂ t₃ c → Put 16 (rowOf h a b c) (f .rows) rows rows′ n → RowPut doc h name second tp f rows rows′ t t₃ (record { at = f .at; rows = n; warnings = f .warnings; text = c .text })
+pub row-put : {doc : List ℕ} {h : Head} {name second tp : Value} {f : Fill} {t t₁ t₂ t₃ rows rows′ : List ℕ} {a b c : Placed} {n : ℕ} → Places doc name (f .text) t t₁ a → Places doc second (a .text) t₁ t₂ b → Places doc tp (b .text) t₂ t₃ c → Put 16 (placed h a b c) (f .rows) rows rows′ n → RowPut doc h name second tp f rows rows′ t t₃ (record { at = f .at; rows = n; warnings = f .warnings; text = c .text })
 row-put {h = h} {f = f} p q s g = record {
   at = refl;
   counts = g .counts;

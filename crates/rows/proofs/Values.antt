@@ -1,23 +1,23 @@
 -- Values of attributes: the triple and the text of one that is shown as it stands, of a changed one and of one that is absent.
 -- Assumes nothing.
-use Prim.Native.Nat.{ℕ, zero, suc, _+_, _-_, _≤_, _<_}
-use mathlib.Core.Path.{_≡_, refl, sym, ap, _∙_}
-use mathlib.Core.List.{List, [], _∷_, _++_}
+use Prim.Native.Nat.{ℕ, _+_, _-_}
+use mathlib.Core.Path.{_≡_, refl, _∙_}
+use mathlib.Core.List.{List, [], _∷_}
 use mathlib.Core.Option.{Option, none, some}
 use mathlib.Core.Bool.{Bool, true, false}
 use borrow.Author.Needs.{needs}
 use native.Mathlib.Omega.{arith}
-use lib.ListN.{length, take, drop, length-take, length-drop}
+use lib.ListN.{length, take, drop, length-drop}
 use lib.Seq.{length-take-le}
 use Rattle.slices.specs.Bytes.{if, all}
-use Rattle.references.specs.Unescape.{text, unescape, plain}
+use Rattle.references.specs.Unescape.{text, plain}
 use Rattle.references.specs.Outcome.{Puts, Shows}
 use Rattle.references.proofs.Putting.{puts-none}
 use Rattle.document.specs.Tags.{Shown}
 use Rattle.document.specs.Rows.{triple, textOf}
 use Rattle.document.specs.Outcome.{Held, ValueIs}
 use Rattle.document.specs.declared.Value.{Value}
-use Rattle.rows.specs.Outcome.{Lies, Places}
+use Rattle.rows.specs.Outcome.{Lies, Raw, Places}
 
 -- ---- the kind of a value that is there
 
@@ -32,16 +32,18 @@ module _ {doc : List ℕ} {v : Value} {s : Shown} (h : Held doc v s) where
   pub held-changed : v .kind ≡ 2 → all plain (s .attr .raw) ≡ false
   held-changed = by-kind (all plain (s .attr .raw)) (v .kind) (h .kind) .1
 
-  pub held-there : v .kind ≡ 0 → ⊥
-  held-there e = go (all plain (s .attr .raw)) (h .kind)
-    where
-      go : (b : Bool) → v .kind ≡ if b 1 2 → ⊥
-      go true q = omega arith
-      go false q = omega arith
+  pub held-raw : {r : List ℕ} → Raw doc v r → r ≡ s .attr .raw
+  held-raw w = w .is ∙ h .raw
 
-  -- the bytes between the value's places
-  pub held-raw : take (v .at + v .len - v .at) (drop (v .at) doc) ≡ s .attr .raw
-  held-raw = let e : v .at + v .len - v .at ≡ v .len = omega arith in rw e (h .raw)
+  -- the text of a changed value that is put
+  pub held-puts : {r t t′ : List ℕ} {n m : ℕ} → Raw doc v r → Shows r n t t′ m → Puts (s .value) n t t′ m
+  held-puts w g = g .puts (s .value) (rw (held-raw w) (h .shows))
+
+-- a part of a document
+pub part-raw : {doc : List ℕ} {v : Value} → Lies doc v → Raw doc v (take (v .at + v .len - v .at) (drop (v .at) doc))
+part-raw {doc} {v} l =
+    let e : v .at + v .len - v .at ≡ v .len = omega arith in
+    rw e record { is = refl; many = length-take-le (v .len) (drop (v .at) doc) (rw length-drop (omega (arith, l .inside))) }
 
 -- ---- placing a value
 
@@ -75,27 +77,18 @@ module _ {doc : List ℕ} {v : Value} {n : ℕ} {t : List ℕ} where
       puts none h = puts-none
       puts (some s) h = absurd (other s h)
 
-  pub place-changed : {t′ : List ℕ} {m : ℕ} → v .kind ≡ 2 → Lies doc v → Shows (take (v .at + v .len - v .at) (drop (v .at) doc)) n t t′ m → Places doc v n t t′ (record { source = 2; start = n; len = m - n; text = m })
-  place-changed {t′} {m} k l w = record { least = w .least; most = most; words = words; puts = puts }
+  pub place-changed : {t′ r : List ℕ} {m : ℕ} → v .kind ≡ 2 → Raw doc v r → Shows r n t t′ m → Places doc v n t t′ (record { source = 2; start = n; len = m - n; text = m })
+  place-changed {t′} {r} {m} k w g = record { least = g .least; most = omega (arith, g .most, w .many); words = words; puts = puts }
     where
-      most : m ≤ n + v .len
-      most =
-          let e : v .at + v .len - v .at ≡ v .len = omega arith in
-          let q : length (take (v .len) (drop (v .at) doc)) ≡ v .len = length-take-le (v .len) (drop (v .at) doc) (rw length-drop (omega (arith, l .inside))) in
-          rw q at (rw e at (w .most))
-
-      shown : (s : Shown) → Held doc v s → Puts (s .value) n t t′ m
-      shown s h = w .puts (s .value) (rw (held-raw h) (h .shows))
-
       words : (o : Option Shown) → ValueIs doc v o → triple n o ≡ 2 ∷ n ∷ (m - n) ∷ []
       words none h = absurd (omega (arith, h))
       words (some s) h =
-          let e : m - n ≡ length (s .value) = omega (arith, shown s h .counts) in
+          let e : m - n ≡ length (s .value) = omega (arith, held-puts h w g .counts) in
           rw (held-changed h k, e)
 
       puts : (o : Option Shown) → ValueIs doc v o → Puts (textOf o) n t t′ m
       puts none h = absurd (omega (arith, h))
-      puts (some s) h = rw (held-changed h k) (shown s h)
+      puts (some s) h = rw (held-changed h k) (held-puts h w g)
 
 -- what answers every need of placing a value
-pub ruleset placing = (place-plain, place-none, place-changed, needs)
+pub ruleset placing = (part-raw, place-plain, place-none, place-changed, needs)

@@ -1,6 +1,6 @@
 -- The words and text of rows: how many they are, of a row more, of the first rows, and of a row with a docstring.
 -- Assumes nothing.
-use Prim.Native.Nat.{ℕ, zero, suc, _+_, _*_, _≤_, _<_}
+use Prim.Native.Nat.{ℕ, zero, suc, _+_, _*_, _≤_}
 use mathlib.Core.Path.{_≡_, refl, sym, ap, _∙_}
 use mathlib.Core.List.{List, [], _∷_, _++_, append-nil, append-assoc}
 use mathlib.Core.Option.{Option, none, some}
@@ -13,7 +13,7 @@ use Rattle.slices.specs.Bytes.{if, all}
 use Rattle.references.specs.Unescape.{plain}
 use Rattle.tables.specs.Table.{withDocstring}
 use Rattle.document.specs.Tags.{Shown}
-use Rattle.document.specs.Rows.{Doc, Row, Warning, withDoc, documented, textOf, triple, docTriple, rowText, rowWords, wordsFrom, texts, warningWords, warned}
+use Rattle.document.specs.Rows.{Doc, Row, Warning, withDoc, documented, textOf, triple, docTriple, rowText, rowWords, wordsFrom, texts, warned}
 
 -- ---- how many
 

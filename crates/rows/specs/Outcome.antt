@@ -2,9 +2,10 @@
 -- Assumes nothing.
 use Prim.Native.Nat.{ℕ, suc, _+_, _*_, _≤_, _<_}
 use mathlib.Core.Path.{_≡_}
+use mathlib.Core.Logic.{_⊎_}
 use mathlib.Core.List.{List, [], _∷_}
 use mathlib.Core.Option.{Option, none}
-use lib.ListN.{length}
+use lib.ListN.{length, take, drop}
 use Rattle.references.specs.Outcome.{Puts}
 use Rattle.document.specs.Tags.{Shown}
 use Rattle.document.specs.Rows.{Row, Tables, triple, textOf}
@@ -20,6 +21,11 @@ pub record Lies (doc : List ℕ) (v : Value) : Type 0 where
   pub small : length doc ≤ 1048576
   pub inside : v .at + v .len ≤ length doc
 
+-- the raw bytes of a value
+pub record Raw (doc : List ℕ) (v : Value) (r : List ℕ) : Type 0 where
+  pub is : r ≡ take (v .len) (drop (v .at) doc)
+  pub many : length r ≡ v .len
+
 -- what placing a value says, when n bytes of text stand before it: the words of its triple, and its bytes put
 pub record Places (doc : List ℕ) (v : Value) (n : ℕ) (before after : List ℕ) (r : Placed) : Type 0 where
   pub least : n ≤ r .text
@@ -27,11 +33,16 @@ pub record Places (doc : List ℕ) (v : Value) (n : ℕ) (before after : List �
   pub words : (o : Option Shown) → ValueIs doc v o → triple n o ≡ r .source ∷ r .start ∷ r .len ∷ []
   pub puts : (o : Option Shown) → ValueIs doc v o → Puts (textOf o) n before after (r .text)
 
+-- the words of a row with three values that are placed, and no docstring
+abbrev pub placed : Head → Placed → Placed → Placed → List ℕ
+placed h a b c =
+    h .kind ∷ h .parent ∷ a .source ∷ a .start ∷ a .len ∷ b .source ∷ b .start ∷ b .len ∷ c .source ∷ c .start ∷ c .len ∷ 0 ∷ 0 ∷ 0 ∷ h .word ∷ 0 ∷ []
+
 -- the bounds within which every word of a row fits
 pub record RowFits (doc : List ℕ) (h : Head) (name second tp : Value) (f : Fill) : Type 0 where
   pub small : length doc ≤ 1048576
   pub named : name .at + name .len ≤ length doc
-  pub seconded : second .at + second .len ≤ length doc
+  pub valued : second .at + second .len ≤ length doc
   pub typed : tp .at + tp .len ≤ length doc
   pub parent : h .parent ≤ 1048576
   pub rows : f .rows < 1048576
@@ -75,6 +86,11 @@ pub record WarningPut (reason place len : ℕ) (f : Fill) (before after : List �
       → length name ≡ len
       → Stands u (lent rows before text) f
       → Stands (withWarning reason lt name u) (lent rows after text) r
+
+-- what unescaping a value into a buffer of 256 bytes says: the beginning of the buffer is the text, or both have more than 255 bytes
+pub record Changed (doc : List ℕ) (v : Value) (buf : List ℕ) (r : ℕ) : Type 0 where
+  pub inside : r ≤ length buf
+  pub is : (s : Shown) → Held doc v s → (take r buf ≡ s .value) ⊎ ((255 < r) × (255 < length (s .value)))
 
 -- the answer is that of a function of texts, at the text that a value shows
 pub record Tests {A : Type 0} (p : List ℕ → A) (doc : List ℕ) (v : Value) (r : A) : Type 0 where

@@ -1,4 +1,4 @@
--- `rows::place` meets its contract: by the laws of each kind of value.
+-- `rows::place` meets its contract.
 -- Assumes nothing.
 use Rattle.rows.proofs.Values.{placing}
 use Rattle.rows.proofs.place.Statement.{statement}
@@ -8,9 +8,6 @@ pub place-spec : {M : Type 1} → statement M
 place-spec =
     tie.close
     (tie.spec
-    (λ c. search placing)
-    (λ c. search placing)
-    (λ c. search placing)
     (λ c. search placing)
     (λ c. search placing)
     (λ c. search placing)
