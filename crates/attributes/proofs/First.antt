@@ -1,6 +1,6 @@
 -- The first attribute whose name is of a kind, and its value.
 -- Assumes nothing.
-use Prim.Native.Nat.{ℕ, zero, suc, _+_, _-_, _*_, _≤_, _<_}
+use Prim.Native.Nat.{ℕ, zero, suc, _+_, _-_, _*_, _≤_, _<_, zero-le}
 use mathlib.Core.Path.{_≡_, refl, sym, ap, _∙_}
 use mathlib.Core.List.{List, [], _∷_}
 use mathlib.Core.Option.{Option, none, some}
@@ -52,6 +52,41 @@ module _ {p : List ℕ → Bool} {doc : List ℕ} {xs : List Attribute} {n i : �
     }
 
 pub ruleset searches = (search-begins, search-ends, search-hit, search-more, needs)
+
+-- ---- the same over a slice, for a proof by hand: a turn has its number
+
+abbrev pub hit : List ℕ → List ℕ → Attribute → Bool
+hit doc key a = nameIs (keyed key) doc a
+
+pub record Turn (doc key : List ℕ) (xs : List Attribute) : Type 0 where
+  pub i : ℕ
+  pub within : i ≤ length xs
+  pub rest : firstOf (keyed key) doc xs ≡ firstFrom (hit doc key) i (drop i xs)
+
+module _ (doc key : List ℕ) (xs : List Attribute) where
+  abbrev pub turn-first : Turn doc key xs
+  turn-first = record { i = 0; within = zero-le; rest = refl }
+
+  module _ (t : Turn doc key xs) where
+    pub turn-hit : t .i < length xs → hit doc key (getD xs (t .i) blank) ≡ true → At (t .i) ≡ firstOf (keyed key) doc xs
+    unfolding firstFrom
+    turn-hit h e = sym (t .rest ∙ rw (drop-cons xs (t .i) blank h, e))
+
+    pub turn-rest : t .i < length xs → hit doc key (getD xs (t .i) blank) ≡ false → firstOf (keyed key) doc xs ≡ firstFrom (hit doc key) (t .i + 1) (drop (t .i + 1) xs)
+    unfolding firstFrom
+    turn-rest h e = t .rest ∙ rw (drop-cons xs (t .i) blank h, e, add-one)
+
+    pub turn-within : t .i < length xs → t .i + 1 ≤ length xs
+    turn-within h = omega arith
+
+    abbrev pub turn-more : t .i < length xs → hit doc key (getD xs (t .i) blank) ≡ false → Turn doc key xs
+    turn-more h e = record { i = t .i + 1; within = turn-within h; rest = turn-rest h e }
+
+    pub turn-end : length xs ≤ t .i → Nothing ≡ firstOf (keyed key) doc xs
+    unfolding firstFrom
+    turn-end h = sym (t .rest ∙ rw (drop-of-length-le xs h))
+
+-- ---- what is found
 
 -- what is found is one of them
 pub found-from : (p : Attribute → Bool) (i : ℕ) (xs : List Attribute) (j : ℕ) → firstFrom p i xs ≡ At j → (i ≤ j) × (j < i + length xs)

@@ -10,9 +10,9 @@ use native.Mathlib.Omega.{arith}
 use native.Mathlib.Nat.{zero-add}
 use lib.ListN.{length, take, drop, getD, length-drop}
 use lib.Seq.{length-take-le, take-all}
-use Rattle.slices.specs.Bytes.{if, bytes, other, span, past, empty, same}
+use Rattle.slices.specs.Bytes.{if, bytes, other, span, past, empty, same, starts}
 use Rattle.slices.specs.Run.{Run}
-use Rattle.slices.proofs.Runs.{past-drop, same-short}
+use Rattle.slices.proofs.Runs.{past-drop, same-short, same-long}
 use Rattle.document.specs.Tags.{isTpType}
 use Rattle.attributes.specs.Lookup.{partIs, keyed}
 use Rattle.attributes.proofs.Found.{empty-none, empty-some}
@@ -28,6 +28,14 @@ unfolding partIs
 part-within p doc at n r h e =
     let m : (at + n) - at ≡ n = omega arith in
     (rw m at e) ∙ rw (le-leb (at + n) (length doc) h)
+
+-- a key: length first, then bytes
+module _ (doc : List ℕ) (at n : ℕ) (key : List ℕ) (h : at + n ≤ length doc) where
+  pub key-other : (length (take ((at + n) - at) (drop at doc)) ≡ length key → ⊥) → false ≡ partIs (keyed key) doc at n
+  key-other e = part-within (keyed key) doc at n false h (same-short (take ((at + n) - at) (drop at doc)) key e)
+
+  pub key-same : (r : Bool) → length (take ((at + n) - at) (drop at doc)) ≡ length key → r ≡ starts key (take ((at + n) - at) (drop at doc)) → r ≡ partIs (keyed key) doc at n
+  key-same r l e = part-within (keyed key) doc at n r h (same-long (take ((at + n) - at) (drop at doc)) key r l e)
 
 and-false : (t : Bool) → false ≡ (t && false)
 and-false true = refl
@@ -55,4 +63,4 @@ module _ {name : List ℕ} {colon : ℕ} (n : Run (other 58) name 0 colon) where
       let a : take (length name - colon) (drop colon name) ≡ drop colon name = take-all (length name - colon) (drop colon name) (rw length-drop (omega arith)) in
       (rw a at e) ∙ rw (empty-some (span (other 58) name) (rw long (omega arith)), past-drop, long)
 
-pub ruleset keys = (part-past, part-within, tp-short, tp-bare, tp-prefixed, needs)
+pub ruleset keys = (part-past, part-within, key-other, key-same, tp-short, tp-bare, tp-prefixed, needs)

@@ -12,7 +12,7 @@ use crate::Place;
 use crate::Verdict;
 use crate::attribute_at;
 use crate::many;
-use crate::names::is_key;
+use crate::names::first_named;
 use crate::names::is_tp_type;
 use crate::no_value;
 use crate::references_of;
@@ -25,15 +25,7 @@ pub fn first_of(doc: &[u8], attrs: [Attribute; 8], n: usize, key: &[u8]) -> Plac
     requires { ⌜ n ≤ 8 ⌝ }
     ensures { λ r. ⌜ First (keyed (now (key .entry))) (now (doc .entry)) attrs n r ⌝ }
 {
-    let mut i = 0;
-    while i < n {
-        let a = attrs[i];
-        if is_key(doc, a.name, a.name_len, key) {
-            return Place::At(i);
-        }
-        i += 1;
-    }
-    Place::Nothing
+    first_named(doc, &attrs[..n], key)
 }
 
 // The first of the first n that is a tp type.

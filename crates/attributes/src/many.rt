@@ -11,7 +11,7 @@ use crate::One;
 use crate::Place;
 use crate::Verdict;
 use crate::attribute_at;
-use crate::names::is_key;
+use crate::names::first_named;
 use crate::names::is_tp_type;
 use crate::no_value;
 use crate::references_of;
@@ -24,15 +24,7 @@ pub fn first_of(doc: &[u8], attrs: [Attribute; 256], n: usize, key: &[u8]) -> Pl
     requires { ⌜ n ≤ 256 ⌝ }
     ensures { λ r. ⌜ First (keyed (now (key .entry))) (now (doc .entry)) attrs n r ⌝ }
 {
-    let mut i = 0;
-    while i < n {
-        let a = attrs[i];
-        if is_key(doc, a.name, a.name_len, key) {
-            return Place::At(i);
-        }
-        i += 1;
-    }
-    Place::Nothing
+    first_named(doc, &attrs[..n], key)
 }
 
 // The first of the first n that is a tp type.

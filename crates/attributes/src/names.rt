@@ -1,7 +1,9 @@
-// Whether a name is a key, or that of a tp type.
+// Names of attributes: whether one is a key, or that of a tp type; the first that is a key.
 ghost use mathlib.Core.Path.{_≡_};
 ghost use Rattle.document.specs.Tags.{isTpType};
-ghost use Rattle.attributes.specs.Lookup.{partIs, keyed};
+ghost use Rattle.attributes.specs.Lookup.{partIs, keyed, firstOf};
+use crate::Attribute;
+use crate::Place;
 
 // Whether the n bytes from a place on are the key: length first, then bytes.
 pub fn is_key(doc: &[u8], at: u32, n: u32, key: &[u8]) -> bool
@@ -12,7 +14,26 @@ pub fn is_key(doc: &[u8], at: u32, n: u32, key: &[u8]) -> bool
     if doc.len() < to {
         return false;
     }
-    slices::equal(&doc[from..to], key)
+    let name = &doc[from..to];
+    if name.len() != key.len() {
+        return false;
+    }
+    slices::starts_at(name, 0, key)
+}
+
+// The first of the attributes with the key.
+pub fn first_named(doc: &[u8], attrs: &[Attribute], key: &[u8]) -> Place
+    ensures { λ r. ⌜ r ≡ firstOf (keyed (now (key .entry))) (now (doc .entry)) (now (attrs .entry)) ⌝ }
+{
+    let mut i: usize = 0;
+    while i < attrs.len() {
+        let a = attrs[i];
+        if is_key(doc, a.name, a.name_len, key) {
+            return Place::At(i);
+        }
+        i += 1;
+    }
+    Place::Nothing
 }
 
 // A prefix that is not empty, the first colon, then exactly `type`.

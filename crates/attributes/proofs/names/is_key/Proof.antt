@@ -13,5 +13,6 @@ is-key-spec =
     (λ c. search keys)
     (λ c. search keys)
     (λ c. search keys)
+    (λ c. search keys)
     (λ c κs. search keys)
     (λ c. search keys))
