@@ -1,0 +1,170 @@
+-- The values of the first attributes: they are those of the definition's lookups, and they fit.
+-- Assumes nothing.
+use Prim.Native.Nat.{ℕ, zero, suc, _+_, _-_, _≤_, _<_}
+use mathlib.Core.Path.{_≡_, refl, sym, ap, _∙_}
+use mathlib.Core.List.{List, [], _∷_, _++_, map}
+use mathlib.Core.Option.{Option, none, some}
+use mathlib.Core.Bool.{Bool, true, false}
+use native.Mathlib.Nat.{sub-self, sub-zero}
+use native.Mathlib.Omega.{arith}
+use lib.ListN.{length, take, drop, getD, length-drop}
+use lib.Seq.{length-take-le, getD-take}
+use Rattle.slices.specs.Bytes.{if, bytes, same}
+use Rattle.references.specs.Unescape.{Text, text, wrong, unescape}
+use Rattle.document.specs.Tags.{Attr, Shown, Checked, good, fault, also, member, check, lookup, isTpType, tpType}
+use Rattle.document.specs.Outcome.{Held, ValueIs, ValueFits, ValuesFit, ValuesAre}
+use Rattle.attributes.specs.One.{attrOf, kindFrom, Fit}
+use Rattle.attributes.specs.Lookup.{blank, nameIs, keyed, firstFrom, atPlace, valueOf, valueIn, valuesIn}
+use Rattle.attributes.specs.Outcome.{Fitted, attrsOf}
+use Rattle.attributes.specs.declared.Attribute.{Attribute}
+use Rattle.attributes.specs.declared.Place.{Place}
+use Rattle.attributes.specs.declared.Place.the-variants.{At, Nothing}
+use Rattle.attributes.proofs.First.{found-from}
+use Rattle.attributes.proofs.Checking.{name-within}
+
+-- ---- the first of a kind, itself
+
+abbrev pickBy : (Attribute → Bool) → List Attribute → Option Attribute
+pickBy p [] = none
+pickBy p (y ∷ ys) = let r = pickBy p ys in if (p y) (some y) r
+
+abbrev atFrom : ℕ → List Attribute → Place → Option Attribute
+atFrom i ys (At j) = some (getD ys (j - i) blank)
+atFrom i ys Nothing = none
+
+past-first : (i : ℕ) (y : Attribute) (ys : List Attribute) (r : Place) → ((j : ℕ) → r ≡ At j → suc i ≤ j) → atFrom i (y ∷ ys) r ≡ atFrom (suc i) ys r
+past-first i y ys (At j) h =
+    let b : suc i ≤ j = h j refl in
+    let e : j - i ≡ suc (j - suc i) = omega arith in
+    rw e
+past-first i y ys Nothing h = refl
+
+picked-from : (p : Attribute → Bool) (i : ℕ) (ys : List Attribute) → atFrom i ys (firstFrom p i ys) ≡ pickBy p ys
+unfolding firstFrom
+picked-from p i [] = refl
+picked-from p i (y ∷ ys) = go (p y) (picked-from p (suc i) ys)
+  where
+    go : (t : Bool) → atFrom (suc i) ys (firstFrom p (suc i) ys) ≡ pickBy p ys → atFrom i (y ∷ ys) (if t (At i) (firstFrom p (suc i) ys)) ≡ if t (some y) (pickBy p ys)
+    go true e = rw sub-self
+    go false e = past-first i y ys (firstFrom p (suc i) ys) (λ j q. found-from p (suc i) ys j q .0) ∙ e
+
+at-zero : (ys : List Attribute) (r : Place) → atPlace ys r ≡ atFrom 0 ys r
+at-zero ys (At j) = rw sub-zero
+at-zero ys Nothing = refl
+
+picked : (p : List ℕ → Bool) (doc : List ℕ) (ys : List Attribute) → valueIn p doc ys ≡ valueOf (pickBy (nameIs p doc) ys)
+unfolding valueIn
+picked p doc ys = rw (at-zero ys (firstFrom (nameIs p doc) 0 ys), picked-from (nameIs p doc) 0 ys)
+
+-- ---- the same over what is shown
+
+abbrev shownBy : (List ℕ → Bool) → List Shown → Option Shown
+shownBy p [] = none
+shownBy p (s ∷ ss) = let r = shownBy p ss in if (p (s .attr .name)) (some s) r
+
+lookup-shown : (key : List ℕ) (ss : List Shown) → lookup key ss ≡ shownBy (keyed key) ss
+lookup-shown key [] = refl
+lookup-shown key (s ∷ ss) = rw (lookup-shown key ss)
+
+tp-shown : (ss : List Shown) → tpType ss ≡ shownBy isTpType ss
+tp-shown [] = refl
+tp-shown (s ∷ ss) = rw (tp-shown ss)
+
+-- each is shown, in order
+abbrev Showing : List ℕ → List Attribute → List Shown → Type 0
+Showing doc [] [] = Unit {0}
+Showing doc [] (s ∷ ss) = ⊥
+Showing doc (y ∷ ys) [] = ⊥
+Showing doc (y ∷ ys) (s ∷ ss) = (s .attr ≡ attrOf doc y) × (unescape (s .attr .raw) ≡ text (s .value)) × Showing doc ys ss
+
+also-good : (doc : List ℕ) (y : Attribute) (ys : List Attribute) (u : Text) (c : Checked) (ss : List Shown) → unescape (attrOf doc y .raw) ≡ u → also (attrOf doc y) u c ≡ good ss → ((s : List Shown) → c ≡ good s → Showing doc ys s) → Showing doc (y ∷ ys) ss
+also-good doc y ys (wrong n p) c ss u e f = let z : _≡_ {A = ℕ} 0 1 = cc in absurd (omega arith)
+also-good doc y ys (text t) (fault n p) ss u e f = let z : _≡_ {A = ℕ} 0 1 = cc in absurd (omega arith)
+also-good doc y ys (text t) (good s) ss u e f =
+    let q : record { attr = attrOf doc y; value = t } ∷ s ≡ ss = cc in
+    rw (← q) (refl, u, f s refl)
+
+check-shown : (doc : List ℕ) (seen : List (List ℕ)) (ys : List Attribute) (ss : List Shown) → check seen (map (attrOf doc) ys) ≡ good ss → Showing doc ys ss
+check-shown doc seen [] ss e = let q : [] ≡ ss = cc in rw (← q) tt
+check-shown doc seen (y ∷ ys) ss e = go (member (attrOf doc y .name) seen) e (check-shown doc (attrOf doc y .name ∷ seen) ys)
+  where
+    go : (t : Bool) → if t (fault 8 (y .name)) (also (attrOf doc y) (unescape (attrOf doc y .raw)) (check (attrOf doc y .name ∷ seen) (map (attrOf doc) ys))) ≡ good ss → ((s : List Shown) → check (attrOf doc y .name ∷ seen) (map (attrOf doc) ys) ≡ good s → Showing doc ys s) → Showing doc (y ∷ ys) ss
+    go true e f = let z : _≡_ {A = ℕ} 0 1 = cc in absurd (omega arith)
+    go false e f = also-good doc y ys (unescape (attrOf doc y .raw)) (check (attrOf doc y .name ∷ seen) (map (attrOf doc) ys)) ss refl e f
+
+-- ---- the values
+
+abbrev AllFit : List ℕ → ℕ → ℕ → List Attribute → Type 0
+AllFit doc from to ys = (k : ℕ) → k < length ys → Fit doc from to (getD ys k blank)
+
+module _ (p : List ℕ → Bool) (doc : List ℕ) (from to : ℕ) (b : to ≤ length doc) where
+  held : (y : Attribute) (s : Shown) → Fit doc from to y → s .attr ≡ attrOf doc y → unescape (s .attr .raw) ≡ text (s .value) → Held doc (valueOf (some y)) s
+  held y s f e u = record {
+    at = sym (ap (λ (a : Attr). a .valued) e);
+    len = sym (ap (λ (a : Attr). length (a .raw)) e ∙ length-take-le (y .«value_len») (drop (y .value) doc) (rw length-drop (omega (arith, f .value))));
+    raw = sym (ap (λ (a : Attr). a .raw) e);
+    kind = f .kind ∙ ap (λ (a : Attr). kindFrom 1 (a .raw)) (sym e);
+    shows = u;
+  }
+
+  value-is : (ys : List Attribute) (ss : List Shown) → Showing doc ys ss → AllFit doc from to ys → ValueIs doc (valueOf (pickBy (nameIs p doc) ys)) (shownBy p ss)
+  value-is [] [] h f = refl
+  value-is [] (s ∷ ss) h f = absurd h
+  value-is (y ∷ ys) [] h f = absurd h
+  value-is (y ∷ ys) (s ∷ ss) h f =
+      let g : Fit doc from to y = f 0 (omega arith) in
+      let n : nameIs p doc y ≡ p (attrOf doc y .name) = name-within p doc y (omega (arith, g .name)) in
+      let e : p (s .attr .name) ≡ p (attrOf doc y .name) = ap (λ (a : Attr). p (a .name)) (h .0) in
+      rw (n, e) (go (p (attrOf doc y .name)) g (value-is ys ss (h .2) (λ k l. f (suc k) (omega arith))))
+    where
+      go : (t : Bool) → Fit doc from to y → ValueIs doc (valueOf (pickBy (nameIs p doc) ys)) (shownBy p ss) → ValueIs doc (valueOf (if t (some y) (pickBy (nameIs p doc) ys))) (if t (some s) (shownBy p ss))
+      go true g i = held y s g (h .0) (h .1)
+      go false g i = i
+
+  value-fits : from ≤ to → (ys : List Attribute) → AllFit doc from to ys → ValueFits from to (valueOf (pickBy (nameIs p doc) ys))
+  value-fits l [] f = record { until = omega arith; short = omega arith }
+  value-fits l (y ∷ ys) f = go (nameIs p doc y) (f 0 (omega arith)) (value-fits l ys (λ k b. f (suc k) (omega arith)))
+    where
+      go : (t : Bool) → Fit doc from to y → ValueFits from to (valueOf (pickBy (nameIs p doc) ys)) → ValueFits from to (valueOf (if t (some y) (pickBy (nameIs p doc) ys)))
+      go true g i = record { until = g .value; short = g .short }
+      go false g i = i
+
+module _ {doc : List ℕ} {from to : ℕ} {xs : List Attribute} {n : ℕ} (g : Fitted doc from to xs n) (l : n ≤ length xs) (b : to ≤ length doc) where
+  all-fit : AllFit doc from to (take n xs)
+  all-fit k h =
+      let e : length (take n xs) ≡ n = length-take-le n xs l in
+      rw (getD-take n xs k blank (omega arith)) (g .rule k (omega arith))
+
+  fits-one : (p : List ℕ → Bool) → from ≤ to → ValueFits from to (valueIn p doc (take n xs))
+  fits-one p h = rw picked (value-fits p doc from to b h (take n xs) all-fit)
+
+  pub values-fit : from ≤ to → ValuesFit from to (valuesIn doc (take n xs))
+  unfolding valuesIn
+  values-fit h = record {
+    name = fits-one (keyed (bytes "name")) h;
+    ty = fits-one (keyed (bytes "type")) h;
+    value = fits-one (keyed (bytes "value")) h;
+    access = fits-one (keyed (bytes "access")) h;
+    direction = fits-one (keyed (bytes "direction")) h;
+    suffix = fits-one (keyed (bytes "suffix")) h;
+    tp = fits-one isTpType h;
+  }
+
+  module _ {ss : List Shown} (c : check [] (attrsOf doc xs n) ≡ good ss) where
+    is-one : (p : List ℕ → Bool) → ValueIs doc (valueIn p doc (take n xs)) (shownBy p ss)
+    is-one p = rw picked (value-is p doc from to b (take n xs) ss (check-shown doc [] (take n xs) ss c) all-fit)
+
+    is-keyed : (key : List ℕ) → ValueIs doc (valueIn (keyed key) doc (take n xs)) (lookup key ss)
+    is-keyed key = rw lookup-shown (is-one (keyed key))
+
+    pub values-are : ValuesAre doc (valuesIn doc (take n xs)) ss
+    unfolding valuesIn
+    values-are = record {
+      name = is-keyed (bytes "name");
+      ty = is-keyed (bytes "type");
+      value = is-keyed (bytes "value");
+      access = is-keyed (bytes "access");
+      direction = is-keyed (bytes "direction");
+      suffix = is-keyed (bytes "suffix");
+      tp = rw tp-shown (is-one isTpType);
+    }

@@ -1,0 +1,16 @@
+-- `attributes::many::finish` meets its contract.
+-- Assumes nothing.
+use Rattle.attributes.proofs.Gathering.{finishes}
+use Rattle.attributes.proofs.many.finish.Statement.{statement}
+use Rattle.attributes.proofs.many.finish.Tie as tie
+
+pub finish-spec : {M : Type 1} → statement M
+finish-spec =
+    tie.close
+    (tie.spec
+    (λ c κs. search finishes)
+    (λ c. search finishes)
+    (λ c. search finishes)
+    (λ c κs. search finishes)
+    (λ c. search finishes)
+    (λ c. search finishes))

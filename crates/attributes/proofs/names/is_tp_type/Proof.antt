@@ -1,0 +1,17 @@
+-- `attributes::names::is_tp_type` meets its contract.
+-- Assumes nothing.
+use Rattle.attributes.proofs.Keys.{keys}
+use Rattle.attributes.proofs.names.is_tp_type.Statement.{statement}
+use Rattle.attributes.proofs.names.is_tp_type.Tie as tie
+
+pub is-tp-type-spec : {M : Type 1} → statement M
+is-tp-type-spec =
+    tie.close
+    (tie.spec
+    (λ c. search keys)
+    (λ c. search keys)
+    (λ c. search keys)
+    (λ c. search keys)
+    (λ c. search keys)
+    (λ c κs. search keys)
+    (λ c. search keys))

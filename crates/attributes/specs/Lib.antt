@@ -1,0 +1,5 @@
+-- What the functions on attributes say.
+-- Assumes nothing.
+pub mod One
+pub mod Lookup
+pub mod Outcome

@@ -1,0 +1,201 @@
+// The attributes of a start tag: gathered, checked one by one, and looked up. `attributes` is the entry.
+ghost use mathlib.Core.Path.{_≡_};
+ghost use mathlib.Core.Option.{some};
+ghost use Prim.Native.Nat.{_+_, _≤_};
+ghost use lib.ListN.{length, take, drop};
+ghost use Rattle.scan.specs.Classes.{Classes};
+ghost use Rattle.references.specs.Unescape.{special};
+ghost use Rattle.document.specs.Tags.{attribute, equals, openQuote};
+ghost use Rattle.attributes.specs.One.{Quotes, Named, Finds};
+ghost use Rattle.attributes.specs.Lookup.{nothing, valueOf};
+ghost use Rattle.attributes.specs.Outcome.{References, Gathers};
+use document::Value;
+use document::Values;
+
+mod few;
+mod many;
+mod names;
+
+// An attribute: places and lengths of its name and its raw value; kind 1 the value is shown as it stands, 2 changed.
+pub struct Attribute {
+    pub name: u32,
+    pub name_len: u32,
+    pub value: u32,
+    pub value_len: u32,
+    pub kind: u32,
+}
+
+// What stands at a place: no attribute, or one and the place after it.
+pub enum One {
+    Absent,
+    Found(Attribute, usize),
+}
+
+// Where a value ends, and its kind.
+pub struct Inside {
+    pub end: usize,
+    pub kind: u32,
+}
+
+// The first attribute that is asked for, by its number.
+pub enum Place {
+    At(usize),
+    Nothing,
+}
+
+// What checking comes to: a fault's number and place, or none.
+pub enum Verdict {
+    Fault(u32, usize),
+    Good,
+}
+
+// A fault; or the place after the attributes, and their values.
+pub enum Attrs {
+    Fault(u32, usize),
+    All(usize, Values),
+}
+
+// `&`, tab, LF, CR.
+fn is_special(b: u8) -> bool
+    ensures { λ r. ⌜ r ≡ special b ⌝ }
+{
+    if 38 < b {
+        return false;
+    }
+    if b == 38 {
+        return true;
+    }
+    if b == 9 {
+        return true;
+    }
+    if b == 10 {
+        return true;
+    }
+    b == 13
+}
+
+// The end of a value, or the length where no quote closes it.
+fn quoted(doc: &[u8], from: usize, quote: u8) -> Inside
+    requires { ⌜ from ≤ length (now doc) ⌝ }
+    ensures { λ r. ⌜ Quotes «quote» (now (doc .entry)) from r ⌝ }
+{
+    let mut at = from;
+    let mut kind: u32 = 1;
+    while at < doc.len() {
+        let b = doc[at];
+        if b == quote {
+            return Inside { end: at, kind };
+        }
+        if is_special(b) {
+            kind = 2;
+            at += 1;
+        } else {
+            at += 1;
+        }
+    }
+    Inside { end: at, kind }
+}
+
+// At the opening quote of the value, after a name and `=`.
+fn value_at(doc: &[u8], name: usize, n: usize, at: usize) -> One
+    requires { ⌜ Named (now doc) name n at ⌝ }
+    ensures { λ r. ⌜ Finds (openQuote name (take n (drop name (now (doc .entry))))) (now (doc .entry)) at r ⌝ }
+{
+    if doc.len() <= at {
+        return One::Absent;
+    }
+    let q = doc[at];
+    if scan::is_quote(q) {
+        let value = at + 1;
+        let v = quoted(doc, value, q);
+        let end = v.end;
+        if doc.len() <= end {
+            return One::Absent;
+        }
+        let a = Attribute {
+            name: name as u32,
+            name_len: n as u32,
+            value: value as u32,
+            value_len: (end - value) as u32,
+            kind: v.kind,
+        };
+        return One::Found(a, end + 1);
+    }
+    One::Absent
+}
+
+// At the `=` after a name.
+fn equals_at(doc: &[u8], classes: &[u8; 256], name: usize, n: usize, at: usize) -> One
+    requires { ⌜ Named (now doc) name n at × Classes (now classes) ⌝ }
+    ensures { λ r. ⌜ Finds (equals name (take n (drop name (now (doc .entry))))) (now (doc .entry)) at r ⌝ }
+{
+    if doc.len() <= at {
+        return One::Absent;
+    }
+    if doc[at] == 61 {
+        let open = scan::space_end(doc, classes, at + 1);
+        return value_at(doc, name, n, open);
+    }
+    One::Absent
+}
+
+// At the white space before a name.
+fn attribute_at(doc: &[u8], classes: &[u8; 256], from: usize) -> One
+    requires { ⌜ (from ≤ length (now doc)) × (length (now doc) ≤ 1048576) × Classes (now classes) ⌝ }
+    ensures { λ r. ⌜ Finds attribute (now (doc .entry)) from r ⌝ }
+{
+    let name = scan::space_end(doc, classes, from);
+    if name <= from {
+        return One::Absent;
+    }
+    let end = scan::name_end(doc, classes, name);
+    if end <= name {
+        return One::Absent;
+    }
+    let at = scan::space_end(doc, classes, end);
+    equals_at(doc, classes, name, end - name, at)
+}
+
+// No value.
+fn no_value() -> Value
+    ensures { λ r. ⌜ r ≡ valueOf nothing ⌝ }
+{
+    Value {
+        at: 0,
+        len: 0,
+        kind: 0,
+    }
+}
+
+// The value of an attribute.
+fn value_of(a: Attribute) -> Value
+    ensures { λ r. ⌜ r ≡ valueOf (some a) ⌝ }
+{
+    Value {
+        at: a.value as usize,
+        len: a.value_len as usize,
+        kind: a.kind,
+    }
+}
+
+// Whether the references of a raw value are good.
+fn references_of(doc: &[u8], at: usize, n: usize) -> Verdict
+    requires { ⌜ (at + n ≤ length (now doc)) × (length (now doc) ≤ 1048576) ⌝ }
+    ensures { λ r. ⌜ References (now (doc .entry)) at n r ⌝ }
+{
+    match references::check(&doc[at..at + n]) {
+        references::Checked::Good => Verdict::Good,
+        references::Checked::Fault(number, place) => {
+            let p = references::in_document(at, place);
+            Verdict::Fault(number, p.0)
+        }
+    }
+}
+
+// The attributes from a place on, and their values: 17 at one too many; then, one by one, duplicate before reference.
+pub fn attributes(doc: &[u8], classes: &[u8; 256], from: usize) -> Attrs
+    requires { ⌜ (from ≤ length (now doc)) × (length (now doc) ≤ 1048576) × Classes (now classes) ⌝ }
+    ensures { λ r. ⌜ Gathers (now (doc .entry)) from r ⌝ }
+{
+    few::gather(doc, classes, from)
+}

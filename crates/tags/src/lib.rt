@@ -1,0 +1,230 @@
+// Tags: the kind of a name, closing tags, start tags, and the next token from a place on.
+ghost use mathlib.Core.Path.{_≡_};
+ghost use Prim.Native.Nat.{_+_, _≤_};
+ghost use lib.ListN.{length, drop};
+ghost use Rattle.slices.specs.Bytes.{if, same};
+ghost use Rattle.scan.specs.Classes.{Classes};
+ghost use Rattle.document.specs.Tokens.{opening, closing, tag};
+ghost use Rattle.document.specs.Elements.{localKind, kindOf};
+ghost use Rattle.document.specs.Outcome.{Tokenises, Steps};
+ghost use Rattle.tags.specs.Kinds.{exactKind, Local};
+ghost use Rattle.tags.specs.Outcome.{TagStart, TagAt, Ends};
+use attributes::Attrs;
+use document::ClosingTag;
+use document::Next;
+use document::StartTag;
+use document::Token;
+use scan::Scan;
+
+// Where a start tag's end was wanted, or whether it is `/>` and the place after it.
+pub enum TagEnd {
+    Missing(usize),
+    Here(bool, usize),
+}
+
+// The kind if the name is the key.
+fn one(name: &[u8], key: &[u8], kind: u32) -> u32
+    ensures { λ r. ⌜ r ≡ if (same (now (name .entry)) (now (key .entry))) kind 0 ⌝ }
+{
+    if slices::equal(name, key) {
+        return kind;
+    }
+    0
+}
+
+// The first kind if the name is the first key, else the second if it is the second.
+fn either(name: &[u8], key: &[u8], kind: u32, key2: &[u8], kind2: u32) -> u32
+    ensures { λ r. ⌜ r ≡ if (same (now (name .entry)) (now (key .entry))) kind (if (same (now (name .entry)) (now (key2 .entry))) kind2 0) ⌝ }
+{
+    if slices::equal(name, key) {
+        return kind;
+    }
+    one(name, key2, kind2)
+}
+
+// The kind of a name by the names that are taken whole, or 0.
+fn exact_kind(name: &[u8]) -> u32
+    ensures { λ r. ⌜ r ≡ exactKind (now (name .entry)) ⌝ }
+{
+    match name.len() {
+        3 => one(name, b"arg", 7),
+        4 => one(name, b"node", 1),
+        6 => either(name, b"method", 3, b"signal", 5),
+        8 => one(name, b"property", 4),
+        9 => one(name, b"interface", 2),
+        10 => one(name, b"annotation", 6),
+        _ => 0,
+    }
+}
+
+// The kind of a local name, or 0.
+fn local_kind(name: &[u8]) -> u32
+    ensures { λ r. ⌜ r ≡ localKind (now (name .entry)) ⌝ }
+{
+    match name.len() {
+        4 => one(name, b"enum", 9),
+        6 => either(name, b"struct", 11, b"member", 12),
+        7 => one(name, b"mapping", 13),
+        9 => either(name, b"enumvalue", 10, b"docstring", 14),
+        11 => one(name, b"simple-type", 8),
+        _ => 0,
+    }
+}
+
+// Past the last colon of a name.
+fn local(name: &[u8]) -> usize
+    ensures { λ r. ⌜ Local (now (name .entry)) r ⌝ }
+{
+    let mut i = name.len();
+    while 0 < i {
+        let before = i - 1;
+        if name[before] == b':' {
+            return i;
+        }
+        i = before;
+    }
+    0
+}
+
+// The kind of an element, by its name.
+pub fn kind_of(name: &[u8]) -> u32
+    ensures { λ r. ⌜ r ≡ kindOf (now (name .entry)) ⌝ }
+{
+    let kind = exact_kind(name);
+    if kind != 0 {
+        return kind;
+    }
+    let from = local(name);
+    local_kind(&name[from..])
+}
+
+// The closing tag whose `</` stands at a place: a name, white space, `>`.
+fn closing_tag(doc: &[u8], classes: &[u8; 256], lt: usize) -> Token
+    requires { ⌜ TagStart (now doc) lt × (lt + 2 ≤ length (now doc)) × Classes (now classes) ⌝ }
+    ensures { λ r. ⌜ TagAt (now (doc .entry)) lt (closing (drop (lt + 2) (now (doc .entry))) lt) r ⌝ }
+{
+    let at = lt + 2;
+    let named = scan::name_end(doc, classes, at);
+    if named == at {
+        return Token::Fault(4, lt + 1);
+    }
+    let end = scan::space_end(doc, classes, named);
+    if doc.len() <= end {
+        return Token::Fault(4, lt + 1);
+    }
+    if doc[end] != b'>' {
+        return Token::Fault(4, lt + 1);
+    }
+    Token::Close(ClosingTag {
+        lt,
+        at,
+        len: named - at,
+        end: end + 1,
+    })
+}
+
+// The end of a start tag, past the white space from a place on.
+fn tag_end(doc: &[u8], classes: &[u8; 256], from: usize) -> TagEnd
+    requires { ⌜ (from ≤ length (now doc)) × Classes (now classes) ⌝ }
+    ensures { λ r. ⌜ Ends (now (doc .entry)) from r ⌝ }
+{
+    let at = scan::space_end(doc, classes, from);
+    if doc.len() <= at {
+        return TagEnd::Missing(at);
+    }
+    if doc[at] == b'>' {
+        return TagEnd::Here(false, at + 1);
+    }
+    if doc[at] != b'/' {
+        return TagEnd::Missing(at);
+    }
+    let next = at + 1;
+    if doc.len() <= next {
+        return TagEnd::Missing(at);
+    }
+    if doc[next] != b'>' {
+        return TagEnd::Missing(at); // at the slash
+    }
+    TagEnd::Here(true, at + 2)
+}
+
+// The start tag whose `<` stands at a place.
+fn start_tag(doc: &[u8], classes: &[u8; 256], lt: usize) -> Token
+    requires { ⌜ TagStart (now doc) lt × Classes (now classes) ⌝ }
+    ensures { λ r. ⌜ TagAt (now (doc .entry)) lt (opening (drop (lt + 1) (now (doc .entry))) lt) r ⌝ }
+{
+    let at = lt + 1;
+    let named = scan::name_end(doc, classes, at);
+    if named == at {
+        return Token::Fault(4, at);
+    }
+    match attributes::attributes(doc, classes, named) {
+        Attrs::Fault(number, place) => Token::Fault(number, place),
+        Attrs::All(from, values) => match tag_end(doc, classes, from) {
+            TagEnd::Missing(place) => Token::Fault(4, place),
+            TagEnd::Here(closes, end) => {
+                let kind = kind_of(&doc[at..named]);
+                Token::Start(StartTag {
+                    at,
+                    len: named - at,
+                    kind,
+                    closes,
+                    end,
+                    values,
+                })
+            }
+        },
+    }
+}
+
+// The tag whose `<` stands at a place.
+fn tag(doc: &[u8], classes: &[u8; 256], lt: usize) -> Token
+    requires { ⌜ TagStart (now doc) lt × Classes (now classes) ⌝ }
+    ensures { λ r. ⌜ TagAt (now (doc .entry)) lt (tag (drop (lt + 1) (now (doc .entry))) lt) r ⌝ }
+{
+    let next = lt + 1;
+    if doc.len() <= next {
+        return Token::Fault(4, next);
+    }
+    if doc[next] == b'/' {
+        return closing_tag(doc, classes, lt);
+    }
+    start_tag(doc, classes, lt)
+}
+
+// The next token from a place on.
+pub fn token(doc: &[u8], classes: &[u8; 256], from: usize) -> Token
+    requires { ⌜ (from ≤ length (now doc)) × (length (now doc) ≤ 1048576) × Classes (now classes) ⌝ }
+    ensures { λ r. ⌜ Tokenises (now (doc .entry)) from r ⌝ }
+{
+    match scan::ignorable(doc, from) {
+        Scan::Fault(number, place) => Token::Fault(number, place),
+        Scan::At(at) => {
+            if doc.len() <= at {
+                return Token::End(at);
+            }
+            tag(doc, classes, at)
+        }
+    }
+}
+
+// What comes next in an open element, whose name stands at a place with a length: 5 at the end, 6 after another closing tag.
+pub fn step(doc: &[u8], classes: &[u8; 256], from: usize, at: usize, len: usize) -> Next
+    requires { ⌜ (from ≤ length (now doc)) × (at + len ≤ length (now doc)) × (length (now doc) ≤ 1048576) × Classes (now classes) ⌝ }
+    ensures { λ r. ⌜ Steps (now (doc .entry)) from at len r ⌝ }
+{
+    match token(doc, classes, from) {
+        Token::Fault(number, place) => Next::Fault(number, place),
+        Token::End(place) => Next::Fault(5, place),
+        Token::Close(c) => {
+            let open = at + len;
+            let named = c.at;
+            let close = named + c.len;
+            if slices::equal(&doc[named..close], &doc[at..open]) {
+                return Next::Close(c.lt, c.end);
+            }
+            Next::Fault(6, c.end)
+        }
+        Token::Start(c) => Next::Start(c),
+    }
+}
