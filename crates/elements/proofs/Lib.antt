@@ -1,0 +1,3 @@
+-- The laws of the rows of elements.
+-- Assumes nothing.
+pub mod Rows

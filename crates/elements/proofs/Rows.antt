@@ -1,0 +1,389 @@
+-- The row of each kind of element, from what its start tag has.
+-- Assumes nothing.
+use Prim.Native.Nat.{ℕ, suc, _+_, _*_, _≤_, _<_}
+use mathlib.Core.Path.{_≡_, refl, sym, _∙_, ap}
+use mathlib.Core.List.{List, [], _∷_}
+use mathlib.Core.Option.{Option, none, some}
+use mathlib.Core.Bool.{Bool, true, false, not}
+use borrow.Author.Needs.{needs}
+use borrow.Author.Tests.{eq-eqb, ne-eqb, not-true, not-false}
+use native.Mathlib.Omega.{arith}
+use lib.Dec.{eqb}
+use lib.ListN.{length}
+use Rattle.slices.specs.Bytes.{if, bytes, same}
+use Rattle.names.specs.Names.{interfaceName, memberName, propertyName}
+use Rattle.names.specs.Signature.{signature}
+use Rattle.document.specs.Tags.{Shown, lookup, tpType}
+use Rattle.document.specs.Tokens.{Tag}
+use Rattle.document.specs.Rows.{Row, Tables}
+use Rattle.document.specs.Elements.{attr, accessOf, directionOf, directed, kept, row, opens, refuses, opensAs, Opened}
+use Rattle.document.specs.Outcome.{lent, Held, ValueIs, ValueFits, Stands, Bounded, Ready, TagIs, Opening, whole}
+use Rattle.document.specs.declared.Value.{Value}
+use Rattle.document.specs.declared.StartTag.{StartTag}
+use Rattle.document.specs.declared.Fill.{Fill}
+use Rattle.document.specs.declared.Answer.{Answer}
+use Rattle.document.proofs.Presence.{value-absent, value-there}
+use Rattle.rows.specs.Outcome.{Lies, RowFits, RowPut, Tests}
+use Rattle.rows.specs.declared.Head.{Head}
+use Rattle.elements.specs.Outcome.{Absent, Accesses, accessWord, Directs, directionWord, PropertyNamed, NamedKind, TypedKind, UntypedKind}
+
+-- a value of a tag lies in the document, and so does one that is not there
+pub lies : {doc : List ℕ} {c : StartTag} {f : Fill} {v : Value} → Ready doc c f → ValueFits (c .at) (c .end) v → Lies doc v
+lies r h = record { small = r .sound .small; inside = omega (arith, h .until, r .fits .within) }
+
+pub absent-fits : {doc : List ℕ} {c : StartTag} {f : Fill} {v : Value} → Ready doc c f → Absent v → ValueFits (c .at) (c .end) v
+absent-fits r a = record { until = omega (arith, a .at, a .len); short = omega (arith, a .len, r .fits .inside) }
+
+absent-is : (doc : List ℕ) {v : Value} → Absent v → ValueIs doc v none
+absent-is doc a = a .kind
+
+-- the reader keeps all of an attribute
+kept-is : (doc : List ℕ) (v : Value) (o : Option Shown) → ValueIs doc v o → ValueIs doc v (kept whole o)
+kept-is doc v none h = h
+kept-is doc v (some s) h = h
+
+module _ {doc : List ℕ} {c : StartTag} {f : Fill} {h : Head} {name second tp : Value} (r : Ready doc c f) (a : ValueFits (c .at) (c .end) name) (b : ValueFits (c .at) (c .end) second) (d : ValueFits (c .at) (c .end) tp) where
+  pub row-fits : h .parent ≤ 1048576 → RowFits doc h name second tp f
+  row-fits p = record {
+    small = r .sound .small;
+    named = omega (arith, a .until, r .fits .within);
+    seconded = omega (arith, b .until, r .fits .within);
+    typed = omega (arith, d .until, r .fits .within);
+    parent = p;
+    rows = omega (arith, r .few, r .sound .small, r .fits .inside, r .fits .within);
+    text = omega (arith, r .text, r .sound .small, r .fits .inside, r .fits .within);
+  }
+
+  -- a row that fits the tag's element
+  opened : {k p : ℕ} {rows rows′ text text′ : List ℕ} {g : Fill} → RowPut doc h name second tp f rows rows′ text text′ g → h .kind ≡ k → h .parent ≡ p → ((t : Tag) → TagIs doc c t → (n v y : Option Shown) × (opensAs whole k p t ≡ opens (row whole k p n v y (h .word))) × ValueIs doc name n × ValueIs doc second v × ValueIs doc tp y) → Opening doc k c p f rows rows′ text text′ (Answer.Done g)
+  opened {k} {p} {g = g} q e o i = record {
+    at = r .at;
+    onward = (
+      q .at,
+      q .counts,
+      record {
+        sound = r .sound;
+        inside = omega (arith, q .at, r .at, r .fits .within);
+        few = omega (arith, q .at, r .at, q .counts, q .warnings, r .few, r .fits .named, r .fits .inside);
+        text = omega (arith, q .at, r .at, q .most, r .text, a .short, b .short, d .short, r .fits .inside);
+      },
+    );
+    is = λ t z. let j = i t z in (row whole k p (j .0) (j .1) (j .2) (h .word), j .3, λ u w s. q .stands (row whole k p (j .0) (j .1) (j .2) (h .word)) u w (sym e) (sym o) refl refl (kept-is doc name (j .0) (j .4)) (kept-is doc second (j .1) (j .5)) (kept-is doc tp (j .2) (j .6)) s);
+  }
+
+-- the tag's first fault
+refused : {doc : List ℕ} {c : StartTag} {f : Fill} {k p n q : ℕ} {rows text : List ℕ} → Ready doc c f → ((t : Tag) → TagIs doc c t → opensAs whole k p t ≡ refuses n q) → Opening doc k c p f rows rows text text (Answer.Fault n q)
+refused r i = record { at = r .at; onward = tt; is = i }
+
+-- the kinds by what they need
+pub interface-kind : NamedKind interfaceName 2
+unfolding opensAs
+interface-kind = record { is = λ p t. refl }
+
+pub method-kind : NamedKind memberName 3
+unfolding opensAs
+method-kind = record { is = λ p t. refl }
+
+pub signal-kind : NamedKind memberName 5
+unfolding opensAs
+signal-kind = record { is = λ p t. refl }
+
+pub simple-type-kind : TypedKind 8
+unfolding opensAs
+simple-type-kind = record { is = λ p t. refl }
+
+pub enum-kind : TypedKind 9
+unfolding opensAs
+enum-kind = record { is = λ p t. refl }
+
+pub struct-kind : UntypedKind 11
+unfolding opensAs
+struct-kind = record { is = λ p t. refl }
+
+pub mapping-kind : UntypedKind 13
+unfolding opensAs
+mapping-kind = record { is = λ p t. refl }
+
+-- an attribute that is missing, and one that is there
+missing : (doc key : List ℕ) (t : Tag) (v : Value) → ValueIs doc v (attr key t) → v .kind ≡ 0 → attr key t ≡ none
+missing doc key t v h e = value-absent doc v (attr key t) h e
+
+there : (doc key : List ℕ) (t : Tag) {v : Value} → ValueIs doc v (attr key t) → (v .kind ≡ 0 → ⊥) → (s : Shown) × (attr key t ≡ some s) × Held doc v s
+there doc key t {v} h e = value-there doc v (attr key t) h e
+
+module _ {doc : List ℕ} {c : StartTag} {f : Fill} (r : Ready doc c f) {p : ℕ} {rows rows′ text text′ : List ℕ} {g : Fill} where
+  -- kinds whose attributes may be missing
+  module _ {x y : Value} (a : Absent x) (b : Absent y) where
+    pub node-done : RowPut doc (record { kind = 1; parent = p; word = 0 }) (c .values .name) x y f rows rows′ text text′ g → Opening doc 1 c p f rows rows′ text text′ (Answer.Done g)
+    unfolding opensAs
+    node-done q =
+        opened r (r .fits .values .name) (absent-fits r a) (absent-fits r b) q refl refl
+        (λ t z. (attr (bytes "name") t, none, none, refl, z .values .name, a .kind, b .kind))
+
+    pub untyped-done : {k : ℕ} → UntypedKind k → RowPut doc (record { kind = k; parent = p; word = 0 }) (c .values .name) x y f rows rows′ text text′ g → Opening doc k c p f rows rows′ text text′ (Answer.Done g)
+    untyped-done i q =
+        opened r (r .fits .values .name) (absent-fits r a) (absent-fits r b) q refl refl
+        (λ t z. (attr (bytes "name") t, none, none, i .is p t, z .values .name, a .kind, b .kind))
+
+    -- a name that is there and good
+    pub named-done : {k : ℕ} {good : List ℕ → Bool} {ok : Bool} → NamedKind good k → (c .values .name .kind ≡ 0 → ⊥) → Tests good doc (c .values .name) ok → ok ≡ true → RowPut doc (record { kind = k; parent = p; word = 0 }) (c .values .name) x y f rows rows′ text text′ g → Opening doc k c p f rows rows′ text text′ (Answer.Done g)
+    named-done i n o e q =
+        opened r (r .fits .values .name) (absent-fits r a) (absent-fits r b) q refl refl
+        (λ t z.
+        let s = there doc (bytes "name") t (z .values .name) n in
+        (some (s .0), none, none, i .is p t ∙ rw (s .1, sym (o .is (s .0) (s .2)) ∙ e), s .2, a .kind, b .kind))
+
+  module _ {x : Value} (a : Absent x) where
+    pub typed-done : {k : ℕ} → TypedKind k → RowPut doc (record { kind = k; parent = p; word = 0 }) (c .values .name) (c .values .ty) x f rows rows′ text text′ g → Opening doc k c p f rows rows′ text text′ (Answer.Done g)
+    typed-done i q =
+        opened r (r .fits .values .name) (r .fits .values .ty) (absent-fits r a) q refl refl
+        (λ t z. (attr (bytes "name") t, attr (bytes "type") t, none, i .is p t, z .values .name, z .values .ty, a .kind))
+
+    pub enumvalue-done : RowPut doc (record { kind = 10; parent = p; word = 0 }) (c .values .suffix) (c .values .value) x f rows rows′ text text′ g → Opening doc 10 c p f rows rows′ text text′ (Answer.Done g)
+    unfolding opensAs
+    enumvalue-done q =
+        opened r (r .fits .values .suffix) (r .fits .values .value) (absent-fits r a) q refl refl
+        (λ t z. (attr (bytes "suffix") t, attr (bytes "value") t, none, refl, z .values .suffix, z .values .value, a .kind))
+
+    pub annotation-done : (c .values .name .kind ≡ 0 → ⊥) → (c .values .value .kind ≡ 0 → ⊥) → RowPut doc (record { kind = 6; parent = p; word = 0 }) (c .values .name) (c .values .value) x f rows rows′ text text′ g → Opening doc 6 c p f rows rows′ text text′ (Answer.Done g)
+    unfolding opensAs
+    annotation-done n v q =
+        opened r (r .fits .values .name) (r .fits .values .value) (absent-fits r a) q refl refl
+        (λ t z.
+        let s = there doc (bytes "name") t (z .values .name) n in
+        let w = there doc (bytes "value") t (z .values .value) v in
+        (some (s .0), some (w .0), none, rw (s .1, w .1), s .2, w .2, a .kind))
+
+  pub part-done : RowPut doc (record { kind = 12; parent = p; word = 0 }) (c .values .name) (c .values .ty) (c .values .tp) f rows rows′ text text′ g → Opening doc 12 c p f rows rows′ text text′ (Answer.Done g)
+  unfolding opensAs
+  part-done q =
+      opened r (r .fits .values .name) (r .fits .values .ty) (r .fits .values .tp) q refl refl
+      (λ t z. (attr (bytes "name") t, attr (bytes "type") t, tpType (t .attrs), refl, z .values .name, z .values .ty, z .values .tp))
+
+-- faults, at the element name
+module _ {doc : List ℕ} {c : StartTag} {f : Fill} (r : Ready doc c f) {p : ℕ} {rows text : List ℕ} where
+  pub named-missing : {k : ℕ} {good : List ℕ → Bool} → NamedKind good k → c .values .name .kind ≡ 0 → Opening doc k c p f rows rows text text (Answer.Fault 12 (c .at))
+  named-missing i e = refused r (λ t z. i .is p t ∙ rw (missing doc (bytes "name") t (c .values .name) (z .values .name) e) (ap (refuses 12) (sym (z .at))))
+
+  pub named-bad : {k : ℕ} {good : List ℕ → Bool} {ok : Bool} → NamedKind good k → (c .values .name .kind ≡ 0 → ⊥) → Tests good doc (c .values .name) ok → ok ≡ false → Opening doc k c p f rows rows text text (Answer.Fault 13 (c .at))
+  named-bad i n o e =
+      refused r
+      (λ t z.
+      let s = there doc (bytes "name") t (z .values .name) n in
+      i .is p t ∙ rw (s .1, sym (o .is (s .0) (s .2)) ∙ e) (ap (refuses 13) (sym (z .at))))
+
+  pub annotation-unnamed : c .values .name .kind ≡ 0 → Opening doc 6 c p f rows rows text text (Answer.Fault 12 (c .at))
+  unfolding opensAs
+  annotation-unnamed e = refused r (λ t z. rw (missing doc (bytes "name") t (c .values .name) (z .values .name) e) (ap (refuses 12) (sym (z .at))))
+
+  pub annotation-unvalued : (c .values .name .kind ≡ 0 → ⊥) → c .values .value .kind ≡ 0 → Opening doc 6 c p f rows rows text text (Answer.Fault 12 (c .at))
+  unfolding opensAs
+  annotation-unvalued n e =
+      refused r
+      (λ t z.
+      let s = there doc (bytes "name") t (z .values .name) n in
+      rw (s .1, missing doc (bytes "value") t (c .values .value) (z .values .value) e) (ap (refuses 12) (sym (z .at))))
+
+pub lies-name : {doc : List ℕ} {c : StartTag} {f : Fill} → Ready doc c f → Lies doc (c .values .name)
+lies-name r = lies r (r .fits .values .name)
+
+not-four : (a b c : Bool) → _≡_ {A = ℕ} (if a 1 (if b 2 (if c 3 0))) 4 → ⊥
+not-four true b c e = omega arith
+not-four false true c e = omega arith
+not-four false false true e = omega arith
+not-four false false false e = omega arith
+
+four : (w : ℕ) → w ≡ 4 → w ≡ 0 → ⊥
+four w a b = omega arith
+
+access-missing : (o : Option Shown) → accessWord o ≡ 4 → o ≡ none
+access-missing none e = refl
+access-missing (some s) e = absurd (not-four (same (s .value) (bytes "read")) (same (s .value) (bytes "write")) (same (s .value) (bytes "readwrite")) e)
+
+access-there : (o : Option Shown) → (accessWord o ≡ 4 → ⊥) → (s : Shown) × (o ≡ some s) × (accessWord o ≡ accessOf (s .value))
+access-there none e = absurd (e refl)
+access-there (some s) e = (s, refl, refl)
+
+pub accesses-none : {doc : List ℕ} {v : Value} → v .kind ≡ 0 → Accesses doc v 4
+accesses-none {doc} {v} e = record { is = λ o h. rw (value-absent doc v o h e) }
+
+pub accesses : {doc : List ℕ} {v : Value} {word : ℕ} → (v .kind ≡ 0 → ⊥) → Tests accessOf doc v word → Accesses doc v word
+accesses {doc} {v} n l = record { is = λ o h. let s = value-there doc v o h n in l .is (s .0) (s .2) ∙ sym (ap accessWord (s .1)) }
+
+-- property: the tests in a row
+module _ {doc : List ℕ} {c : StartTag} {f : Fill} (r : Ready doc c f) {p : ℕ} where
+  module _ {rows text : List ℕ} where
+    pub property-unnamed : c .values .name .kind ≡ 0 → Opening doc 4 c p f rows rows text text (Answer.Fault 12 (c .at))
+    unfolding opensAs
+    property-unnamed e = refused r (λ t z. rw (missing doc (bytes "name") t (c .values .name) (z .values .name) e) (ap (refuses 12) (sym (z .at))))
+
+  module _ (n : c .values .name .kind ≡ 0 → ⊥) {o : Bool} (i : Tests propertyName doc (c .values .name) o) where
+    pub property-bad : {rows text : List ℕ} → not o ≡ true → Opening doc 4 c p f rows rows text text (Answer.Fault 13 (c .at))
+    unfolding opensAs
+    property-bad e =
+        refused r
+        (λ t z.
+        let s = there doc (bytes "name") t (z .values .name) n in
+        rw (s .1, sym (i .is (s .0) (s .2)) ∙ not-true o e) (ap (refuses 13) (sym (z .at))))
+
+  module _ (h : PropertyNamed doc c) where
+    pub property-untyped : {rows text : List ℕ} → c .values .ty .kind ≡ 0 → Opening doc 4 c p f rows rows text text (Answer.Fault 12 (c .at))
+    unfolding opensAs
+    property-untyped e =
+        refused r
+        (λ t z.
+        let s = h .is t z in
+        rw (s .1, s .3, missing doc (bytes "type") t (c .values .ty) (z .values .ty) e) (ap (refuses 12) (sym (z .at))))
+
+    module _ (m : c .values .ty .kind ≡ 0 → ⊥) {y : Bool} (j : Tests signature doc (c .values .ty) y) where
+      pub property-unsigned : {rows text : List ℕ} → not y ≡ true → Opening doc 4 c p f rows rows text text (Answer.Fault 14 (c .at))
+      unfolding opensAs
+      property-unsigned e =
+          refused r
+          (λ t z.
+          let s = h .is t z in
+          let w = there doc (bytes "type") t (z .values .ty) m in
+          rw (s .1, s .3, w .1, sym (j .is (w .0) (w .2)) ∙ not-true y e) (ap (refuses 14) (sym (z .at))))
+
+      module _ (x : not y ≡ false) where
+        module _ {word : ℕ} (l : Accesses doc (c .values .access) word) where
+          pub property-unaccessed : {rows text : List ℕ} → word ≡ 4 → Opening doc 4 c p f rows rows text text (Answer.Fault 12 (c .at))
+          unfolding opensAs
+          property-unaccessed e =
+              refused r
+              (λ t z.
+              let s = h .is t z in
+              let w = there doc (bytes "type") t (z .values .ty) m in
+              rw (s .1, s .3, w .1, sym (j .is (w .0) (w .2)) ∙ not-false y x, access-missing (attr (bytes "access") t) (sym (l .is (attr (bytes "access") t) (z .values .access)) ∙ e))
+              (ap (refuses 12) (sym (z .at))))
+
+          pub property-inaccessible : {rows text : List ℕ} → word ≡ 0 → Opening doc 4 c p f rows rows text text (Answer.Fault 15 (c .end))
+          unfolding opensAs
+          property-inaccessible e =
+              refused r
+              (λ t z.
+              let s = h .is t z in
+              let w = there doc (bytes "type") t (z .values .ty) m in
+              let v = access-there (attr (bytes "access") t) (λ i. four word (l .is (attr (bytes "access") t) (z .values .access) ∙ i) e) in
+              rw (s .1, s .3, w .1, sym (j .is (w .0) (w .2)) ∙ not-false y x, v .1, ← v .2, ← l .is (attr (bytes "access") t) (z .values .access), e)
+              (ap (refuses 15) (sym (z .end))))
+
+          pub property-done : {rows rows′ text text′ : List ℕ} {g : Fill} → (word ≡ 4 → ⊥) → (word ≡ 0 → ⊥) → RowPut doc (record { kind = 4; parent = p; word = word }) (c .values .name) (c .values .ty) (c .values .tp) f rows rows′ text text′ g → Opening doc 4 c p f rows rows′ text text′ (Answer.Done g)
+          unfolding opensAs
+          property-done n e q =
+              opened r (r .fits .values .name) (r .fits .values .ty) (r .fits .values .tp) q refl refl
+              (λ t z.
+              let s = h .is t z in
+              let w = there doc (bytes "type") t (z .values .ty) m in
+              let k = l .is (attr (bytes "access") t) (z .values .access) in
+              let v = access-there (attr (bytes "access") t) (λ i. n (k ∙ i)) in (
+                some (s .0),
+                some (w .0),
+                tpType (t .attrs),
+                rw (s .1, s .3, w .1, sym (j .is (w .0) (w .2)) ∙ not-false y x, v .1, sym (v .2) ∙ sym k, ne-eqb word 0 e),
+                s .2,
+                w .2,
+                z .values .tp,
+              ))
+
+pub property-named : {doc : List ℕ} {c : StartTag} {o : Bool} → (c .values .name .kind ≡ 0 → ⊥) → Tests propertyName doc (c .values .name) o → not o ≡ false → PropertyNamed doc c
+property-named {doc} {c} {o} n i d = record {
+  is = λ t z.
+      let s = there doc (bytes "name") t (z .values .name) n in
+      (s .0, s .1, s .2, sym (i .is (s .0) (s .2)) ∙ not-false o d);
+}
+
+-- arg: two tests and a direction
+pub directs-none : {doc : List ℕ} {v : Value} → v .kind ≡ 0 → Directs doc v 0
+directs-none {doc} {v} e = record { is = λ o h. rw (value-absent doc v o h e) }
+
+module _ {doc : List ℕ} {v : Value} (n : v .kind ≡ 0 → ⊥) {word : ℕ} (l : Tests directionOf doc v word) where
+  pub directs-bad : word ≡ 0 → Directs doc v 3
+  directs-bad e = record { is = λ o h. let s = value-there doc v o h n in rw (s .1, sym (l .is (s .0) (s .2)) ∙ e) }
+
+  pub directs : (word ≡ 0 → ⊥) → Directs doc v word
+  directs e = record { is = λ o h. let s = value-there doc v o h n in rw (s .1, sym (l .is (s .0) (s .2)), ne-eqb word 0 e) }
+
+not-three : (a b : Bool) → _≡_ {A = ℕ} (if a 1 (if b 2 0)) 3 → ⊥
+not-three true b e = omega arith
+not-three false true e = omega arith
+not-three false false e = omega arith
+
+direction-bad : (t : Tag) (o : Option Shown) (k : ℕ → Opened Shown) → directionWord o ≡ 3 → directed whole o t k ≡ refuses 16 (t .after)
+direction-bad t none k e = absurd (omega arith)
+direction-bad t (some s) k e = go (eqb (directionOf (s .value)) 0) refl e
+  where
+    go : (b : Bool) → eqb (directionOf (s .value)) 0 ≡ b → if b 3 (directionOf (s .value)) ≡ 3 → directed whole (some s) t k ≡ refuses 16 (t .after)
+    go true h e = rw h
+    go false h e = absurd (not-three (same (s .value) (bytes "in")) (same (s .value) (bytes "out")) e)
+
+direction-good : (t : Tag) (o : Option Shown) (k : ℕ → Opened Shown) → (directionWord o ≡ 3 → ⊥) → directed whole o t k ≡ k (directionWord o)
+direction-good t none k e = refl
+direction-good t (some s) k e = go (eqb (directionOf (s .value)) 0) refl e
+  where
+    go : (b : Bool) → eqb (directionOf (s .value)) 0 ≡ b → (if b 3 (directionOf (s .value)) ≡ 3 → ⊥) → directed whole (some s) t k ≡ k (if b 3 (directionOf (s .value)))
+    go true h e = absurd (e refl)
+    go false h e = rw h
+
+module _ {doc : List ℕ} {c : StartTag} {f : Fill} (r : Ready doc c f) where
+  pub arg-untyped : {p : ℕ} {rows text : List ℕ} → c .values .ty .kind ≡ 0 → Opening doc 7 c p f rows rows text text (Answer.Fault 12 (c .at))
+  unfolding opensAs
+  arg-untyped e = refused r (λ t z. rw (missing doc (bytes "type") t (c .values .ty) (z .values .ty) e) (ap (refuses 12) (sym (z .at))))
+
+  module _ (m : c .values .ty .kind ≡ 0 → ⊥) {y : Bool} (j : Tests signature doc (c .values .ty) y) where
+    pub arg-unsigned : {p : ℕ} {rows text : List ℕ} → not y ≡ true → Opening doc 7 c p f rows rows text text (Answer.Fault 14 (c .at))
+    unfolding opensAs
+    arg-unsigned e =
+        refused r
+        (λ t z.
+        let w = there doc (bytes "type") t (z .values .ty) m in
+        rw (w .1, sym (j .is (w .0) (w .2)) ∙ not-true y e) (ap (refuses 14) (sym (z .at))))
+
+    module _ (x : not y ≡ false) {word : ℕ} (l : Directs doc (c .values .direction) word) where
+      typed : (p : ℕ) (t : Tag) → TagIs doc c t → (w : Shown) × Held doc (c .values .ty) w × (opensAs whole 7 p t ≡ directed whole (attr (bytes "direction") t) t (λ d. opens (row whole 7 p (attr (bytes "name") t) (some w) (tpType (t .attrs)) d)))
+      unfolding opensAs
+      typed p t z =
+          let w = there doc (bytes "type") t (z .values .ty) m in
+          (w .0, w .2, rw (w .1, sym (j .is (w .0) (w .2)) ∙ not-false y x))
+
+      pub arg-undirected : {p : ℕ} {rows text : List ℕ} → word ≡ 3 → Opening doc 7 c p f rows rows text text (Answer.Fault 16 (c .end))
+      arg-undirected {p} e =
+          refused r
+          (λ t z.
+          typed p t z .2
+          ∙ direction-bad t (attr (bytes "direction") t) (λ d. opens (row whole 7 p (attr (bytes "name") t) (some (typed p t z .0)) (tpType (t .attrs)) d)) (sym (l .is (attr (bytes "direction") t) (z .values .direction)) ∙ e)
+          ∙ ap (refuses 16) (sym (z .end)))
+
+      pub arg-done : {p : ℕ} {rows rows′ text text′ : List ℕ} {g : Fill} → (word ≡ 3 → ⊥) → RowPut doc (record { kind = 7; parent = p; word = word }) (c .values .name) (c .values .ty) (c .values .tp) f rows rows′ text text′ g → Opening doc 7 c p f rows rows′ text text′ (Answer.Done g)
+      arg-done {p} e q =
+          opened r (r .fits .values .name) (r .fits .values .ty) (r .fits .values .tp) q refl refl
+          (λ t z.
+          let h = l .is (attr (bytes "direction") t) (z .values .direction) in (
+            attr (bytes "name") t,
+            some (typed p t z .0),
+            tpType (t .attrs),
+            typed p t z .2
+                ∙ direction-good t (attr (bytes "direction") t) (λ d. opens (row whole 7 p (attr (bytes "name") t) (some (typed p t z .0)) (tpType (t .attrs)) d)) (λ i. e (h ∙ i))
+                ∙ ap (λ d. opens (row whole 7 p (attr (bytes "name") t) (some (typed p t z .0)) (tpType (t .attrs)) d)) (sym h),
+            z .values .name,
+            typed p t z .1,
+            z .values .tp,
+          ))
+
+pub typed-fits : {doc : List ℕ} {c : StartTag} {f : Fill} {h : Head} → Ready doc c f → h .parent ≤ 1048576 → RowFits doc h (c .values .name) (c .values .ty) (c .values .tp) f
+typed-fits r p = row-fits r (r .fits .values .name) (r .fits .values .ty) (r .fits .values .tp) p
+
+pub lies-ty : {doc : List ℕ} {c : StartTag} {f : Fill} → Ready doc c f → Lies doc (c .values .ty)
+lies-ty r = lies r (r .fits .values .ty)
+
+pub lies-access : {doc : List ℕ} {c : StartTag} {f : Fill} → Ready doc c f → Lies doc (c .values .access)
+lies-access r = lies r (r .fits .values .access)
+
+pub lies-direction : {doc : List ℕ} {c : StartTag} {f : Fill} → Ready doc c f → Lies doc (c .values .direction)
+lies-direction r = lies r (r .fits .values .direction)
+
+pub ruleset properties = (lies-name, lies-ty, lies-access, typed-fits, property-unnamed, property-bad, property-untyped, property-unsigned, property-unaccessed, property-inaccessible, property-done, property-named, accesses-none, accesses, needs)
+
+pub ruleset args = (lies-ty, lies-direction, typed-fits, directs-none, directs-bad, directs, arg-untyped, arg-unsigned, arg-undirected, arg-done, needs)
+
+pub ruleset elements = (lies-name, interface-kind, row-fits, absent-fits, node-done, untyped-done, named-done, typed-done, enumvalue-done, annotation-done, part-done, named-missing, named-bad, annotation-unnamed, annotation-unvalued, needs)

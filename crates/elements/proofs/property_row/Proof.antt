@@ -1,0 +1,17 @@
+-- `elements::property_row` meets its contract.
+-- Assumes nothing.
+use Rattle.elements.proofs.Rows.{properties}
+use Rattle.elements.proofs.property_row.Statement.{statement}
+use Rattle.elements.proofs.property_row.Tie as tie
+
+pub property-row-spec : {M : Type 1} → statement M
+property-row-spec =
+    tie.close
+    (tie.spec
+    (λ c. search properties)
+    (λ c. search properties)
+    (λ c. search properties)
+    (λ c. search properties)
+    (λ c. search properties)
+    (λ c. search properties)
+    (λ c. search properties))

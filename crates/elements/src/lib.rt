@@ -1,0 +1,348 @@
+// What a start tag needs: the row of each kind of element, or the tag's first fault.
+use document::Answer;
+use document::Fill;
+use document::StartTag;
+use document::Value;
+use rows::Head;
+ghost use mathlib.Core.Path.{_≡_};
+ghost use Prim.Native.Nat.{_≤_, _<_};
+ghost use Rattle.names.specs.Names.{memberName};
+ghost use Rattle.document.specs.Outcome.{Ready, Opening};
+ghost use Rattle.rows.specs.Outcome.{Lies};
+ghost use Rattle.elements.specs.Outcome.{Absent, Accesses, Directs, PropertyNamed, NamedKind, TypedKind, UntypedKind};
+
+// A value that is not there.
+pub fn absent() -> Value
+    ensures { λ r. ⌜ Absent r ⌝ }
+{
+    Value {
+        at: 0,
+        len: 0,
+        kind: 0,
+    }
+}
+
+// A node: its name may be missing.
+pub fn node_row(
+    doc: &[u8],
+    rows: &mut [u32],
+    text: &mut [u8],
+    c: StartTag,
+    parent: usize,
+    f: Fill,
+) -> Answer
+    requires { ⌜ Ready (now doc) c f ⌝ ∗ ⌜ parent ≤ 1048576 ⌝ }
+    ensures { λ r. ⌜ Opening (now (doc .entry)) 1 c parent f (now (rows .entry)) (now (rows .exit)) (now (text .entry)) (now (text .exit)) r ⌝ }
+{
+    let head = Head {
+        kind: 1,
+        parent,
+        word: 0,
+    };
+    Answer::Done(rows::put_row(doc, rows, text, head, c.values.name, absent(), absent(), f))
+}
+
+// An interface: name there, name good.
+pub fn interface_row(
+    doc: &[u8],
+    rows: &mut [u32],
+    text: &mut [u8],
+    c: StartTag,
+    parent: usize,
+    f: Fill,
+) -> Answer
+    requires { ⌜ Ready (now doc) c f ⌝ ∗ ⌜ parent ≤ 1048576 ⌝ }
+    ensures { λ r. ⌜ Opening (now (doc .entry)) 2 c parent f (now (rows .entry)) (now (rows .exit)) (now (text .entry)) (now (text .exit)) r ⌝ }
+{
+    let name = c.values.name;
+    if name.kind == 0 {
+        return Answer::Fault(12, c.at);
+    }
+    if rows::shown_interface(doc, name) {
+        let head = Head {
+            kind: 2,
+            parent,
+            word: 0,
+        };
+        return Answer::Done(rows::put_row(doc, rows, text, head, name, absent(), absent(), f));
+    }
+    Answer::Fault(13, c.at)
+}
+
+// A method or a signal: name there, name good.
+pub fn member_row(
+    doc: &[u8],
+    rows: &mut [u32],
+    text: &mut [u8],
+    c: StartTag,
+    kind: u32,
+    parent: usize,
+    f: Fill,
+) -> Answer
+    requires { ⌜ Ready (now doc) c f ⌝ ∗ ⌜ parent ≤ 1048576 ⌝ ∗ ⌜ NamedKind memberName kind ⌝ }
+    ensures { λ r. ⌜ Opening (now (doc .entry)) kind c parent f (now (rows .entry)) (now (rows .exit)) (now (text .entry)) (now (text .exit)) r ⌝ }
+{
+    let name = c.values.name;
+    if name.kind == 0 {
+        return Answer::Fault(12, c.at);
+    }
+    if rows::shown_member(doc, name) {
+        let head = Head {
+            kind,
+            parent,
+            word: 0,
+        };
+        return Answer::Done(rows::put_row(doc, rows, text, head, name, absent(), absent(), f));
+    }
+    Answer::Fault(13, c.at)
+}
+
+// An annotation: name, value.
+pub fn annotation_row(
+    doc: &[u8],
+    rows: &mut [u32],
+    text: &mut [u8],
+    c: StartTag,
+    parent: usize,
+    f: Fill,
+) -> Answer
+    requires { ⌜ Ready (now doc) c f ⌝ ∗ ⌜ parent ≤ 1048576 ⌝ }
+    ensures { λ r. ⌜ Opening (now (doc .entry)) 6 c parent f (now (rows .entry)) (now (rows .exit)) (now (text .entry)) (now (text .exit)) r ⌝ }
+{
+    let name = c.values.name;
+    let value = c.values.value;
+    if name.kind == 0 {
+        return Answer::Fault(12, c.at);
+    }
+    if value.kind == 0 {
+        return Answer::Fault(12, c.at);
+    }
+    let head = Head {
+        kind: 6,
+        parent,
+        word: 0,
+    };
+    Answer::Done(rows::put_row(doc, rows, text, head, name, value, absent(), f))
+}
+
+// A simple-type or an enum: name and type, which may be missing.
+pub fn typed_row(
+    doc: &[u8],
+    rows: &mut [u32],
+    text: &mut [u8],
+    c: StartTag,
+    kind: u32,
+    parent: usize,
+    f: Fill,
+) -> Answer
+    requires { ⌜ Ready (now doc) c f ⌝ ∗ ⌜ parent ≤ 1048576 ⌝ ∗ ⌜ TypedKind kind ⌝ }
+    ensures { λ r. ⌜ Opening (now (doc .entry)) kind c parent f (now (rows .entry)) (now (rows .exit)) (now (text .entry)) (now (text .exit)) r ⌝ }
+{
+    let head = Head {
+        kind: kind,
+        parent,
+        word: 0,
+    };
+    Answer::Done(rows::put_row(
+        doc,
+        rows,
+        text,
+        head,
+        c.values.name,
+        c.values.ty,
+        absent(),
+        f,
+    ))
+}
+
+// A struct or a mapping: its name may be missing.
+pub fn untyped_row(
+    doc: &[u8],
+    rows: &mut [u32],
+    text: &mut [u8],
+    c: StartTag,
+    kind: u32,
+    parent: usize,
+    f: Fill,
+) -> Answer
+    requires { ⌜ Ready (now doc) c f ⌝ ∗ ⌜ parent ≤ 1048576 ⌝ ∗ ⌜ UntypedKind kind ⌝ }
+    ensures { λ r. ⌜ Opening (now (doc .entry)) kind c parent f (now (rows .entry)) (now (rows .exit)) (now (text .entry)) (now (text .exit)) r ⌝ }
+{
+    let head = Head {
+        kind: kind,
+        parent,
+        word: 0,
+    };
+    Answer::Done(rows::put_row(doc, rows, text, head, c.values.name, absent(), absent(), f))
+}
+
+// An enumvalue: suffix and value, which may be missing.
+pub fn enumvalue_row(
+    doc: &[u8],
+    rows: &mut [u32],
+    text: &mut [u8],
+    c: StartTag,
+    parent: usize,
+    f: Fill,
+) -> Answer
+    requires { ⌜ Ready (now doc) c f ⌝ ∗ ⌜ parent ≤ 1048576 ⌝ }
+    ensures { λ r. ⌜ Opening (now (doc .entry)) 10 c parent f (now (rows .entry)) (now (rows .exit)) (now (text .entry)) (now (text .exit)) r ⌝ }
+{
+    let head = Head {
+        kind: 10,
+        parent,
+        word: 0,
+    };
+    Answer::Done(rows::put_row(
+        doc,
+        rows,
+        text,
+        head,
+        c.values.suffix,
+        c.values.value,
+        absent(),
+        f,
+    ))
+}
+
+// A member: name, type and tp type, which may be missing.
+pub fn part_row(
+    doc: &[u8],
+    rows: &mut [u32],
+    text: &mut [u8],
+    c: StartTag,
+    parent: usize,
+    f: Fill,
+) -> Answer
+    requires { ⌜ Ready (now doc) c f ⌝ ∗ ⌜ parent ≤ 1048576 ⌝ }
+    ensures { λ r. ⌜ Opening (now (doc .entry)) 12 c parent f (now (rows .entry)) (now (rows .exit)) (now (text .entry)) (now (text .exit)) r ⌝ }
+{
+    let head = Head {
+        kind: 12,
+        parent,
+        word: 0,
+    };
+    Answer::Done(rows::put_row(
+        doc,
+        rows,
+        text,
+        head,
+        c.values.name,
+        c.values.ty,
+        c.values.tp,
+        f,
+    ))
+}
+
+// A property: name there, name good, type there, signature good, access there, access good.
+pub fn property_row(
+    doc: &[u8],
+    rows: &mut [u32],
+    text: &mut [u8],
+    c: StartTag,
+    parent: usize,
+    f: Fill,
+) -> Answer
+    requires { ⌜ Ready (now doc) c f ⌝ ∗ ⌜ parent ≤ 1048576 ⌝ }
+    ensures { λ r. ⌜ Opening (now (doc .entry)) 4 c parent f (now (rows .entry)) (now (rows .exit)) (now (text .entry)) (now (text .exit)) r ⌝ }
+{
+    let v = c.values;
+    if v.name.kind == 0 {
+        return Answer::Fault(12, c.at);
+    }
+    if !rows::shown_property(doc, v.name) {
+        return Answer::Fault(13, c.at);
+    }
+    accessed_row(doc, rows, text, c, parent, f)
+}
+
+// A property whose name is good: type there, signature good, access there, access good.
+fn accessed_row(
+    doc: &[u8],
+    rows: &mut [u32],
+    text: &mut [u8],
+    c: StartTag,
+    parent: usize,
+    f: Fill,
+) -> Answer
+    requires { ⌜ Ready (now doc) c f ⌝ ∗ ⌜ parent ≤ 1048576 ⌝ ∗ ⌜ PropertyNamed (now doc) c ⌝ }
+    ensures { λ r. ⌜ Opening (now (doc .entry)) 4 c parent f (now (rows .entry)) (now (rows .exit)) (now (text .entry)) (now (text .exit)) r ⌝ }
+{
+    let v = c.values;
+    if v.ty.kind == 0 {
+        return Answer::Fault(12, c.at);
+    }
+    if !rows::shown_signature(doc, v.ty) {
+        return Answer::Fault(14, c.at);
+    }
+    let word = access_word(doc, v.access);
+    if word == 4 {
+        return Answer::Fault(12, c.at);
+    }
+    if word == 0 {
+        return Answer::Fault(15, c.end);
+    }
+    let head = Head {
+        kind: 4,
+        parent,
+        word,
+    };
+    Answer::Done(rows::put_row(doc, rows, text, head, v.name, v.ty, v.tp, f))
+}
+
+// The number of a property's access: 4 if it has none, 0 if it is neither of the three.
+fn access_word(doc: &[u8], v: Value) -> u32
+    requires { ⌜ Lies (now doc) v ⌝ }
+    ensures { λ r. ⌜ Accesses (now (doc .entry)) v r ⌝ }
+{
+    if v.kind == 0 {
+        return 4;
+    }
+    rows::shown_access(doc, v)
+}
+
+// The number of an arg's direction: 0 if it has none, 3 if it is neither `in` nor `out`.
+fn direction_word(doc: &[u8], v: Value) -> u32
+    requires { ⌜ Lies (now doc) v ⌝ }
+    ensures { λ r. ⌜ Directs (now (doc .entry)) v r ⌝ }
+{
+    if v.kind == 0 {
+        return 0;
+    }
+    let word = rows::shown_direction(doc, v);
+    if word == 0 {
+        return 3;
+    }
+    word
+}
+
+// An arg: type, signature, direction.
+pub fn arg_row(
+    doc: &[u8],
+    rows: &mut [u32],
+    text: &mut [u8],
+    c: StartTag,
+    parent: usize,
+    f: Fill,
+) -> Answer
+    requires { ⌜ Ready (now doc) c f ⌝ ∗ ⌜ parent ≤ 1048576 ⌝ }
+    ensures { λ r. ⌜ Opening (now (doc .entry)) 7 c parent f (now (rows .entry)) (now (rows .exit)) (now (text .entry)) (now (text .exit)) r ⌝ }
+{
+    let v = c.values;
+    if v.ty.kind == 0 {
+        return Answer::Fault(12, c.at);
+    }
+    if !rows::shown_signature(doc, v.ty) {
+        return Answer::Fault(14, c.at);
+    }
+    let word = direction_word(doc, v.direction);
+    if word == 3 {
+        return Answer::Fault(16, c.end);
+    }
+    let head = Head {
+        kind: 7,
+        parent,
+        word,
+    };
+    Answer::Done(rows::put_row(doc, rows, text, head, v.name, v.ty, v.tp, f))
+}

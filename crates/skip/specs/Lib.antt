@@ -1,0 +1,3 @@
+-- What reading a docstring's content says.
+-- Assumes nothing.
+pub mod Outcome
