@@ -47,7 +47,7 @@ module _ {doc : List ℕ} {c : StartTag} {f : Fill} {h : Head} {name second tp :
   row-fits p = record {
     small = r .sound .small;
     named = omega (arith, a .until, r .fits .within);
-    seconded = omega (arith, b .until, r .fits .within);
+    valued = omega (arith, b .until, r .fits .within);
     typed = omega (arith, d .until, r .fits .within);
     parent = p;
     rows = omega (arith, r .few, r .sound .small, r .fits .inside, r .fits .within);

@@ -1,10 +1,10 @@
 // Passing over elements: skipped ones, and docstrings.
-use tags::step;
 use document::Answer;
 use document::Fill;
 use document::Next;
 use document::Passed;
 use document::StartTag;
+use tags::step;
 ghost use mathlib.Core.Path.{_≡_};
 ghost use Prim.Native.Nat.{_+_, _-_, _≤_, _<_};
 ghost use lib.ListN.{length, take, drop};
@@ -12,7 +12,6 @@ ghost use Rattle.utf8.specs.WellFormed.{illFormed};
 ghost use Rattle.scan.specs.Classes.{Classes};
 ghost use Rattle.document.specs.Outcome.{Passes, Ready, Ignores, Captures, Others};
 ghost use Rattle.skip.specs.Outcome.{Puts};
-
 
 // Passes over the rest of an element whose name stands at a place, when so many elements are open in what is passed over.
 pub fn skip(
