@@ -1,0 +1,4 @@
+-- The laws of Telepathy's type definitions.
+-- Assumes nothing.
+pub mod Sorts
+pub mod Counting
