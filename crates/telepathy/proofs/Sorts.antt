@@ -8,17 +8,22 @@ use borrow.Author.Needs.{needs}
 use borrow.Author.Tests.{eq-eqb, ne-eqb, eqb-true}
 use native.Mathlib.Omega.{arith}
 use lib.Dec.{eqb}
-use lib.ListN.{length}
+use lib.ListN.{length, take}
+use lib.Seq.{take-at}
 use Rattle.slices.specs.Bytes.{if}
+use Rattle.document.specs.Tags.{Shown}
+use Rattle.document.specs.Tokens.{Tag}
+use Rattle.document.specs.Rows.{Row, Tables}
 use Rattle.document.specs.Elements.{among, heldBy}
-use Rattle.document.specs.Outcome.{Lent, lent, Ready, Bounded, Opening, Begins, Others, Child, Children, Steps}
+use Rattle.document.specs.Reading.{Frame, element, State, reading, closed, parentOf, withRow, noted, entered, begins}
+use Rattle.document.specs.Outcome.{Lent, lent, Stands, Ready, Bounded, TagIs, Opening, Begins, Others, Child, Children, Steps, Onward, Ends, runs, whole}
 use Rattle.document.specs.declared.StartTag.{StartTag}
 use Rattle.document.specs.declared.Fill.{Fill}
 use Rattle.document.specs.declared.Answer.{Answer}
 use Rattle.document.specs.declared.Next.{Next}
-use Rattle.document.proofs.Openings.{definitions, opening-fault, opening-bounds, opening-owner, opening-closes, opening-children}
+use Rattle.document.proofs.Openings.{definitions, opening-fault, opening-bounds, opening-owner}
 use Rattle.document.proofs.Loops.{Sofar, moved, loop-begins, loop-fault, loop-close, loop-ready, loop-child-fault, loop-child, loop-less, child-other}
-use Rattle.telepathy.specs.Outcome.{DefinitionKind, PartKind, Holds}
+use Rattle.telepathy.specs.Outcome.{DefinitionKind, PartKind, PartContent, Holds}
 
 -- a number of a list is one of its numbers
 one-of : (k x : ℕ) (xs : List ℕ) → among k (x ∷ xs) ≡ true → (k ≡ x → ⊥) → among k xs ≡ true
@@ -80,15 +85,64 @@ pub ruleset leaf-rows = (row-enumvalue, row-member, needs)
 
 -- ---- a part
 
-module _ {doc : List ℕ} {k : ℕ} {c : StartTag} {p : ℕ} {f : Fill} {rows rows′ bytes bytes′ : List ℕ} {a : Answer} (o : Opening doc k c p f rows rows′ bytes bytes′ a) {g : Fill} (e : a ≡ Answer.Done g) (h : PartKind k) {w : List ℕ} where
-  pub part-closes : c .closes ≡ true → Begins doc k c p f (lent rows w bytes) (lent rows′ w bytes′) (Answer.Done g)
-  part-closes x = opening-closes o e (by-part (λ m. among m definitions ≡ false) refl refl h) x
+module _ {doc : List ℕ} {c : StartTag} {i : ℕ} {f : Fill} {b : Lent} where
+  pub content-none : Bounded doc f → c .closes ≡ true → PartContent doc c i f b b (Answer.Done f)
+  content-none h x = record {
+    onward = (omega arith, omega arith, h);
+    ends = λ k t fs u j z s. (u, s, rw (sym (z .closes) ∙ x), refl);
+  }
 
-  pub part-children : {b : Lent} {r : Answer} → c .closes ≡ false → Children doc [] true (c .at) (c .len) (f .rows) g (lent rows′ w bytes′) b r → Begins doc k c p f (lent rows w bytes) b r
-  part-children {b} {r} x l =
-      opening-children o e (by-part (λ m. among m definitions ≡ false) refl refl h) x
-      (by-part (λ m. eqb m 1 ≡ false) refl refl h)
-      (by-part (λ m. Children doc (heldBy m) (not (eqb m 6)) (c .at) (c .len) (f .rows) g (lent rows′ w bytes′) b r) l l h)
+  pub content-children : {b′ : Lent} {r : Answer} → c .closes ≡ false → Children doc [] true (c .at) (c .len) i f b b′ r → PartContent doc c i f b b′ r
+  content-children {b′} {r} x l = record {
+    onward = l .onward;
+    ends = λ k t fs u j z s.
+        rw (sym (z .closes) ∙ x, z .named .is)
+        (l .ends k fs u (by-part (λ m. heldBy m ≡ []) refl refl j) (by-part (λ m. not (eqb m 6) ≡ true) refl refl j) s);
+  }
+
+pub ruleset contents = (content-none, content-children, needs)
+
+-- from the row on, whatever the element is
+module _ {doc : List ℕ} {k : ℕ} {c : StartTag} {p : ℕ} {f : Fill} {rows rows′ bytes bytes′ : List ℕ} {a : Answer} (o : Opening doc k c p f rows rows′ bytes bytes′ a) {g : Fill} (e : a ≡ Answer.Done g) where
+  done : Opening doc k c p f rows rows′ bytes bytes′ (Answer.Done g)
+  done = rw e at o
+
+  pub opening-end : g .at ≡ c .end
+  opening-end = done .onward .0 ∙ o .at
+
+  after : (t : Tag) (fs : List Frame) (u : Tables Shown) → TagIs doc c t → parentOf fs ≡ p → (row : Row Shown) × (begins whole doc k t fs u ≡ entered whole doc k t row fs u) × ((w : List ℕ) → Stands u (lent rows w bytes) f → Stands (withRow row u) (lent rows′ w bytes′) g)
+  unfolding begins
+  after t fs u z h = let i = done .is t z in (i .0, rw (h, i .1), λ w s. i .2 u w s)
+
+  carried : {s s′ : State Shown} {before before′ : List (Row Shown)} (fs : List Frame) (b : Lent) (r : Answer) → s ≡ s′ → before ≡ before′ → Ends doc s′ fs (f .rows) before b r → Ends doc s fs (f .rows) before′ b r
+  carried fs b (Answer.Fault n q) h k e = h ∙ e
+  carried fs b (Answer.Done m) h k e = (e .0, e .1, h ∙ e .2, e .3 ∙ k)
+
+  further : (r : Answer) → Onward doc g r → Onward doc f r
+  further (Answer.Fault n q) h = tt
+  further (Answer.Done m) h = (omega (arith, done .onward .0, h .0), omega (arith, done .onward .1, h .1), h .2)
+
+  pub opening-then :
+      {w : List ℕ} {b : Lent} {r : Answer} →
+      Onward doc g r →
+      ((t : Tag) (fs : List Frame) (u : Tables Shown) (row : Row Shown) → TagIs doc c t → Stands u (lent rows w bytes) f → Stands (withRow row u) (lent rows′ w bytes′) g → Ends doc (runs doc (c .end) (entered whole doc k t row fs u)) (noted k t fs) (f .rows) (take (f .rows) (withRow row u .rows)) b r) →
+      Begins doc k c p f (lent rows w bytes) b r
+  opening-then {w} {b} {r} h l = record {
+    onward = further r h;
+    ends = λ t fs u z m s.
+        let i = after t fs u z m in
+        carried (noted k t fs) b r (ap (runs doc (c .end)) (i .1)) (take-at (u .rows) (i .0 ∷ []) (f .rows) (s .many)) (l t fs u (i .0) z s (i .2 w s));
+  }
+
+  pub part-done : {w : List ℕ} {b : Lent} {r : Answer} → PartKind k → PartContent doc c (f .rows) g (lent rows′ w bytes′) b r → Begins doc k c p f (lent rows w bytes) b r
+  part-done {w} {b} {r} h l =
+      opening-then (l .onward)
+      (λ t fs u row z s j.
+      carried (noted k t fs) b r (inside t fs u z (s .many) row) refl
+      (l .ends k t (noted k t fs) (withRow row u) h z j))
+    where
+      inside : (t : Tag) (fs : List Frame) (u : Tables Shown) → TagIs doc c t → length (u .rows) ≡ f .rows → (row : Row Shown) → runs doc (c .end) (entered whole doc k t row fs u) ≡ runs doc (g .at) (if (t .self) (closed (noted k t fs) (withRow row u)) (reading (element k (t .name) (f .rows) ∷ noted k t fs) (withRow row u)))
+      inside t fs u z n row = rw (opening-end, by-part (λ m. among m definitions ≡ false) refl refl h, by-part (λ m. eqb m 1 ≡ false) refl refl h, n)
 
 pub part-parent : {doc : List ℕ} {c : StartTag} {f : Fill} {i : ℕ} → Ready doc c f → i < f .rows → i + 1 ≤ 1048576
 part-parent r h = omega (arith, r .few, r .sound .small, r .fits .inside, r .fits .within)
@@ -96,4 +150,4 @@ part-parent r h = omega (arith, r .few, r .sound .small, r .fits .inside, r .fit
 pub part-named : {doc : List ℕ} {c : StartTag} {f : Fill} → Ready doc c f → c .at + c .len ≤ length doc
 part-named r = omega (arith, r .fits .inside, r .fits .within)
 
-pub ruleset openings = (part-parent, part-named, opening-fault, opening-bounds, opening-owner, part-closes, part-children, needs)
+pub ruleset openings = (part-parent, part-named, opening-fault, opening-bounds, opening-owner, part-done, needs)

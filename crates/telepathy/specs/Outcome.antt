@@ -13,10 +13,12 @@ use Rattle.document.specs.Tokens.{Tag}
 use Rattle.document.specs.Rows.{Row, Tables}
 use Rattle.document.specs.Elements.{among, heldBy, attr}
 use Rattle.document.specs.Reading as reading
-use Rattle.document.specs.Reading.{Definition, Frame, definition, State, refused, closed, judged, child, tagReason, partsReason, reasonOf, complete, isSome, oneMore}
+use Rattle.document.specs.Reading.{Definition, Frame, element, definition, State, refused, closed, judged, child, tagReason, partsReason, reasonOf, complete, isSome, oneMore}
+use Rattle.document.specs.Outcome as outcome
 use Rattle.document.specs.Outcome.{Lent, lent, Stands, Bounded, Ready, TagIs, runs, whole}
 use Rattle.document.specs.declared.StartTag.{StartTag}
 use Rattle.document.specs.declared.Fill.{Fill}
+use Rattle.document.specs.declared.Answer.{Answer}
 use Rattle.telepathy.specs.declared.Parts.{Parts}
 use Rattle.telepathy.specs.declared.Inner.{Inner}
 
@@ -27,6 +29,16 @@ pub record DefinitionKind (k : ℕ) : Type 0 where
 -- enumvalue, member
 pub record PartKind (k : ℕ) : Type 0 where
   pub is : among k (10 ∷ 12 ∷ []) ≡ true
+
+-- what reading a part with row i says, from after its row on
+pub record PartContent (doc : List ℕ) (c : StartTag) (i : ℕ) (f : Fill) (b b′ : Lent) (r : Answer) : Type 0 where
+  pub onward : outcome.Onward doc f r
+  pub ends :
+      (k : ℕ) (t : Tag) (fs : List Frame) (u : Tables Shown) →
+      PartKind k →
+      TagIs doc c t →
+      Stands u b f →
+      outcome.Ends doc (runs doc (f .at) (if (t .self) (closed fs u) (reading.reading (element k (t .name) i ∷ fs) u))) fs i (take i (u .rows)) b′ r
 
 -- whether a definition holds parts of a kind
 pub record Holds (k c : ℕ) (r : Bool) : Type 0 where

@@ -12,7 +12,7 @@ ghost use mathlib.Core.List.{[]};
 ghost use lib.ListN.{length};
 ghost use Rattle.scan.specs.Classes.{Classes};
 ghost use Rattle.document.specs.Outcome.{Ready, Bounded, Begins, Opening, Children, lent};
-ghost use Rattle.telepathy.specs.Outcome.{DefinitionKind, PartKind, Holds, Unseen, Completes, Breaks, Keyed, More, TagTold, PartsTold, Told, Child, Body, Content, Judging, Judged};
+ghost use Rattle.telepathy.specs.Outcome.{DefinitionKind, PartKind, PartContent, Holds, Unseen, Completes, Breaks, Keyed, More, TagTold, PartsTold, Told, Child, Body, Content, Judging, Judged};
 
 // What was seen of a definition's parts: how many, whether one was incomplete, whether the first one's type is basic.
 pub struct Parts {
@@ -94,6 +94,26 @@ fn leaf_row(
     elements::part_row(doc, rows, text, c, parent, f)
 }
 
+// The content of an enumvalue or a member with row i, from after its start tag on.
+fn part_content(
+    doc: &[u8],
+    classes: &[u8; 256],
+    rows: &mut [u32],
+    warnings: &mut [u32],
+    text: &mut [u8],
+    c: StartTag,
+    i: usize,
+    f: Fill,
+) -> Answer
+    requires { ⌜ Bounded (now doc) f ⌝ ∗ ⌜ i < f .rows ⌝ ∗ ⌜ c .at + c .len ≤ length (now doc) ⌝ ∗ ⌜ Classes (now classes) ⌝ }
+    ensures { λ r. ⌜ PartContent (now (doc .entry)) c i f (lent (now (rows .entry)) (now (warnings .entry)) (now (text .entry))) (lent (now (rows .exit)) (now (warnings .exit)) (now (text .exit))) r ⌝ }
+{
+    if c.closes {
+        return Answer::Done(f);
+    }
+    leaf(doc, classes, rows, warnings, text, c.at, c.len, i, f)
+}
+
 // An enumvalue or a member of the definition with row i.
 fn part(
     doc: &[u8],
@@ -110,12 +130,7 @@ fn part(
 {
     match leaf_row(doc, rows, text, c, i + 1, f) {
         Answer::Fault(number, place) => Answer::Fault(number, place),
-        Answer::Done(g) => {
-            if c.closes {
-                return Answer::Done(g);
-            }
-            leaf(doc, classes, rows, warnings, text, c.at, c.len, f.rows, g)
-        }
+        Answer::Done(g) => part_content(doc, classes, rows, warnings, text, c, f.rows, g),
     }
 }
 
