@@ -2,3 +2,6 @@
 -- Assumes nothing.
 pub mod Sorts
 pub mod Counting
+pub mod Bodies
+pub mod Reasons
+pub mod Judgement

@@ -124,11 +124,11 @@ module _ {doc : List ℕ} {k : ℕ} {c : StartTag} {p : ℕ} {f : Fill} {rows ro
 
   pub opening-then :
       {w : List ℕ} {b : Lent} {r : Answer} →
-      Onward doc g r →
+      Onward doc f r →
       ((t : Tag) (fs : List Frame) (u : Tables Shown) (row : Row Shown) → TagIs doc c t → Stands u (lent rows w bytes) f → Stands (withRow row u) (lent rows′ w bytes′) g → Ends doc (runs doc (c .end) (entered whole doc k t row fs u)) (noted k t fs) (f .rows) (take (f .rows) (withRow row u .rows)) b r) →
       Begins doc k c p f (lent rows w bytes) b r
   opening-then {w} {b} {r} h l = record {
-    onward = further r h;
+    onward = h;
     ends = λ t fs u z m s.
         let i = after t fs u z m in
         carried (noted k t fs) b r (ap (runs doc (c .end)) (i .1)) (take-at (u .rows) (i .0 ∷ []) (f .rows) (s .many)) (l t fs u (i .0) z s (i .2 w s));
@@ -136,7 +136,7 @@ module _ {doc : List ℕ} {k : ℕ} {c : StartTag} {p : ℕ} {f : Fill} {rows ro
 
   pub part-done : {w : List ℕ} {b : Lent} {r : Answer} → PartKind k → PartContent doc c (f .rows) g (lent rows′ w bytes′) b r → Begins doc k c p f (lent rows w bytes) b r
   part-done {w} {b} {r} h l =
-      opening-then (l .onward)
+      opening-then (further r (l .onward))
       (λ t fs u row z s j.
       carried (noted k t fs) b r (inside t fs u z (s .many) row) refl
       (l .ends k t (noted k t fs) (withRow row u) h z j))

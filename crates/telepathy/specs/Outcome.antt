@@ -13,7 +13,7 @@ use Rattle.document.specs.Tokens.{Tag}
 use Rattle.document.specs.Rows.{Row, Tables}
 use Rattle.document.specs.Elements.{among, heldBy, attr}
 use Rattle.document.specs.Reading as reading
-use Rattle.document.specs.Reading.{Definition, Frame, element, definition, State, refused, closed, judged, child, tagReason, partsReason, reasonOf, complete, isSome, oneMore}
+use Rattle.document.specs.Reading.{Definition, Frame, element, definition, State, refused, closed, judged, child, begins, tagReason, partsReason, reasonOf, complete, isSome, oneMore}
 use Rattle.document.specs.Outcome as outcome
 use Rattle.document.specs.Outcome.{Lent, lent, Stands, Bounded, Ready, TagIs, runs, whole}
 use Rattle.document.specs.declared.StartTag.{StartTag}
@@ -99,6 +99,15 @@ Ends doc s after i before b (Inner.Fault m q) = s ≡ refused m q
 Ends doc s after i before b (Inner.Done g p) =
     (v : Tables Shown) × Stands v b g × (s ≡ runs doc (g .at) (after p v)) × (take i (v .rows) ≡ before)
 
+-- what reading a part says, when these parts were seen before: whatever the definition is, the part is noted in it
+pub record Noted (doc : List ℕ) (c : StartTag) (i : ℕ) (p : Parts) (f : Fill) (b b′ : Lent) (r : Inner) : Type 0 where
+  pub onward : Onward doc f r
+  pub ends :
+      (k lt why : ℕ) (n : List ℕ) (t : Tag) (fs : List Frame) (u : Tables Shown) →
+      TagIs doc c t →
+      Stands u b f →
+      Ends doc (runs doc (c .end) (begins whole doc (c .kind) t (definition (openAs k i lt n why p) ∷ fs) u)) (λ q v. reading.reading (definition (openAs k i lt n why q) ∷ fs) v) (f .rows) (u .rows) b′ r
+
 -- what reading a child of a definition of kind k with row i says, when these parts were seen before
 pub record Child (doc : List ℕ) (k i : ℕ) (c : StartTag) (p : Parts) (f : Fill) (b b′ : Lent) (r : Inner) : Type 0 where
   pub onward : Onward doc f r
@@ -148,3 +157,14 @@ pub record Judged (doc : List ℕ) (c : StartTag) (p : Parts) (f h : Fill) (w w�
       Stands v (lent rows w text) h →
       take (f .rows) (v .rows) ≡ u .rows →
       Stands (judged (tagged c (f .rows) t p) v) (lent rows w′ text) r × (take (f .rows) (judged (tagged c (f .rows) t p) v .rows) ≡ u .rows)
+
+-- what reading a definition says, from after its row on: it began at f, and its row is put at g
+pub record Rest (doc : List ℕ) (c : StartTag) (f g : Fill) (b b′ : Lent) (r : Answer) : Type 0 where
+  pub onward : outcome.Onward doc f r
+  pub ends :
+      (t : Tag) (fs : List Frame) (u v : Tables Shown) (b₀ : Lent) →
+      TagIs doc c t →
+      Stands u b₀ f →
+      Stands v b g →
+      take (f .rows) (v .rows) ≡ u .rows →
+      outcome.Ends doc (runs doc (g .at) (entering t (tagged c (f .rows) t none) fs v)) fs (f .rows) (u .rows) b′ r
