@@ -66,20 +66,17 @@ module _ {doc : List ℕ} {c : StartTag} {i : ℕ} {f : Fill} {b b′ : Lent} {a
     ends = λ k lt why n t fs u z s. (rw e at h) .ends t (definition (openAs k i lt n why p) ∷ fs) u z (rw add-one) s;
   }
 
-  pub noted-done : {p q : Parts} {g : Fill} → PartKind (c .kind) → More doc c p q → p .count < f .at → a ≡ Answer.Done g → Noted doc c i p f b b′ (Inner.Done g q)
-  noted-done {p} {q} {g} o m l e =
+  pub noted-done : {p q : Parts} {g : Fill} → More doc c f p q → a ≡ Answer.Done g → Noted doc c i p f b b′ (Inner.Done g q)
+  noted-done {p} {q} {g} m e =
       let j : Begins doc (c .kind) c (i + 1) f b b′ (Answer.Done g) = rw e at h in
       record {
-        onward = (j .onward .0, j .onward .1, omega (arith, j .onward .0, m .counts), j .onward .2);
+        onward = (j .onward .0, j .onward .1, omega (arith, j .onward .0, m .few), j .onward .2);
         ends = λ k lt why n t fs u z s.
             let x = j .ends t (definition (openAs k i lt n why p) ∷ fs) u z (rw add-one) s in
-            (x .0, x .1, x .2 ∙ ap (λ (gs : List Frame). runs doc (g .at) (closed gs (x .0))) (noted-is k i lt why n t fs p q o (m .is t z)), x .3);
+            (x .0, x .1, x .2 ∙ ap (λ (gs : List Frame). runs doc (g .at) (closed gs (x .0))) (noted-is k i lt why n t fs p q (m .kind) (m .is t z)), x .3);
       }
 
-pub count-small : {doc : List ℕ} {c : StartTag} {f : Fill} {n : ℕ} → Ready doc c f → n < f .at → n ≤ 1048576
-count-small r h = omega (arith, r .at, r .sound .small, r .fits .within)
-
-pub ruleset noting = (count-small, noted-fault, noted-done, needs)
+pub ruleset noting = (noted-fault, noted-done, needs)
 
 -- ---- a child
 

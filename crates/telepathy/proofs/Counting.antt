@@ -9,6 +9,8 @@ use borrow.Author.Needs.{needs}
 use borrow.Author.Tests.{eq-eqb, ne-eqb, eqb-true}
 use native.Mathlib.Numerals.{add-one}
 use native.Mathlib.Omega.{arith}
+use mir.Syntax.{w64}
+use mir.Val.{Fits}
 use lib.Dec.{eqb}
 use Rattle.slices.specs.Bytes.{if, bytes}
 use Rattle.names.specs.Signature.{basicSignature}
@@ -97,7 +99,11 @@ module _ {doc : List ℕ} {c : StartTag} {p : Parts} where
   pub keyed-typed : {r : Bool} → p .count ≡ 0 → (c .values .ty .kind ≡ 0 → ⊥) → Tests basicSignature doc (c .values .ty) r → Keyed doc c p r
   keyed-typed e n i = record { is = λ t z. rw e (some-is doc (c .values .ty) (attr (bytes "type") t) (z .values .ty) n i) }
 
-  pub more : {x y : Bool} → Breaks doc c p x → Keyed doc c p y → More doc c p (record { count = p .count + 1; broken = x; basic = y })
-  more {x} {y} b k = record { counts = refl; is = λ t z. rw (add-one, b .is t z, k .is t z) }
+  pub more : {f : Fill} {x y : Bool} → PartKind (c .kind) → p .count < f .at → Breaks doc c p x → Keyed doc c p y → More doc c f p (record { count = p .count + 1; broken = x; basic = y })
+  more {f} {x} {y} h l b k = record { kind = h; few = omega arith; is = λ t z. rw (add-one, b .is t z, k .is t z) }
 
-pub ruleset counts = (lies-ty, breaks-before, breaks-now, keyed-before, keyed-untyped, keyed-typed, more, needs)
+-- the count fits
+pub count-wide : {doc : List ℕ} {c : StartTag} {f : Fill} {n : ℕ} → Ready doc c f → n < f .at → Fits w64 (n + 1)
+count-wide r h = omega (arith, r .at, r .sound .small, r .fits .within)
+
+pub ruleset counts = (lies-ty, breaks-before, breaks-now, keyed-before, keyed-untyped, keyed-typed, more, count-wide, needs)

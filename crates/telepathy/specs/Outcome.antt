@@ -65,9 +65,10 @@ pub record Breaks (doc : List ℕ) (c : StartTag) (p : Parts) (r : Bool) : Type 
 pub record Keyed (doc : List ℕ) (c : StartTag) (p : Parts) (r : Bool) : Type 0 where
   pub is : (t : Tag) → TagIs doc c t → r ≡ if (eqb (p .count) 0) (isSome basicSignature (attr (bytes "type") t)) (p .basic)
 
--- one part more
-pub record More (doc : List ℕ) (c : StartTag) (p r : Parts) : Type 0 where
-  pub counts : r .count ≡ p .count + 1
+-- one part more, which ends at f
+pub record More (doc : List ℕ) (c : StartTag) (f : Fill) (p r : Parts) : Type 0 where
+  pub kind : PartKind (c .kind)
+  pub few : r .count ≤ f .at
   pub is : (t : Tag) → TagIs doc c t → seen r ≡ oneMore (c .kind) t (seen p)
 
 -- a definition that is open: kind, row, place of `<`, name, the tag's reason, parts

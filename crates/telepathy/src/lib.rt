@@ -182,8 +182,8 @@ fn keyed(doc: &[u8], c: StartTag, p: Parts, f: Fill) -> bool
 
 // The parts with one more.
 fn one_more(doc: &[u8], c: StartTag, p: Parts, f: Fill) -> Parts
-    requires { ⌜ Ready (now doc) c f ⌝ ∗ ⌜ PartKind (c .kind) ⌝ ∗ ⌜ p .count ≤ 1048576 ⌝ }
-    ensures { λ r. ⌜ More (now (doc .entry)) c p r ⌝ }
+    requires { ⌜ Ready (now doc) c f ⌝ ∗ ⌜ PartKind (c .kind) ⌝ ∗ ⌜ p .count < f .at ⌝ }
+    ensures { λ r. ⌜ More (now (doc .entry)) c f p r ⌝ }
 {
     let b = broken(doc, c, p, f);
     let k = keyed(doc, c, p, f);
