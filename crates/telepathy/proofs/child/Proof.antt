@@ -9,7 +9,7 @@ child-spec =
     tie.close
     (tie.spec
     (λ c. search children)
-    (λ c. search children)
+    (λ c κs. (search children, (search children, (search children, (search children, search children)))))
     (λ c. search children)
     (λ c. search children)
     (λ c. search children)
