@@ -64,6 +64,7 @@ module _ {doc : List ℕ} {c : StartTag} {f h : Fill} (j : Judging doc c f h) wh
     pub judged-kept : {w : List ℕ} → why ≡ 0 → Judged doc c p f h w w h
     judged-kept {w} e = record {
       at = refl;
+      since = j .since;
       grown = omega (arith, j .owner);
       bounds = j .bounds;
       stands = λ t u v b rows text z s y k.
@@ -74,6 +75,7 @@ module _ {doc : List ℕ} {c : StartTag} {f h : Fill} (j : Judging doc c f h) wh
     pub judged-dropped : {w w′ : List ℕ} {r : Fill} → (why ≡ 0 → ⊥) → WarningPut why (c .at) (c .len) (back f h) w w′ r → Judged doc c p f h w w′ r
     judged-dropped n q = record {
       at = q .at;
+      since = omega (arith, q .at, j .since);
       grown = omega (arith, q .rows);
       bounds = record {
         sound = j .bounds .sound;
@@ -113,15 +115,15 @@ module _ {doc : List ℕ} {c : StartTag} {f g : Fill} {b b′ : Lent} {x : Inner
 content-done : {doc : List ℕ} {c : StartTag} {i : ℕ} {g : Fill} {b b′ : Lent} {x : Inner} {h : Fill} {p : Parts} → Content doc c i g b b′ x → x ≡ Inner.Done h p → Content doc c i g b b′ (Inner.Done h p)
 content-done l e = rw e at l
 
-module _ {doc : List ℕ} {c : StartTag} {f g : Fill} (j : Judging doc c f g) {b : Lent} {rows w text : List ℕ} {x : Inner} (l : Content doc c (f .rows) g b (lent rows w text) x) {h : Fill} {p : Parts} (e : x ≡ Inner.Done h p) where
-  pub rest-judging : Judging doc c f h
-  rest-judging =
+module _ {doc : List ℕ} {c : StartTag} {f g : Fill} {b : Lent} {rows w text : List ℕ} {x : Inner} (l : Content doc c (f .rows) g b (lent rows w text) x) {h : Fill} {p : Parts} (e : x ≡ Inner.Done h p) where
+  pub rest-judging : Judging doc c f g → Judging doc c f h
+  rest-judging j =
       let m = content-done l e in
       record { ready = j .ready; since = omega (arith, j .since, m .onward .0); owner = omega (arith, j .owner, m .onward .1); bounds = m .onward .3 }
 
   pub rest-done : {w′ : List ℕ} {r : Fill} → Judged doc c p f h w w′ r → Rest doc c f g b (lent rows w′ text) (Answer.Done r)
   rest-done {w′} {r} o = record {
-    onward = (omega (arith, j .since, content-done l e .onward .0, o .at), o .grown, o .bounds);
+    onward = (o .since, o .grown, o .bounds);
     ends = λ t fs u v b₀ z s y k.
         let i = content-done l e .ends (tagged c (f .rows) t none .reason) t fs v z y in
         let m = o .stands t u (i .0) b₀ rows text z s (i .1) (i .3 ∙ k) in

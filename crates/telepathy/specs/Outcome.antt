@@ -149,6 +149,7 @@ pub record Judging (doc : List ℕ) (c : StartTag) (f h : Fill) : Type 0 where
 -- what dropping it or not says
 pub record Judged (doc : List ℕ) (c : StartTag) (p : Parts) (f h : Fill) (w w′ : List ℕ) (r : Fill) : Type 0 where
   pub at : r .at ≡ h .at
+  pub since : f .at ≤ r .at
   pub grown : f .rows ≤ r .rows
   pub bounds : Bounded doc r
   pub stands :
