@@ -236,14 +236,16 @@ pub ruleset bodies = (body-begins, body-fault, body-close, body-ready, body-coun
 -- ---- all of the content
 
 module _ {doc : List ℕ} {c : StartTag} {i : ℕ} {f : Fill} {b : Lent} where
-  pub content-none : {p : Parts} → Bounded doc f → c .closes ≡ true → Unseen p → Content doc c i f b b (Inner.Done f p)
-  content-none {p} h x e = rw (e .is) (record {
+  pub content-none : {p : Parts} → DefinitionKind (c .kind) → Bounded doc f → c .closes ≡ true → Unseen p → Content doc c i f b b (Inner.Done f p)
+  content-none {p} d h x e = rw (e .is) (record {
+    kind = d;
     onward = (omega arith, omega arith, omega arith, h);
     ends = λ why t fs u z s. (u, s, rw (sym (z .closes) ∙ x), refl);
   })
 
-  pub content-body : {b′ : Lent} {r : Inner} → c .closes ≡ false → Body doc (c .kind) (c .at) (c .len) i f b b′ r → Content doc c i f b b′ r
-  content-body {b′} {r} x l = record {
+  pub content-body : {b′ : Lent} {r : Inner} → DefinitionKind (c .kind) → c .closes ≡ false → Body doc (c .kind) (c .at) (c .len) i f b b′ r → Content doc c i f b b′ r
+  content-body {b′} {r} d x l = record {
+    kind = d;
     onward = l .onward;
     ends = λ why t fs u z s. rw (sym (z .closes) ∙ x, z .named .is) (l .ends (t .at) why fs u s);
   }

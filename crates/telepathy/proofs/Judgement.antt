@@ -28,7 +28,7 @@ use Rattle.elements.proofs.Rows.{simple-type-kind, enum-kind, struct-kind, mapp
 use Rattle.telepathy.specs.Outcome.{DefinitionKind, Told, Content, Judging, Judged, Rest, tagged, entering, none}
 use Rattle.telepathy.specs.declared.Parts.{Parts}
 use Rattle.telepathy.specs.declared.Inner.{Inner}
-use Rattle.telepathy.proofs.Sorts.{by-definition, opening-end, opening-then}
+use Rattle.telepathy.proofs.Sorts.{by-definition, carried, opening-end, opening-then}
 
 -- ---- kept or dropped
 
@@ -108,6 +108,7 @@ pub ruleset definition-rows = (row-typed, row-untyped, needs)
 module _ {doc : List ℕ} {c : StartTag} {f g : Fill} {b b′ : Lent} {x : Inner} (l : Content doc c (f .rows) g b b′ x) where
   pub rest-fault : {n q : ℕ} → x ≡ Inner.Fault n q → Rest doc c f g b b′ (Answer.Fault n q)
   rest-fault e = record {
+    kind = l .kind;
     onward = tt;
     ends = λ t fs u v b₀ z s y k. (rw e at l) .ends (tagged c (f .rows) t none .reason) t fs v z y;
   }
@@ -123,6 +124,7 @@ module _ {doc : List ℕ} {c : StartTag} {f g : Fill} {b : Lent} {rows w text : 
 
   pub rest-done : {w′ : List ℕ} {r : Fill} → Judged doc c p f h w w′ r → Rest doc c f g b (lent rows w′ text) (Answer.Done r)
   rest-done {w′} {r} o = record {
+    kind = l .kind;
     onward = (o .since, o .grown, o .bounds);
     ends = λ t fs u v b₀ z s y k.
         let i = content-done l e .ends (tagged c (f .rows) t none .reason) t fs v z y in
@@ -150,19 +152,15 @@ module _ {doc : List ℕ} {c : StartTag} {f : Fill} {p : ℕ} {rows rows′ byte
   pub row-judging : Ready doc c f → Judging doc c f g
   row-judging r = record { ready = r; since = omega (arith, opened .onward .0); owner = omega (arith, opened .onward .1); bounds = opened .onward .2 }
 
-  pub definition-done : {w : List ℕ} {b : Lent} {r : Answer} → DefinitionKind (c .kind) → Rest doc c f g (lent rows′ w bytes′) b r → Begins doc (c .kind) c p f (lent rows w bytes) b r
-  definition-done {w} {b} {r} d l =
+  pub definition-done : {w : List ℕ} {b : Lent} {r : Answer} → Rest doc c f g (lent rows′ w bytes′) b r → Begins doc (c .kind) c p f (lent rows w bytes) b r
+  definition-done {w} {b} {r} l =
       opening-then o e (l .onward)
       (λ t fs u row z s y.
       let k = take-at (u .rows) (row ∷ []) (f .rows) (s .many) in
-      carried (noted (c .kind) t fs) r (inside t fs u row (s .many)) (sym k)
+      carried doc (f .rows) (noted (c .kind) t fs) b r (inside t fs u row (s .many)) (sym k)
       (l .ends t (noted (c .kind) t fs) u (withRow row u) (lent rows w bytes) z s y k))
     where
       inside : (t : Tag) (fs : List Frame) (u : Tables Shown) (row : Row Shown) → length (u .rows) ≡ f .rows → runs doc (c .end) (entered whole doc (c .kind) t row fs u) ≡ runs doc (g .at) (entering t (tagged c (f .rows) t none) (noted (c .kind) t fs) (withRow row u))
-      inside t fs u row n = rw (opening-end o e, d .is, by-definition (λ m. eqb m 1 ≡ false) refl refl refl refl d, n)
-
-      carried : {s s′ : State Shown} {before before′ : List (Row Shown)} (fs : List Frame) (r : Answer) → s ≡ s′ → before ≡ before′ → Ends doc s′ fs (f .rows) before b r → Ends doc s fs (f .rows) before′ b r
-      carried fs (Answer.Fault n q) h k e = h ∙ e
-      carried fs (Answer.Done m) h k e = (e .0, e .1, h ∙ e .2, e .3 ∙ k)
+      inside t fs u row n = rw (opening-end o e, l .kind .is, by-definition (λ m. eqb m 1 ≡ false) refl refl refl refl (l .kind), n)
 
 pub ruleset all-definitions = (opening-fault, row-judging, definition-done, needs)

@@ -86,21 +86,28 @@ pub ruleset leaf-rows = (row-enumvalue, row-member, needs)
 -- ---- a part
 
 module _ {doc : List ℕ} {c : StartTag} {i : ℕ} {f : Fill} {b : Lent} where
-  pub content-none : Bounded doc f → c .closes ≡ true → PartContent doc c i f b b (Answer.Done f)
-  content-none h x = record {
+  pub content-none : PartKind (c .kind) → Bounded doc f → c .closes ≡ true → PartContent doc c i f b b (Answer.Done f)
+  content-none j h x = record {
+    kind = j;
     onward = (omega arith, omega arith, h);
-    ends = λ k t fs u j z s. (u, s, rw (sym (z .closes) ∙ x), refl);
+    ends = λ t fs u z s. (u, s, rw (sym (z .closes) ∙ x), refl);
   }
 
-  pub content-children : {b′ : Lent} {r : Answer} → c .closes ≡ false → Children doc [] true (c .at) (c .len) i f b b′ r → PartContent doc c i f b b′ r
-  content-children {b′} {r} x l = record {
+  pub content-children : {b′ : Lent} {r : Answer} → PartKind (c .kind) → c .closes ≡ false → Children doc [] true (c .at) (c .len) i f b b′ r → PartContent doc c i f b b′ r
+  content-children {b′} {r} j x l = record {
+    kind = j;
     onward = l .onward;
-    ends = λ k t fs u j z s.
+    ends = λ t fs u z s.
         rw (sym (z .closes) ∙ x, z .named .is)
-        (l .ends k fs u (by-part (λ m. heldBy m ≡ []) refl refl j) (by-part (λ m. not (eqb m 6) ≡ true) refl refl j) s);
+        (l .ends (c .kind) fs u (by-part (λ m. heldBy m ≡ []) refl refl j) (by-part (λ m. not (eqb m 6) ≡ true) refl refl j) s);
   }
 
 pub ruleset contents = (content-none, content-children, needs)
+
+-- an answer of a run is one of another that comes to the same
+pub carried : {s s′ : State Shown} {before before′ : List (Row Shown)} (doc : List ℕ) (n : ℕ) (fs : List Frame) (b : Lent) (r : Answer) → s ≡ s′ → before ≡ before′ → Ends doc s′ fs n before b r → Ends doc s fs n before′ b r
+carried doc n fs b (Answer.Fault m q) h k e = h ∙ e
+carried doc n fs b (Answer.Done g) h k e = (e .0, e .1, h ∙ e .2, e .3 ∙ k)
 
 -- from the row on, whatever the element is
 module _ {doc : List ℕ} {k : ℕ} {c : StartTag} {p : ℕ} {f : Fill} {rows rows′ bytes bytes′ : List ℕ} {a : Answer} (o : Opening doc k c p f rows rows′ bytes bytes′ a) {g : Fill} (e : a ≡ Answer.Done g) where
@@ -113,10 +120,6 @@ module _ {doc : List ℕ} {k : ℕ} {c : StartTag} {p : ℕ} {f : Fill} {rows ro
   after : (t : Tag) (fs : List Frame) (u : Tables Shown) → TagIs doc c t → parentOf fs ≡ p → (row : Row Shown) × (begins whole doc k t fs u ≡ entered whole doc k t row fs u) × ((w : List ℕ) → Stands u (lent rows w bytes) f → Stands (withRow row u) (lent rows′ w bytes′) g)
   unfolding begins
   after t fs u z h = let i = done .is t z in (i .0, rw (h, i .1), λ w s. i .2 u w s)
-
-  carried : {s s′ : State Shown} {before before′ : List (Row Shown)} (fs : List Frame) (b : Lent) (r : Answer) → s ≡ s′ → before ≡ before′ → Ends doc s′ fs (f .rows) before b r → Ends doc s fs (f .rows) before′ b r
-  carried fs b (Answer.Fault n q) h k e = h ∙ e
-  carried fs b (Answer.Done m) h k e = (e .0, e .1, h ∙ e .2, e .3 ∙ k)
 
   further : (r : Answer) → Onward doc g r → Onward doc f r
   further (Answer.Fault n q) h = tt
@@ -131,18 +134,18 @@ module _ {doc : List ℕ} {k : ℕ} {c : StartTag} {p : ℕ} {f : Fill} {rows ro
     onward = h;
     ends = λ t fs u z m s.
         let i = after t fs u z m in
-        carried (noted k t fs) b r (ap (runs doc (c .end)) (i .1)) (take-at (u .rows) (i .0 ∷ []) (f .rows) (s .many)) (l t fs u (i .0) z s (i .2 w s));
+        carried doc (f .rows) (noted k t fs) b r (ap (runs doc (c .end)) (i .1)) (take-at (u .rows) (i .0 ∷ []) (f .rows) (s .many)) (l t fs u (i .0) z s (i .2 w s));
   }
 
-  pub part-done : {w : List ℕ} {b : Lent} {r : Answer} → PartKind k → PartContent doc c (f .rows) g (lent rows′ w bytes′) b r → Begins doc k c p f (lent rows w bytes) b r
-  part-done {w} {b} {r} h l =
-      opening-then (further r (l .onward))
-      (λ t fs u row z s j.
-      carried (noted k t fs) b r (inside t fs u z (s .many) row) refl
-      (l .ends k t (noted k t fs) (withRow row u) h z j))
-    where
-      inside : (t : Tag) (fs : List Frame) (u : Tables Shown) → TagIs doc c t → length (u .rows) ≡ f .rows → (row : Row Shown) → runs doc (c .end) (entered whole doc k t row fs u) ≡ runs doc (g .at) (if (t .self) (closed (noted k t fs) (withRow row u)) (reading (element k (t .name) (f .rows) ∷ noted k t fs) (withRow row u)))
-      inside t fs u z n row = rw (opening-end, by-part (λ m. among m definitions ≡ false) refl refl h, by-part (λ m. eqb m 1 ≡ false) refl refl h, n)
+pub part-done : {doc : List ℕ} {c : StartTag} {p : ℕ} {f : Fill} {rows rows′ w bytes bytes′ : List ℕ} {a : Answer} {g : Fill} {b : Lent} {r : Answer} → Opening doc (c .kind) c p f rows rows′ bytes bytes′ a → a ≡ Answer.Done g → PartContent doc c (f .rows) g (lent rows′ w bytes′) b r → Begins doc (c .kind) c p f (lent rows w bytes) b r
+part-done {doc} {c} {f = f} {g = g} {b} {r} o e l =
+    opening-then o e (further o e r (l .onward))
+    (λ t fs u row z s j.
+    carried doc (f .rows) (noted (c .kind) t fs) b r (inside t fs u (s .many) row) refl
+    (l .ends t (noted (c .kind) t fs) (withRow row u) z j))
+  where
+    inside : (t : Tag) (fs : List Frame) (u : Tables Shown) → length (u .rows) ≡ f .rows → (row : Row Shown) → runs doc (c .end) (entered whole doc (c .kind) t row fs u) ≡ runs doc (g .at) (if (t .self) (closed (noted (c .kind) t fs) (withRow row u)) (reading (element (c .kind) (t .name) (f .rows) ∷ noted (c .kind) t fs) (withRow row u)))
+    inside t fs u n row = rw (opening-end o e, by-part (λ m. among m definitions ≡ false) refl refl (l .kind), by-part (λ m. eqb m 1 ≡ false) refl refl (l .kind), n)
 
 pub part-parent : {doc : List ℕ} {c : StartTag} {f : Fill} {i : ℕ} → Ready doc c f → i < f .rows → i + 1 ≤ 1048576
 part-parent r h = omega (arith, r .few, r .sound .small, r .fits .inside, r .fits .within)

@@ -32,13 +32,13 @@ pub record PartKind (k : ℕ) : Type 0 where
 
 -- what reading a part with row i says, from after its row on
 pub record PartContent (doc : List ℕ) (c : StartTag) (i : ℕ) (f : Fill) (b b′ : Lent) (r : Answer) : Type 0 where
+  pub kind : PartKind (c .kind)
   pub onward : outcome.Onward doc f r
   pub ends :
-      (k : ℕ) (t : Tag) (fs : List Frame) (u : Tables Shown) →
-      PartKind k →
+      (t : Tag) (fs : List Frame) (u : Tables Shown) →
       TagIs doc c t →
       Stands u b f →
-      outcome.Ends doc (runs doc (f .at) (if (t .self) (closed fs u) (reading.reading (element k (t .name) i ∷ fs) u))) fs i (take i (u .rows)) b′ r
+      outcome.Ends doc (runs doc (f .at) (if (t .self) (closed fs u) (reading.reading (element (c .kind) (t .name) i ∷ fs) u))) fs i (take i (u .rows)) b′ r
 
 -- whether a definition holds parts of a kind
 pub record Holds (k c : ℕ) (r : Bool) : Type 0 where
@@ -132,6 +132,7 @@ entering t d fs u = let o = reading.reading (definition d ∷ fs) u in if (t .se
 
 -- what reading all of a definition from after its row on says, but for what is dropped
 pub record Content (doc : List ℕ) (c : StartTag) (i : ℕ) (f : Fill) (b b′ : Lent) (r : Inner) : Type 0 where
+  pub kind : DefinitionKind (c .kind)
   pub onward : Onward doc f r
   pub ends :
       (why : ℕ) (t : Tag) (fs : List Frame) (u : Tables Shown) →
@@ -162,6 +163,7 @@ pub record Judged (doc : List ℕ) (c : StartTag) (p : Parts) (f h : Fill) (w w�
 
 -- what reading a definition says, from after its row on: it began at f, and its row is put at g
 pub record Rest (doc : List ℕ) (c : StartTag) (f g : Fill) (b b′ : Lent) (r : Answer) : Type 0 where
+  pub kind : DefinitionKind (c .kind)
   pub onward : outcome.Onward doc f r
   pub ends :
       (t : Tag) (fs : List Frame) (u v : Tables Shown) (b₀ : Lent) →

@@ -105,7 +105,7 @@ fn part_content(
     i: usize,
     f: Fill,
 ) -> Answer
-    requires { ⌜ Bounded (now doc) f ⌝ ∗ ⌜ i < f .rows ⌝ ∗ ⌜ c .at + c .len ≤ length (now doc) ⌝ ∗ ⌜ Classes (now classes) ⌝ }
+    requires { ⌜ Bounded (now doc) f ⌝ ∗ ⌜ i < f .rows ⌝ ∗ ⌜ PartKind (c .kind) ⌝ ∗ ⌜ c .at + c .len ≤ length (now doc) ⌝ ∗ ⌜ Classes (now classes) ⌝ }
     ensures { λ r. ⌜ PartContent (now (doc .entry)) c i f (lent (now (rows .entry)) (now (warnings .entry)) (now (text .entry))) (lent (now (rows .exit)) (now (warnings .exit)) (now (text .exit))) r ⌝ }
 {
     if c.closes {
@@ -336,7 +336,18 @@ fn content(
     if c.closes {
         return Inner::Done(f, no_parts());
     }
-    body(doc, classes, rows, warnings, text, c.kind, c.at, c.len, i, f)
+    body(
+        doc,
+        classes,
+        rows,
+        warnings,
+        text,
+        c.kind,
+        c.at,
+        c.len,
+        i,
+        f,
+    )
 }
 
 // Why a definition is dropped by its tag alone, or 0.

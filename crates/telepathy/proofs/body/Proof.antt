@@ -11,6 +11,7 @@ use Rattle.telepathy.proofs.body.Tie as tie
 
 abbrev Inv-loop : tie.InvT-loop
 Inv-loop doc classes rows₀ warnings₀ text₀ kind at len i g₀ p₀ rows warnings text g p = Classes classes × Sofar doc kind at len i g₀ (lent rows₀ warnings₀ text₀) g p (lent rows warnings text) × (length rows ≡ length rows₀) × (length warnings ≡ length warnings₀) × (length text ≡ length text₀)
+
 abbrev μ-loop : tie.MeasureT-loop
 μ-loop doc classes rows₀ warnings₀ text₀ kind at len i g₀ p₀ rows warnings text g p = length doc - g .at
 
