@@ -1,26 +1,25 @@
 -- One attribute at a place: the end of its value, and the ways of looking for it.
 -- Assumes nothing.
-use Prim.Native.Nat.{ℕ, zero, suc, _+_, _-_, _≤_, _<_}
-use mathlib.Core.Path.{_≡_, refl, sym, ap, _∙_}
+use Prim.Native.Nat.{ℕ, suc, _+_, _-_, _≤_, _<_}
+use mathlib.Core.Path.{_≡_, refl, sym, _∙_}
 use mathlib.Core.List.{List, [], _∷_}
-use mathlib.Core.Bool.{Bool, true, false, not, _||_}
+use mathlib.Core.Bool.{Bool, true, false}
 use borrow.Author.Needs.{needs}
-use borrow.Author.Tests.{eq-eqb, ne-eqb}
-use native.Mathlib.Nat.{add-zero}
+use borrow.Author.Tests.{ne-eqb}
 use native.Mathlib.Numerals.{add-one}
 use native.Mathlib.Omega.{arith}
 use lib.Dec.{eqb}
-use lib.ListN.{length, take, drop, getD, length-drop, drop-of-length-le}
+use lib.ListN.{length, drop, getD, drop-of-length-le}
 use lib.Seq.{drop-cons}
-use Rattle.slices.specs.Bytes.{if, other, span, past, all, empty}
+use Rattle.slices.specs.Bytes.{if, other, span, past, empty}
 use Rattle.slices.specs.Run.{Run}
 use Rattle.slices.proofs.Runs.{Running, run-begins, run-more, run-stops, run-ends, past-at, other-true, other-false}
 use Rattle.scan.specs.Classes.{white, nameByte}
 use Rattle.scan.specs.Ignorable.{quote}
-use Rattle.references.specs.Unescape.{special, plain}
+use Rattle.references.specs.Unescape.{special}
 use Rattle.references.proofs.Pieces.{run-span}
 use Rattle.document.specs.Tags.{Found as Finding, attribute, equals, openQuote}
-use Rattle.attributes.specs.One.{part, kindFrom, Fit, Quotes, Named, Onward, IsFound, Finds}
+use Rattle.attributes.specs.One.{part, kindFrom, Fit, Quotes, Named, Finds}
 use Rattle.attributes.specs.declared.Attribute.{Attribute}
 use Rattle.attributes.specs.declared.Inside.{Inside}
 use Rattle.attributes.specs.declared.One.{One}
