@@ -1,9 +1,9 @@
 -- The check of the attributes, one by one.
 -- Assumes nothing.
-use Prim.Native.Nat.{ℕ, zero, suc, _+_, _-_, _≤_, _<_}
+use Prim.Native.Nat.{ℕ, suc, _+_, _-_, _≤_, _<_}
 use mathlib.Core.Path.{_≡_, refl, sym, ap, _∙_}
 use mathlib.Core.List.{List, [], _∷_, _++_, map, map-append, append-assoc}
-use mathlib.Core.Bool.{Bool, true, false, not, _&&_}
+use mathlib.Core.Bool.{Bool, true, false}
 use borrow.Author.Needs.{needs}
 use borrow.Author.Tests.{le-leb, eqb-true, eqb-false, eq-eqb, ne-eqb}
 use native.Mathlib.Numerals.{add-one}
@@ -12,12 +12,11 @@ use lib.Dec.{eqb}
 use lib.ListN.{length, take, drop, getD, drop-of-length-le}
 use lib.Seq.{drop-cons, length-take-le, getD-take, take-suc}
 use Rattle.slices.specs.Bytes.{if, all, same}
-use Rattle.references.specs.Unescape.{Text, text, wrong, unescape, plain}
-use Rattle.document.specs.Tags as tags
+use Rattle.references.specs.Unescape.{text, plain}
 use Rattle.document.specs.Tags.{Attr, Shown, Checked, good, fault, also, member, check}
-use Rattle.attributes.specs.One.{part, attrOf, kindFrom, Fit}
+use Rattle.attributes.specs.One.{attrOf, Fit}
 use Rattle.attributes.specs.Lookup.{blank, partIs, nameIs, keyed, firstFrom, First}
-use Rattle.attributes.specs.Outcome.{Fitted, Checkable, attrsOf, References, listed, IsJudged, Judges, IsChecked, Checks}
+use Rattle.attributes.specs.Outcome.{Checkable, attrsOf, References, listed, IsJudged, Judges, Checks}
 use Rattle.attributes.specs.declared.Attribute.{Attribute}
 use Rattle.attributes.specs.declared.Place.{Place}
 use Rattle.attributes.specs.declared.Place.the-variants.{At, Nothing}

@@ -1,9 +1,9 @@
 -- The first attribute whose name is of a kind, and its value.
 -- Assumes nothing.
-use Prim.Native.Nat.{ℕ, zero, suc, _+_, _-_, _*_, _≤_, _<_, zero-le}
-use mathlib.Core.Path.{_≡_, refl, sym, ap, _∙_}
+use Prim.Native.Nat.{ℕ, suc, _+_, _*_, _≤_, _<_, zero-le}
+use mathlib.Core.Path.{_≡_, refl, sym, _∙_}
 use mathlib.Core.List.{List, [], _∷_}
-use mathlib.Core.Option.{Option, none, some}
+use mathlib.Core.Option.{none, some}
 use mathlib.Core.Bool.{Bool, true, false}
 use borrow.Author.Needs.{needs}
 use native.Mathlib.Numerals.{add-one}
@@ -15,8 +15,7 @@ use lib.Seq.{drop-cons, length-take-le, getD-take}
 use Rattle.slices.specs.Bytes.{if, bytes}
 use Rattle.document.specs.Tags.{isTpType}
 use Rattle.document.specs.declared.Value.{Value}
-use Rattle.document.specs.declared.Values.{Values}
-use Rattle.attributes.specs.Lookup.{blank, partIs, nameIs, keyed, firstFrom, firstOf, atPlace, valueOf, valueIn, valuesIn, First, Picks, PicksAll}
+use Rattle.attributes.specs.Lookup.{blank, partIs, nameIs, keyed, firstFrom, firstOf, valueOf, valueIn, valuesIn, First, Picks, PicksAll}
 use Rattle.attributes.specs.declared.Attribute.{Attribute}
 use Rattle.attributes.specs.declared.Place.{Place}
 use Rattle.attributes.specs.declared.Place.the-variants.{At, Nothing}

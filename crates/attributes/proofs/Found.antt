@@ -1,26 +1,25 @@
 -- One attribute at a place: the end of its value, and the ways of looking for it.
 -- Assumes nothing.
-use Prim.Native.Nat.{ℕ, zero, suc, _+_, _-_, _≤_, _<_}
-use mathlib.Core.Path.{_≡_, refl, sym, ap, _∙_}
+use Prim.Native.Nat.{ℕ, suc, _+_, _-_, _≤_, _<_}
+use mathlib.Core.Path.{_≡_, refl, sym, _∙_}
 use mathlib.Core.List.{List, [], _∷_}
-use mathlib.Core.Bool.{Bool, true, false, not, _||_}
+use mathlib.Core.Bool.{Bool, true, false, _||_}
 use borrow.Author.Needs.{needs}
-use borrow.Author.Tests.{eq-eqb, ne-eqb}
-use native.Mathlib.Nat.{add-zero}
+use borrow.Author.Tests.{eqb-true, ne-eqb}
 use native.Mathlib.Numerals.{add-one}
 use native.Mathlib.Omega.{arith}
 use lib.Dec.{eqb}
-use lib.ListN.{length, take, drop, getD, length-drop, drop-of-length-le}
+use lib.ListN.{length, drop, getD, drop-of-length-le}
 use lib.Seq.{drop-cons}
-use Rattle.slices.specs.Bytes.{if, other, span, past, all, empty}
+use Rattle.slices.specs.Bytes.{if, other, span, past, empty}
 use Rattle.slices.specs.Run.{Run}
 use Rattle.slices.proofs.Runs.{Running, run-begins, run-more, run-stops, run-ends, past-at, other-true, other-false}
 use Rattle.scan.specs.Classes.{white, nameByte}
 use Rattle.scan.specs.Ignorable.{quote}
-use Rattle.references.specs.Unescape.{special, plain}
+use Rattle.references.specs.Unescape.{special}
 use Rattle.references.proofs.Pieces.{run-span}
 use Rattle.document.specs.Tags.{Found as Finding, attribute, equals, openQuote}
-use Rattle.attributes.specs.One.{part, kindFrom, Fit, Quotes, Named, Onward, IsFound, Finds}
+use Rattle.attributes.specs.One.{part, kindFrom, Fit, Quotes, Named, Finds}
 use Rattle.attributes.specs.declared.Attribute.{Attribute}
 use Rattle.attributes.specs.declared.Inside.{Inside}
 use Rattle.attributes.specs.declared.One.{One}
@@ -65,6 +64,16 @@ module _ {q : ℕ} {doc : List ℕ} {from at kind : ℕ} (g : Quoting q doc from
   pub quote-ends : length doc ≤ at → Quotes q doc from (record { end = at; kind = kind })
   quote-ends h = record { run = run-ends (g .run) h; kind = sym (g .left ∙ rw (drop-of-length-le doc h)) }
 
+  -- a byte above both quotes is plain
+  pub quote-high : at < length doc → 39 < getD doc at 0 → q ≤ 39 → Quoting q doc from (at + 1) kind
+  quote-high h l k =
+      let o : getD doc at 0 ≡ q → ⊥ = λ e. absurd (omega arith) in
+      let p : special (getD doc at 0) ≡ false = sym (special-above {b = getD doc at 0} (omega arith)) in
+      record {
+        run = run-more (g .run) h (other-true _ _ o);
+        left = g .left ∙ rw (drop-cons doc at 0 h, other-true _ _ o, p, add-one);
+      }
+
   module _ (h : at < length doc) (o : getD doc at 0 ≡ q → ⊥) {t : Bool} (e : t ≡ special (getD doc at 0)) where
     pub quote-special : t ≡ true → Quoting q doc from (at + 1) 2
     quote-special f = record {
@@ -79,7 +88,7 @@ module _ {q : ℕ} {doc : List ℕ} {from at kind : ℕ} (g : Quoting q doc from
     }
 
 -- what answers every need of the loop over a value
-pub ruleset quotes = (special-above, special-ampersand, special-tab, special-feed, special-below, quote-begins, quote-closes, quote-ends, quote-special, quote-plain, needs)
+pub ruleset quotes = (quote-high, special-above, special-ampersand, special-tab, special-feed, special-below, quote-begins, quote-closes, quote-ends, quote-special, quote-plain, needs)
 
 -- what follows a run that ends at a place
 run-past : {p : ℕ → Bool} {s : List ℕ} {from r : ℕ} → Run p s from r → past p (drop from s) ≡ drop r s
@@ -113,6 +122,15 @@ carries : {f g : List ℕ → ℕ → Finding} {doc : List ℕ} {from at : ℕ} 
 carries {f} {g} {doc} {from} {at} Absent h e c = record { onward = tt; is = e ∙ c .is }
 carries {f} {g} {doc} {from} {at} (Found a end) h e c =
     record { onward = (omega (arith, c .onward .0), c .onward .1, fit-wide h (omega arith) (c .onward .2)); is = e ∙ c .is }
+
+-- a quote is one of two bytes
+pub quote-low : {b : ℕ} {t : Bool} → t ≡ quote b → t ≡ true → b ≤ 39
+quote-low {b} e f = go (eqb b 34) (eqb b 39) (eqb-true b 34) (eqb-true b 39) (sym e ∙ f)
+  where
+    go : (x y : Bool) → (x ≡ true → b ≡ 34) → (y ≡ true → b ≡ 39) → (x || y) ≡ true → b ≤ 39
+    go true y p q r = omega (arith, p refl)
+    go false true p q r = omega (arith, q refl)
+    go false false p q r = let z : _≡_ {A = ℕ} 0 1 = cc in absurd (omega arith)
 
 -- at the opening quote
 module _ {doc : List ℕ} {name n at : ℕ} (g : Named doc name n at) where
@@ -151,7 +169,7 @@ module _ {doc : List ℕ} {name n at : ℕ} (g : Named doc name n at) where
             is = rw (add-one at, add-one (v .end), drop-cons doc at 0 h, sym e ∙ f, to-close, drop-cons doc (v .end) 0 l, p, r);
           }
 
-pub ruleset values = (value-ended, value-other, value-unclosed, value-found, needs)
+pub ruleset values = (quote-low, value-ended, value-other, value-unclosed, value-found, needs)
 
 -- at the `=`
 module _ {doc : List ℕ} {name n at : ℕ} (g : Named doc name n at) where

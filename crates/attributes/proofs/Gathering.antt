@@ -1,18 +1,17 @@
 -- The attributes of a tag, gathered; the whole answer.
 -- Assumes nothing.
 use Prim.Native.Nat.{ℕ, zero, suc, _+_, _-_, _≤_, _<_}
-use mathlib.Core.Path.{_≡_, refl, sym, ap, _∙_}
-use mathlib.Core.List.{List, [], _∷_, _++_, map, map-append}
+use mathlib.Core.Path.{_≡_, refl, ap, _∙_}
+use mathlib.Core.List.{List, [], _∷_, _++_, map-append}
 use borrow.Author.Needs.{needs}
 use native.Mathlib.Numerals.{add-one}
 use native.Mathlib.Omega.{arith}
-use lib.ListN.{length, take, drop, getD, set, length-set}
+use lib.ListN.{length, drop, getD, set, length-set}
 use lib.Seq.{take-suc-set, getD-set-same, getD-set-other}
 use native.Mathlib.Decide.{decLt}
-use Rattle.document.specs.Tags.{Attr, absent, found, attribute, Gathered, gathered, tooMany, with, another, noMore, gather, Shown, good, fault, check}
-use Rattle.document.specs.Tokens.{withAttrs}
+use Rattle.document.specs.Tags.{Attr, absent, attribute, Gathered, gathered, tooMany, with, gather}
 use Rattle.document.specs.declared.Values.{Values}
-use Rattle.attributes.specs.One.{attrOf, Fit, Finds}
+use Rattle.attributes.specs.One.{Fit, Finds}
 use Rattle.attributes.specs.Lookup.{blank, PicksAll}
 use Rattle.attributes.specs.Outcome.{Fitted, Checkable, attrsOf, Checks, Finishes, Gathers}
 use Rattle.attributes.specs.declared.Attribute.{Attribute}

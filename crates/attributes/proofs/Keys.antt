@@ -1,16 +1,16 @@
 -- Names that are a key, or that of a tp type.
 -- Assumes nothing.
-use Prim.Native.Nat.{ℕ, zero, suc, _+_, _-_, _≤_, _<_}
-use mathlib.Core.Path.{_≡_, refl, sym, ap, _∙_}
-use mathlib.Core.List.{List, [], _∷_, _++_}
+use Prim.Native.Nat.{ℕ, suc, _+_, _-_, _≤_, _<_}
+use mathlib.Core.Path.{_≡_, refl, sym, _∙_}
+use mathlib.Core.List.{List, [], _∷_}
 use mathlib.Core.Bool.{Bool, true, false, not, _&&_}
 use borrow.Author.Needs.{needs}
 use borrow.Author.Tests.{le-leb, lt-leb}
 use native.Mathlib.Omega.{arith}
 use native.Mathlib.Nat.{zero-add}
-use lib.ListN.{length, take, drop, getD, length-drop}
-use lib.Seq.{length-take-le, take-all}
-use Rattle.slices.specs.Bytes.{if, bytes, other, span, past, empty, same, starts}
+use lib.ListN.{length, take, drop, length-drop}
+use lib.Seq.{take-all}
+use Rattle.slices.specs.Bytes.{bytes, other, span, past, empty, same, starts}
 use Rattle.slices.specs.Run.{Run}
 use Rattle.slices.proofs.Runs.{past-drop, same-short, same-long}
 use Rattle.document.specs.Tags.{isTpType}

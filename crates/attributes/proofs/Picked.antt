@@ -1,15 +1,15 @@
 -- The values of the first attributes: they are those of the definition's lookups, and they fit.
 -- Assumes nothing.
-use Prim.Native.Nat.{ℕ, zero, suc, _+_, _-_, _≤_, _<_}
+use Prim.Native.Nat.{ℕ, suc, _-_, _≤_, _<_}
 use mathlib.Core.Path.{_≡_, refl, sym, ap, _∙_}
-use mathlib.Core.List.{List, [], _∷_, _++_, map}
+use mathlib.Core.List.{List, [], _∷_, map}
 use mathlib.Core.Option.{Option, none, some}
 use mathlib.Core.Bool.{Bool, true, false}
 use native.Mathlib.Nat.{sub-self, sub-zero}
 use native.Mathlib.Omega.{arith}
 use lib.ListN.{length, take, drop, getD, length-drop}
 use lib.Seq.{length-take-le, getD-take}
-use Rattle.slices.specs.Bytes.{if, bytes, same}
+use Rattle.slices.specs.Bytes.{if, bytes}
 use Rattle.references.specs.Unescape.{Text, text, wrong, unescape}
 use Rattle.document.specs.Tags.{Attr, Shown, Checked, good, fault, also, member, check, lookup, isTpType, tpType}
 use Rattle.document.specs.Outcome.{Held, ValueIs, ValueFits, ValuesFit, ValuesAre}

@@ -1,8 +1,8 @@
 -- What a raw value shows: itself where it is plain; and a fault's place lies in it.
 -- Assumes nothing.
 use Prim.Native.Nat.{ℕ, zero, suc, _+_, _-_, _≤_, _<_, _^_}
-use mathlib.Core.Path.{_≡_, refl, sym, ap, _∙_}
-use mathlib.Core.List.{List, [], _∷_, _++_}
+use mathlib.Core.Path.{_≡_, refl}
+use mathlib.Core.List.{List, [], _∷_}
 use mathlib.Core.Bool.{Bool, true, false, not, _||_}
 use borrow.Author.Needs.{needs}
 use native.Mathlib.Omega.{arith}
@@ -11,7 +11,7 @@ use lib.ListN.{length, take, drop, length-drop}
 use lib.Seq.{length-take-le}
 use Rattle.slices.specs.Bytes.{if, all}
 use Rattle.slices.proofs.Runs.{both}
-use Rattle.references.specs.Unescape.{Piece, shows, bad, piece, Text, text, wrong, before, joined, shownFrom, unescape, special, plain}
+use Rattle.references.specs.Unescape.{Piece, shows, bad, piece, Text, text, wrong, before, joined, shownFrom, unescape, plain}
 use Rattle.references.specs.Outcome as outcome
 use Rattle.references.specs.declared.ValuePlace.{ValuePlace}
 use Rattle.references.specs.declared.Checked.{Checked}

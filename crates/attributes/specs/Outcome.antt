@@ -7,12 +7,11 @@ use mathlib.Core.Bool.{Bool, true, false}
 use lib.ListN.{length, take, drop, getD}
 use Rattle.slices.specs.Bytes.{if, span, past, same}
 use Rattle.scan.specs.Classes.{white}
-use Rattle.references.specs.Unescape.{Text, text, wrong, unescape}
+use Rattle.references.specs.Unescape.{text, wrong, unescape}
 use Rattle.document.specs.Tags.{Attr, Shown, Checked, good, fault, also, check, gather}
 use Rattle.document.specs.Tokens as tokens
 use Rattle.document.specs.Tokens.{last, tagEnd, withAttrs}
 use Rattle.document.specs.Outcome.{ValuesAre, ValuesFit}
-use Rattle.document.specs.declared.Values.{Values}
 use Rattle.attributes.specs.One.{part, attrOf, Fit}
 use Rattle.attributes.specs.Lookup.{blank, valuesIn}
 use Rattle.attributes.specs.declared.Attribute.{Attribute}

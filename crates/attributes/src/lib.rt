@@ -76,21 +76,25 @@ fn is_special(b: u8) -> bool
 
 // The end of a value, or the length where no quote closes it.
 fn quoted(doc: &[u8], from: usize, quote: u8) -> Inside
-    requires { ⌜ from ≤ length (now doc) ⌝ }
+    requires { ⌜ (from ≤ length (now doc)) × («quote» ≤ 39) ⌝ }
     ensures { λ r. ⌜ Quotes «quote» (now (doc .entry)) from r ⌝ }
 {
     let mut at = from;
     let mut kind: u32 = 1;
     while at < doc.len() {
         let b = doc[at];
-        if b == quote {
-            return Inside { end: at, kind };
-        }
-        if is_special(b) {
-            kind = 2;
+        if 39 < b {
             at += 1;
         } else {
-            at += 1;
+            if b == quote {
+                return Inside { end: at, kind };
+            }
+            if is_special(b) {
+                kind = 2;
+                at += 1;
+            } else {
+                at += 1;
+            }
         }
     }
     Inside { end: at, kind }

@@ -10,9 +10,9 @@ value-at-spec =
     (tie.spec
     (λ c. search values)
     (λ c. search values)
+    (λ c κs. search values)
     (λ c. search values)
-    (λ c. search values)
-    (λ c. search values)
+    (λ c κs. search values)
     (λ c. search values)
     (λ c. search values)
     (λ c. search values)
