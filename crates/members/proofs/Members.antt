@@ -1,9 +1,12 @@
 -- The laws of the members of an interface.
 -- Assumes nothing.
 use Prim.Native.Nat.{ℕ, _+_, _-_, _≤_, _<_}
-use mathlib.Core.Path.{_≡_, refl}
+use mathlib.Core.Path.{_≡_, refl, sym, _∙_}
 use mathlib.Core.List.{List, [], _∷_}
 use mathlib.Core.Bool.{Bool, true, false}
+use lib.Dec.{eqb}
+use Rattle.slices.specs.Bytes.{if}
+use borrow.Author.Tests.{eq-eqb, ne-eqb}
 use borrow.Author.Needs.{needs}
 use native.Mathlib.Omega.{arith}
 use lib.ListN.{length}
@@ -16,7 +19,7 @@ use Rattle.document.specs.declared.Next.{Next}
 use Rattle.document.proofs.Loops.{Sofar, moved, loops, loop-less, child-bare, child-begins, child-other, among-not}
 use Rattle.document.proofs.Openings.{openings, opening-closes, opening-children}
 use Rattle.elements.proofs.Rows.{method-kind, signal-kind}
-use Rattle.members.specs.Kinds.{MemberKind}
+use Rattle.members.specs.Kinds.{Among, MemberKind}
 
 -- a child of an annotation leaves less of the document
 pub bare-less : {doc rows w w′ bytes : List ℕ} {at len i : ℕ} {f₀ f g : Fill} {b₀ : Lent} {r : Next} {c : StartTag} {a : Answer} → Sofar doc [] false at len i f₀ b₀ f (lent rows w bytes) → Steps doc (f .at) at len r → r ≡ Next.Start c → Ignores doc c (moved f (c .end)) w w′ a → a ≡ Answer.Done g → length doc - g .at < length doc - f .at
@@ -66,5 +69,24 @@ none-more {k} {x} {ks} n h = record { is = among-not k x ks n (h .is) }
 
 pub child-else : {doc hs rows rows′ w w′ bytes : List ℕ} {c : StartTag} {i : ℕ} {f : Fill} {r : Answer} → NoneOf (c .kind) hs → Others doc c i f rows rows′ w w′ r → Child doc hs true c i f (lent rows w bytes) (lent rows′ w′ bytes) r
 child-else n h = child-other (n .is) h
+
+-- one of these kinds, looked for from the first on
+pub among-first : {k x : ℕ} {ks : List ℕ} → k ≡ x → Among k (x ∷ ks) true
+among-first {k} {x} e = record { is = rw (eq-eqb k x e) }
+
+pub among-later : {k x : ℕ} {ks : List ℕ} {r : Bool} → (k ≡ x → ⊥) → Among k ks r → Among k (x ∷ ks) r
+among-later {k} {x} n h = record { is = rw (ne-eqb k x n) (h .is) }
+
+pub among-last : {k x : ℕ} → Among k (x ∷ []) (eqb k x)
+among-last {k} {x} = record { is = go (eqb k x) }
+  where
+    go : (t : Bool) → t ≡ if t true false
+    go true = refl
+    go false = refl
+
+pub ruleset kinds = (among-first, among-later, among-last, needs)
+
+pub among-none : {k : ℕ} {ks : List ℕ} {t : Bool} → Among k ks t → t ≡ false → NoneOf k ks
+among-none h e = record { is = sym (h .is) ∙ e }
 
 pub ruleset children = (child-begins, none-empty, none-more, child-else, child-parent, needs)

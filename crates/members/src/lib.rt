@@ -12,7 +12,7 @@ ghost use mathlib.Core.Bool.{true, false};
 ghost use lib.ListN.{length};
 ghost use Rattle.scan.specs.Classes.{Classes};
 ghost use Rattle.document.specs.Outcome.{lent, Bounded, Ready, Begins, Child, Children};
-ghost use Rattle.members.specs.Kinds.{MemberKind};
+ghost use Rattle.members.specs.Kinds.{Among, MemberKind};
 
 // The children of an annotation: nobody asked for any.
 fn bare(
@@ -221,10 +221,11 @@ fn callable_child(
     requires { ⌜ Ready (now doc) c f ⌝ ∗ ⌜ i < f .rows ⌝ ∗ ⌜ Classes (now classes) ⌝ }
     ensures { λ r. ⌜ Child (now (doc .entry)) (6 ∷ 7 ∷ []) true c i f (lent (now (rows .entry)) (now (warnings .entry)) (now (text .entry))) (lent (now (rows .exit)) (now (warnings .exit)) (now (text .exit))) r ⌝ }
 {
-    if c.kind == 7 {
+    let kind = c.kind;
+    if kind == 7 {
         return arg(doc, classes, rows, warnings, text, c, i + 1, f);
     }
-    if c.kind == 6 {
+    if kind == 6 {
         return annotation(doc, classes, rows, warnings, text, c, i + 1, f);
     }
     docstring_or_skip(doc, classes, rows, warnings, c, i, f)
@@ -303,4 +304,20 @@ pub fn member(
             callable(doc, classes, rows, warnings, text, c.at, c.len, f.rows, g)
         }
     }
+}
+
+// Whether an element of this kind is a definition: simple-type, enum, struct or mapping.
+pub fn is_definition(kind: u32) -> bool
+    ensures { λ r. ⌜ Among kind (8 ∷ 9 ∷ 11 ∷ 13 ∷ []) r ⌝ }
+{
+    if kind == 8 {
+        return true;
+    }
+    if kind == 9 {
+        return true;
+    }
+    if kind == 11 {
+        return true;
+    }
+    kind == 13
 }
