@@ -6,7 +6,7 @@ use mathlib.Core.List.{List, [], _∷_}
 use mathlib.Core.Bool.{Bool, true, false}
 use lib.Dec.{eqb}
 use Rattle.slices.specs.Bytes.{if}
-use borrow.Author.Tests.{eq-eqb, ne-eqb}
+use borrow.Author.Tests.{eq-eqb, ne-eqb, eqb-true}
 use borrow.Author.Needs.{needs}
 use native.Mathlib.Omega.{arith}
 use lib.ListN.{length}
@@ -17,8 +17,9 @@ use Rattle.document.specs.declared.Fill.{Fill}
 use Rattle.document.specs.declared.Answer.{Answer}
 use Rattle.document.specs.declared.Next.{Next}
 use Rattle.document.proofs.Loops.{Sofar, moved, loops, loop-less, child-bare, child-begins, child-other, among-not}
-use Rattle.document.proofs.Openings.{openings, opening-closes, opening-children}
+use Rattle.document.proofs.Openings.{definitions, openings, opening-closes, opening-children}
 use Rattle.elements.proofs.Rows.{method-kind, signal-kind}
+use Rattle.telepathy.specs.Outcome.{DefinitionKind}
 use Rattle.members.specs.Kinds.{Among, MemberKind}
 
 -- a child of an annotation leaves less of the document
@@ -89,4 +90,44 @@ pub ruleset kinds = (among-first, among-later, among-last, needs)
 pub among-none : {k : ℕ} {ks : List ℕ} {t : Bool} → Among k ks t → t ≡ false → NoneOf k ks
 among-none h e = record { is = sym (h .is) ∙ e }
 
+-- definitions
+pub definition-kind : {k : ℕ} {t : Bool} → Among k definitions t → t ≡ true → DefinitionKind k
+definition-kind h e = record { is = sym (h .is) ∙ e }
+
+-- an element that holds definitions, after these other kinds
+abbrev pub before-definitions : List ℕ → List ℕ
+before-definitions [] = definitions
+before-definitions (x ∷ xs) = x ∷ before-definitions xs
+
+definitions-among : (k : ℕ) (xs : List ℕ) → among k definitions ≡ true → among k (before-definitions xs) ≡ true
+definitions-among k [] e = e
+definitions-among k (x ∷ xs) e = rw (definitions-among k xs e) (always (eqb k x))
+  where
+    always : (t : Bool) → if t true true ≡ true
+    always true = refl
+    always false = refl
+
+-- what holds of each of these kinds
+pick : (P : ℕ → Type 0) (k x : ℕ) (ks : List ℕ) → P x → (among k ks ≡ true → P k) → among k (x ∷ ks) ≡ true → P k
+pick P k x ks h rest e = go (eqb k x) refl e
+  where
+    go : (t : Bool) → eqb k x ≡ t → if t true (among k ks) ≡ true → P k
+    go true q e = rw (eqb-true k x q) h
+    go false q e = rest e
+
+abbrev NoPart : ℕ → Type 0
+NoPart k = among k (10 ∷ 12 ∷ 14 ∷ []) ≡ false
+
+no-part : (k : ℕ) → among k definitions ≡ true → among k (10 ∷ 12 ∷ 14 ∷ []) ≡ false
+no-part k =
+    pick NoPart k 8 (9 ∷ 11 ∷ 13 ∷ []) refl
+    (pick NoPart k 9 (11 ∷ 13 ∷ []) refl
+    (pick NoPart k 11 (13 ∷ []) refl
+    (pick NoPart k 13 [] refl (λ e. cc))))
+
+pub child-definition : {doc : List ℕ} {c : StartTag} {i : ℕ} {f : Fill} {b b′ : Lent} {t : Bool} {r : Answer} → i < f .rows → Among (c .kind) definitions t → t ≡ true → Begins doc (c .kind) c (i + 1) f b b′ r → Child doc (3 ∷ 4 ∷ 5 ∷ 6 ∷ definitions) true c i f b b′ r
+child-definition {c = c} l a e h = let d = sym (a .is) ∙ e in child-begins l refl (definitions-among (c .kind) (3 ∷ 4 ∷ 5 ∷ 6 ∷ []) d) (no-part (c .kind) d) h
+
 pub ruleset children = (child-begins, none-empty, none-more, child-else, child-parent, needs)
+
+pub ruleset interfaces = (child-definition, definition-kind, among-none, method-member, signal-member, child-begins, none-more, child-else, child-parent, needs)
