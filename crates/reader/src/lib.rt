@@ -32,7 +32,7 @@ pub enum Turn {
     On(Walk),
 }
 
-// A child of a node that is no node itself: stand-in
+// A child of a node with row i that is no node itself.
 fn node_child(
     doc: &[u8],
     classes: &[u8; 256],
@@ -46,7 +46,14 @@ fn node_child(
     requires { ⌜ Ready (now doc) c f ⌝ ∗ ⌜ i < f .rows ⌝ ∗ ⌜ (c .kind ≡ 1 → ⊥) ⌝ ∗ ⌜ Classes (now classes) ⌝ }
     ensures { λ r. ⌜ Child (now (doc .entry)) (1 ∷ 2 ∷ 8 ∷ 9 ∷ 11 ∷ 13 ∷ []) true c i f (lent (now (rows .entry)) (now (warnings .entry)) (now (text .entry))) (lent (now (rows .exit)) (now (warnings .exit)) (now (text .exit))) r ⌝ }
 {
-    Answer::Fault(0, 0)
+    let kind = c.kind;
+    if kind == 2 {
+        return members::interface(doc, classes, rows, warnings, text, c, i + 1, f);
+    }
+    if members::is_definition(kind) {
+        return telepathy::definition(doc, classes, rows, warnings, text, c, i + 1, f);
+    }
+    skip::docstring_or_skip(doc, classes, rows, warnings, c, i, f)
 }
 
 // A node in a node: its row, and where it is open one more level.

@@ -1,0 +1,3 @@
+-- What reading a Telepathy type definition says.
+-- Assumes nothing.
+pub mod Outcome
