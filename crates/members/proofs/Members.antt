@@ -125,8 +125,11 @@ no-part k =
     (pick NoPart k 11 (13 ∷ []) refl
     (pick NoPart k 13 [] refl (λ e. cc))))
 
+pub child-defined : (xs : List ℕ) {doc : List ℕ} {c : StartTag} {i : ℕ} {f : Fill} {b b′ : Lent} {t : Bool} {r : Answer} → i < f .rows → Among (c .kind) definitions t → t ≡ true → Begins doc (c .kind) c (i + 1) f b b′ r → Child doc (before-definitions xs) true c i f b b′ r
+child-defined xs {c = c} l a e h = let d = sym (a .is) ∙ e in child-begins l refl (definitions-among (c .kind) xs d) (no-part (c .kind) d) h
+
 pub child-definition : {doc : List ℕ} {c : StartTag} {i : ℕ} {f : Fill} {b b′ : Lent} {t : Bool} {r : Answer} → i < f .rows → Among (c .kind) definitions t → t ≡ true → Begins doc (c .kind) c (i + 1) f b b′ r → Child doc (3 ∷ 4 ∷ 5 ∷ 6 ∷ definitions) true c i f b b′ r
-child-definition {c = c} l a e h = let d = sym (a .is) ∙ e in child-begins l refl (definitions-among (c .kind) (3 ∷ 4 ∷ 5 ∷ 6 ∷ []) d) (no-part (c .kind) d) h
+child-definition = child-defined (3 ∷ 4 ∷ 5 ∷ 6 ∷ [])
 
 pub ruleset children = (child-begins, none-empty, none-more, child-else, child-parent, needs)
 

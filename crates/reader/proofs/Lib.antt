@@ -5,3 +5,4 @@ pub mod Opened
 pub mod Turning
 pub mod Rooted
 pub mod Entries
+pub mod NodeChildren
