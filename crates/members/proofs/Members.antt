@@ -54,9 +54,9 @@ signal-member = record { named = signal-kind; held = refl; docs = refl; plain = 
 
 pub ruleset callables = (member-closes, member-children, elements)
 
--- a row plus one is small
-pub child-parent : {doc : List ℕ} {c : StartTag} {i : ℕ} {f : Fill} → Ready doc c f → i < f .rows → i + 1 ≤ 1048576
-child-parent r l = omega (arith, l, r .few, r .fits .inside, r .fits .within, r .sound .small)
+-- a row plus one or two is small
+pub child-parent : {doc : List ℕ} {c : StartTag} {i : ℕ} {f : Fill} (n : ℕ) → Ready doc c f → i < f .rows → n ≤ 2 → i + n ≤ 1048576
+child-parent n r l h = omega (arith, l, h, r .few, r .fits .inside, r .fits .within, r .sound .small)
 
 -- a kind is none of these
 pub record NoneOf (k : ℕ) (ks : List ℕ) : Type 0 where
