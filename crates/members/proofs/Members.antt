@@ -4,12 +4,12 @@ use Prim.Native.Nat.{ℕ, _+_, _-_, _≤_, _<_}
 use mathlib.Core.Path.{_≡_, refl, sym, _∙_}
 use mathlib.Core.List.{List, [], _∷_}
 use mathlib.Core.Bool.{Bool, true, false}
-use lib.Dec.{eqb}
-use Rattle.slices.specs.Bytes.{if}
-use borrow.Author.Tests.{eq-eqb, ne-eqb, eqb-true}
 use borrow.Author.Needs.{needs}
+use borrow.Author.Tests.{eq-eqb, ne-eqb, eqb-true}
 use native.Mathlib.Omega.{arith}
+use lib.Dec.{eqb}
 use lib.ListN.{length}
+use Rattle.slices.specs.Bytes.{if}
 use Rattle.document.specs.Elements.{among}
 use Rattle.document.specs.Outcome.{Lent, lent, Ready, Steps, Ignores, Others, Opening, Begins, Child, Children}
 use Rattle.document.specs.declared.StartTag.{StartTag}
@@ -54,9 +54,9 @@ signal-member = record { named = signal-kind; held = refl; docs = refl; plain = 
 
 pub ruleset callables = (member-closes, member-children, elements)
 
--- a row plus one is small
-pub child-parent : {doc : List ℕ} {c : StartTag} {i : ℕ} {f : Fill} → Ready doc c f → i < f .rows → i + 1 ≤ 1048576
-child-parent r l = omega (arith, l, r .few, r .fits .inside, r .fits .within, r .sound .small)
+-- a row plus one or two is small
+pub child-parent : {doc : List ℕ} {c : StartTag} {i : ℕ} {f : Fill} (n : ℕ) → Ready doc c f → i < f .rows → n ≤ 2 → i + n ≤ 1048576
+child-parent n r l h = omega (arith, l, h, r .few, r .fits .inside, r .fits .within, r .sound .small)
 
 -- a kind is none of these
 pub record NoneOf (k : ℕ) (ks : List ℕ) : Type 0 where
@@ -90,22 +90,26 @@ pub ruleset kinds = (among-first, among-later, among-last, needs)
 pub among-none : {k : ℕ} {ks : List ℕ} {t : Bool} → Among k ks t → t ≡ false → NoneOf k ks
 among-none h e = record { is = sym (h .is) ∙ e }
 
--- definitions
+-- a kind that was found among the definitions
 pub definition-kind : {k : ℕ} {t : Bool} → Among k definitions t → t ≡ true → DefinitionKind k
 definition-kind h e = record { is = sym (h .is) ∙ e }
 
--- an element that holds definitions, after these other kinds
-abbrev pub before-definitions : List ℕ → List ℕ
-before-definitions [] = definitions
-before-definitions (x ∷ xs) = x ∷ before-definitions xs
+-- an element that holds these kinds holds definitions
+pub record HoldsDefinitions (ks : List ℕ) : Type 0 where
+  pub is : (k : ℕ) → among k definitions ≡ true → among k ks ≡ true
 
-definitions-among : (k : ℕ) (xs : List ℕ) → among k definitions ≡ true → among k (before-definitions xs) ≡ true
-definitions-among k [] e = e
-definitions-among k (x ∷ xs) e = rw (definitions-among k xs e) (always (eqb k x))
+pub holds-definitions : HoldsDefinitions definitions
+holds-definitions = record { is = λ k e. e }
+
+pub holds-more : {x : ℕ} {ks : List ℕ} → HoldsDefinitions ks → HoldsDefinitions (x ∷ ks)
+holds-more {x} h = record { is = λ k e. rw (h .is k e) (always (eqb k x)) }
   where
     always : (t : Bool) → if t true true ≡ true
     always true = refl
     always false = refl
+
+pub interface-holds : HoldsDefinitions (3 ∷ 4 ∷ 5 ∷ 6 ∷ definitions)
+interface-holds = holds-more (holds-more (holds-more (holds-more holds-definitions)))
 
 -- what holds of each of these kinds
 pick : (P : ℕ → Type 0) (k x : ℕ) (ks : List ℕ) → P x → (among k ks ≡ true → P k) → among k (x ∷ ks) ≡ true → P k
@@ -125,12 +129,9 @@ no-part k =
     (pick NoPart k 11 (13 ∷ []) refl
     (pick NoPart k 13 [] refl (λ e. cc))))
 
-pub child-defined : (xs : List ℕ) {doc : List ℕ} {c : StartTag} {i : ℕ} {f : Fill} {b b′ : Lent} {t : Bool} {r : Answer} → i < f .rows → Among (c .kind) definitions t → t ≡ true → Begins doc (c .kind) c (i + 1) f b b′ r → Child doc (before-definitions xs) true c i f b b′ r
-child-defined xs {c = c} l a e h = let d = sym (a .is) ∙ e in child-begins l refl (definitions-among (c .kind) xs d) (no-part (c .kind) d) h
-
-pub child-definition : {doc : List ℕ} {c : StartTag} {i : ℕ} {f : Fill} {b b′ : Lent} {t : Bool} {r : Answer} → i < f .rows → Among (c .kind) definitions t → t ≡ true → Begins doc (c .kind) c (i + 1) f b b′ r → Child doc (3 ∷ 4 ∷ 5 ∷ 6 ∷ definitions) true c i f b b′ r
-child-definition = child-defined (3 ∷ 4 ∷ 5 ∷ 6 ∷ [])
+pub child-definition : {doc hs : List ℕ} {docs : Bool} {c : StartTag} {i : ℕ} {f : Fill} {b b′ : Lent} {t : Bool} {r : Answer} → i < f .rows → HoldsDefinitions hs → Among (c .kind) definitions t → t ≡ true → Begins doc (c .kind) c (i + 1) f b b′ r → Child doc hs docs c i f b b′ r
+child-definition {c = c} l d a e h = let y = sym (a .is) ∙ e in child-begins l refl (d .is (c .kind) y) (no-part (c .kind) y) h
 
 pub ruleset children = (child-begins, none-empty, none-more, child-else, child-parent, needs)
 
-pub ruleset interfaces = (child-definition, definition-kind, among-none, method-member, signal-member, child-begins, none-more, child-else, child-parent, needs)
+pub ruleset interfaces = (child-definition, interface-holds, definition-kind, among-none, method-member, signal-member, child-begins, none-more, child-else, child-parent, needs)
