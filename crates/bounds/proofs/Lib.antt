@@ -5,3 +5,4 @@ pub mod Ignorables
 pub mod Values
 pub mod Attributes
 pub mod Nexts
+pub mod Texts

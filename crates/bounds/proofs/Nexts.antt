@@ -25,7 +25,7 @@ pub record Starts (from top : ℕ) (t : Tag) (q : ℕ) : Type 0 where
   pub long : t .at + 3 ≤ q
   pub self : t .self ≡ true → t .at + 4 ≤ q
   pub after : t .after ≡ q
-  pub text : t .at + textTotal (t .attrs) ≤ q
+  pub text : t .at + textTotal (t .attrs) < q
   pub within : q ≤ top
 
 -- a closing tag: `</`, a name, `>`
