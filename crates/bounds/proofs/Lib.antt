@@ -6,3 +6,4 @@ pub mod Values
 pub mod Attributes
 pub mod Nexts
 pub mod Texts
+pub mod States
