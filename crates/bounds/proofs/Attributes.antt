@@ -18,9 +18,9 @@ use Rattle.document.specs.Tags as tags
 use Rattle.bounds.proofs.Branches.{either, span-past}
 use Rattle.bounds.proofs.Values.{Told, unescape-told}
 
--- the number and place of a refusal by a fault in the markup or in an element
+-- the number and place of a fault met while reading (1 and 2 are told before)
 pub record Refusal (top n p : ℕ) : Type 0 where
-  pub some : 0 < n
+  pub some : 2 < n
   pub number : n ≤ 17
   pub place : p ≤ top
 

@@ -7,3 +7,5 @@ pub mod Attributes
 pub mod Nexts
 pub mod Texts
 pub mod States
+pub mod Folding
+pub mod Whole

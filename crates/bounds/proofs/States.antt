@@ -99,8 +99,8 @@ row-holds q k t r {fs} {u} l m h =
           (λ c. a .1 (length (u .rows ++ (r ∷ []))) (owned-more (length (u .rows)) (length (u .rows ++ (r ∷ []))) fs (omega arith) (h .owned)));
     }
 
-warning-holds : {at : ℕ} (q m why p : ℕ) (n : List ℕ) (fs gs : List Frame) {u : Tables Shown} → at + 4 + length fs ≤ q + length gs → at ≤ q → ((i : ℕ) → Owned i fs → Owned i gs) → Holds at fs u → Holds q gs (withWarning why p n u)
-warning-holds q m why p n fs gs {u} l i o h =
+warning-holds : {at : ℕ} (q why p : ℕ) (n : List ℕ) (fs gs : List Frame) {u : Tables Shown} → at + 4 + length fs ≤ q + length gs → at ≤ q → ((i : ℕ) → Owned i fs → Owned i gs) → Holds at fs u → Holds q gs (withWarning why p n u)
+warning-holds q why p n fs gs {u} l i o h =
     record {
       few = rw length-append (omega (arith, h .few));
       text = omega (arith, h .text);
@@ -181,8 +181,8 @@ module _ (doc : List ℕ) (top : ℕ) where
         either (Kept top q) (t .self)
         (λ c.
         closed-kept q fs (withWarning 1 (t .at) (t .name) u) (g .within)
-        (warning-holds q 0 1 (t .at) (t .name) fs fs (omega (arith, g .self c, g .since)) (omega (arith, g .long, g .since)) (λ i o. o) h))
-        (λ c. warning-holds q 0 1 (t .at) (t .name) fs _ (omega (arith, g .long, g .since)) (omega (arith, g .long, g .since)) (λ i o. o) h)
+        (warning-holds q 1 (t .at) (t .name) fs fs (omega (arith, g .self c, g .since)) (omega (arith, g .long, g .since)) (λ i o. o) h))
+        (λ c. warning-holds q 1 (t .at) (t .name) fs _ (omega (arith, g .long, g .since)) (omega (arith, g .long, g .since)) (λ i o. o) h)
 
     docstring-kept : (fs : List Frame) (i : ℕ) (u : Tables Shown) → Holds at fs u → Kept top q (docstringIn whole doc t fs i u)
     unfolding docstringIn

@@ -83,10 +83,10 @@ module _ {from top : ℕ} (t : Tag) {q : ℕ} (g : Starts from top t q) where
   row-opens k p n v tp w h = omega (arith, row-size k p n v tp w, g .text)
 
   -- a refusal at the element name, or after the tag
-  at-name : (n : ℕ) → 0 < n → n ≤ 17 → Refusal top n (suc (t .at))
+  at-name : (n : ℕ) → 2 < n → n ≤ 17 → Refusal top n (suc (t .at))
   at-name n h i = record { some = h; number = i; place = omega (arith, g .long, g .within) }
 
-  at-end : (n : ℕ) → 0 < n → n ≤ 17 → Refusal top n (t .after)
+  at-end : (n : ℕ) → 2 < n → n ≤ 17 → Refusal top n (t .after)
   at-end n h i = record { some = h; number = i; place = omega (arith, g .after, g .within) }
 
   required-opens : (o : Option Shown) (f : Shown → Opened Shown) → ((s : Shown) → o ≡ some s → Opens (f s)) → Opens (required whole o t f)
