@@ -4,11 +4,10 @@
 use Prim.Native.Nat.{ℕ, zero, suc, _+_, _≤_, _<_}
 use mathlib.Core.Path.{_≡_, refl}
 use mathlib.Core.List.{List, [], _∷_}
-use mathlib.Core.Bool.{Bool, true, false}
 use native.Mathlib.Omega.{arith}
 use lib.Dec.{eqb}
 use lib.ListN.{length}
-use Rattle.slices.specs.Bytes.{if, other, span, past, empty}
+use Rattle.slices.specs.Bytes.{other, span, past, empty}
 use Rattle.scan.specs.Classes.{white, nameByte}
 use Rattle.scan.specs.Ignorable.{quote}
 use Rattle.references.specs.Unescape.{Text, text, wrong, unescape}
@@ -19,7 +18,7 @@ use Rattle.bounds.proofs.Branches.{either, span-past}
 use Rattle.bounds.proofs.Values.{Told, unescape-told}
 
 -- the number and place of a fault met while reading (1 and 2 are told before)
-pub record Refusal (top n p : ℕ) : Type 0 where
+pub record Met (top n p : ℕ) : Type 0 where
   pub some : 2 < n
   pub number : n ≤ 17
   pub place : p ≤ top
@@ -128,7 +127,7 @@ module _ (top : ℕ) where
 
   abbrev pub Checks : List Attr → Checked → Type 0
   Checks xs (good ss) = textTotal ss ≤ rawTotal xs
-  Checks xs (tags.fault n p) = Refusal top n p
+  Checks xs (tags.fault n p) = Met top n p
 
   also-checks : (a : Attr) (xs : List Attr) (t : Text) (c : Checked) → Lies top a → unescape (a .raw) ≡ t → Told (length (a .raw)) t → Checks xs c → Checks (a ∷ xs) (also a t c)
   also-checks a xs (wrong n p) c l e h i = record { some = omega arith; number = omega arith; place = omega (arith, l .value) }

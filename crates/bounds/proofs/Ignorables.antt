@@ -1,13 +1,12 @@
 -- Where passing over what is ignorable comes to: further on, and no further than the end; so do the places of its faults.
 -- Assumes nothing.
-use Prim.Native.Nat.{ℕ, zero, suc, pred, _+_, _-_, _≤_, _<_}
+use Prim.Native.Nat.{ℕ, zero, suc, _+_, _-_, _≤_}
 use mathlib.Core.Path.{_≡_, refl}
 use mathlib.Core.List.{List, [], _∷_}
-use mathlib.Core.Bool.{Bool, true, false}
 use native.Mathlib.Omega.{arith}
 use lib.Dec.{eqb}
 use lib.ListN.{length, drop, length-drop}
-use Rattle.slices.specs.Bytes.{if, bytes, starts}
+use Rattle.slices.specs.Bytes.{bytes, starts}
 use Rattle.slices.proofs.Runs.{starts-fits}
 use Rattle.scan.specs.Ignorable.{Mode, bare, quoted, quote, changed, ends, unended, declarationIn, declared, markup, seek, further, ignorableFrom, ignorable}
 use Rattle.scan.specs.declared.Scan.{Scan}

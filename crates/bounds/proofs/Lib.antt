@@ -8,4 +8,5 @@ pub mod Nexts
 pub mod Texts
 pub mod States
 pub mod Folding
+pub mod Meaning
 pub mod Whole

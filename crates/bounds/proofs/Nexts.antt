@@ -3,11 +3,11 @@
 use Prim.Native.Nat.{ℕ, suc, _+_, _-_, _≤_, _<_}
 use mathlib.Core.Path.{_≡_, refl}
 use mathlib.Core.List.{List, [], _∷_}
-use mathlib.Core.Bool.{Bool, true, false}
+use mathlib.Core.Bool.{true}
 use native.Mathlib.Omega.{arith}
 use lib.Dec.{eqb}
 use lib.ListN.{length, drop, length-drop}
-use Rattle.slices.specs.Bytes.{if, span, past, empty}
+use Rattle.slices.specs.Bytes.{span, past, empty}
 use Rattle.scan.specs.Classes.{white, nameByte}
 use Rattle.scan.specs.Ignorable.{ignorable}
 use Rattle.scan.specs.declared.Scan.{Scan}
@@ -17,7 +17,7 @@ use Rattle.document.specs.Tags as tags
 use Rattle.document.specs.Tokens.{Tag, Token, start, close, fault, end, Next, more, last, slashEnd, tagEnd, withShown, withAttrs, opening, closeEnd, closing, tag, tagOrEnd, pastIgnorable, next}
 use Rattle.bounds.proofs.Branches.{either, span-past, not-empty}
 use Rattle.bounds.proofs.Ignorables.{Scanned, ignorable-within}
-use Rattle.bounds.proofs.Attributes.{Refusal, rawTotal, textTotal, Gathering, Gathers, gather-within, Checks, check-within}
+use Rattle.bounds.proofs.Attributes.{Met, rawTotal, textTotal, Gathers, gather-within, Checks, check-within}
 
 -- a start tag that is looked for from a place on, and the place after it: `<`, a name, `>` or `/>`
 pub record Starts (from top : ℕ) (t : Tag) (q : ℕ) : Type 0 where
@@ -45,7 +45,7 @@ Onward from top (end p) q = ⊥
 abbrev pub Ended : ℕ → Token → Type 0
 Ended top (start t) = ⊥
 Ended top (close lt m p) = ⊥
-Ended top (fault n p) = Refusal top n p
+Ended top (fault n p) = Met top n p
 Ended top (end p) = p ≡ top
 
 abbrev pub Reaches : ℕ → ℕ → Next → Type 0
@@ -54,7 +54,7 @@ Reaches from top (last t) = Ended top t
 
 module _ (from top : ℕ) where
   -- fault 4
-  markup : {p : ℕ} → p ≤ top → Refusal top 4 p
+  markup : {p : ℕ} → p ≤ top → Met top 4 p
   markup h = record { some = omega arith; number = omega arith; place = h }
 
   module _ (at : ℕ) (n : List ℕ) (h : from ≤ at) where

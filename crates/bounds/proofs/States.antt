@@ -5,23 +5,24 @@
 use Prim.Native.Nat.{ℕ, suc, _+_, _-_, _*_, _≤_, _<_}
 use mathlib.Core.Path.{_≡_, refl, ap, sym, _∙_}
 use mathlib.Core.List.{List, [], _∷_, _++_}
-use mathlib.Core.Bool.{Bool, true, false, not, _&&_}
+use mathlib.Core.Bool.{not, _&&_}
 use native.Mathlib.Omega.{arith}
 use lib.Dec.{eqb, leb, ltb}
 use lib.ListN.{length, take, drop, length-append, take-append-drop}
 use lib.Seq.{length-take-le}
-use Rattle.slices.specs.Bytes.{if, same}
+use Rattle.slices.specs.Bytes.{same}
 use Rattle.utf8.specs.WhiteSpace.{trimStart, trimEnd}
 use Rattle.document.specs.Tags.{Shown}
 use Rattle.document.specs.Tokens.{Tag, Token, start, close, fault, end}
-use Rattle.document.specs.Rows.{Doc, Row, Tables, documented, rowText, texts}
+use Rattle.document.specs.Rows.{Doc, Row, Tables, rowText, texts}
 use Rattle.document.specs.Elements.{kindOf, mayHold, among, Opened, opens, refuses, opensAs}
-use Rattle.document.specs.Reading.{Definition, Purpose, ignored, captures, Frame, element, definition, passing, State, begun, reading, accepted, refused, parentOf, nameOf, reasonOf, notedIn, noted, frameOf, withRow, withWarning, closed, dropped, judged, captured, passed, innerClosed, shut, tooDeep, entered, opened, begins, unsupported, docstringIn, child, inner, started, turn, root, inside, step}
+use Rattle.document.specs.Reading.{Definition, Purpose, ignored, captures, Frame, element, definition, passing, State, begun, reading, accepted, refused, parentOf, nameOf, reasonOf, notedIn, noted, frameOf, withRow, withWarning, closed, judged, passed, shut, tooDeep, entered, opened, begins, unsupported, docstringIn, child, inner, started, turn, step}
 use Rattle.document.specs.Outcome.{whole}
 use Rattle.rows.proofs.Words.{length-documented, texts-documented, texts-append, texts-more}
+use Rattle.bounds.specs.Bounds.{Fits}
 use Rattle.bounds.proofs.Branches.{either}
-use Rattle.bounds.proofs.Attributes.{Refusal}
-use Rattle.bounds.proofs.Nexts.{Starts, Closes, Onward, Ended}
+use Rattle.bounds.proofs.Attributes.{Met}
+use Rattle.bounds.proofs.Nexts.{Starts, Onward, Ended}
 use Rattle.bounds.proofs.Texts.{Opens, start-opens}
 
 -- a definition that is open has a row, which stands behind those of what is open around it
@@ -37,23 +38,18 @@ pub record Holds (at : ℕ) (fs : List Frame) (u : Tables Shown) : Type 0 where
   pub text : length (texts (u .rows)) ≤ at
   pub owned : Owned (length (u .rows)) fs
 
--- the tables of a document of a length
-pub record Fits (top : ℕ) (u : Tables Shown) : Type 0 where
-  pub few : 4 * (length (u .rows) + length (u .warnings)) ≤ top
-  pub text : length (texts (u .rows)) ≤ top
-
 abbrev pub Kept : ℕ → ℕ → State Shown → Type 0
 Kept top at begun = Unit {0}
 Kept top at (reading fs u) = Holds at fs u
 Kept top at (accepted u) = Fits top u
-Kept top at (refused n p) = Refusal top n p
+Kept top at (refused n p) = Met top n p
 
 -- a document has been read to its end
 abbrev pub Final : ℕ → State Shown → Type 0
 Final top begun = ⊥
 Final top (reading fs u) = ⊥
 Final top (accepted u) = Fits top u
-Final top (refused n p) = Refusal top n p
+Final top (refused n p) = Met top n p
 
 -- ---- frames
 
@@ -153,7 +149,7 @@ module _ (doc : List ℕ) (top : ℕ) where
   -- ---- start tags
 
   module _ {at q : ℕ} (t : Tag) (g : Starts at top t q) where
-    deep : Refusal top 7 (t .after)
+    deep : Met top 7 (t .after)
     deep = record { some = omega arith; number = omega arith; place = omega (arith, g .after, g .within) }
 
     entered-kept : (k : ℕ) (r : Row Shown) (fs : List Frame) (u : Tables Shown) → t .at + length (rowText r) < q → Holds at fs u → Kept top q (entered whole doc k t r fs u)

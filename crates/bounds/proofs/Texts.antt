@@ -1,8 +1,8 @@
 -- The text of a row: no longer than the texts of all attributes of its tag together; and what a start tag comes to.
 -- Assumes nothing.
 use Prim.Native.Nat.{ℕ, suc, _+_, _≤_, _<_}
-use mathlib.Core.Path.{_≡_, refl, ap, sym, _∙_}
-use mathlib.Core.List.{List, [], _∷_, _++_}
+use mathlib.Core.Path.{_≡_, refl, ap}
+use mathlib.Core.List.{List, [], _∷_}
 use mathlib.Core.Option.{Option, none, some}
 use mathlib.Core.Bool.{Bool, true, false, not}
 use borrow.Author.Tests.{eqb-true}
@@ -16,11 +16,11 @@ use Rattle.names.specs.Signature.{signature}
 use Rattle.references.specs.Unescape.{plain}
 use Rattle.document.specs.Tags.{Shown, lookup, isTpType, tpType}
 use Rattle.document.specs.Tokens.{Tag}
-use Rattle.document.specs.Rows.{Row, textOf, rowText}
-use Rattle.document.specs.Elements.{attr, among, accessOf, directionOf, Opened, opens, refuses, kept, row, required, valid, namedRow, propertyRow, annotationRow, directed, argRow, opensAs}
+use Rattle.document.specs.Rows.{textOf, rowText}
+use Rattle.document.specs.Elements.{attr, among, accessOf, directionOf, Opened, opens, refuses, kept, row, required, namedRow, propertyRow, annotationRow, directed, argRow, opensAs}
 use Rattle.document.specs.Outcome.{whole}
 use Rattle.bounds.proofs.Branches.{either}
-use Rattle.bounds.proofs.Attributes.{Refusal, textTotal}
+use Rattle.bounds.proofs.Attributes.{Met, textTotal}
 use Rattle.bounds.proofs.Nexts.{Starts}
 
 -- how long the text is that a value shows
@@ -77,16 +77,16 @@ module _ (j k : List ℕ) (a : same j k ≡ false) (b : isTpType j ≡ false) (c
 module _ {from top : ℕ} (t : Tag) {q : ℕ} (g : Starts from top t q) where
   abbrev pub Opens : Opened Shown → Type 0
   Opens (opens r) = t .at + length (rowText r) < q
-  Opens (refuses n p) = Refusal top n p
+  Opens (refuses n p) = Met top n p
 
   row-opens : (k p : ℕ) (n v tp : Option Shown) (w : ℕ) → size n + size v + size tp ≤ textTotal (t .attrs) → Opens (opens (row whole k p n v tp w))
   row-opens k p n v tp w h = omega (arith, row-size k p n v tp w, g .text)
 
   -- a refusal at the element name, or after the tag
-  at-name : (n : ℕ) → 2 < n → n ≤ 17 → Refusal top n (suc (t .at))
+  at-name : (n : ℕ) → 2 < n → n ≤ 17 → Met top n (suc (t .at))
   at-name n h i = record { some = h; number = i; place = omega (arith, g .long, g .within) }
 
-  at-end : (n : ℕ) → 2 < n → n ≤ 17 → Refusal top n (t .after)
+  at-end : (n : ℕ) → 2 < n → n ≤ 17 → Met top n (t .after)
   at-end n h i = record { some = h; number = i; place = omega (arith, g .after, g .within) }
 
   required-opens : (o : Option Shown) (f : Shown → Opened Shown) → ((s : Shown) → o ≡ some s → Opens (f s)) → Opens (required whole o t f)

@@ -1,15 +1,15 @@
 -- The faults of a value: their numbers are 9 to 11, and their places lie in the value.
 -- Assumes nothing.
 use Prim.Native.Nat.{ℕ, zero, suc, _+_, _≤_, _<_}
-use mathlib.Core.Path.{_≡_, refl}
+use mathlib.Core.Path.{_≡_}
 use mathlib.Core.List.{List, [], _∷_}
-use mathlib.Core.Bool.{Bool, true, false, not, _&&_, _||_}
+use mathlib.Core.Bool.{Bool, not, _&&_, _||_}
 use native.Mathlib.Omega.{arith}
 use lib.Dec.{eqb}
 use lib.ListN.{length}
-use Rattle.slices.specs.Bytes.{if, bytes, other, span, past, all, empty, same}
+use Rattle.slices.specs.Bytes.{bytes, other, span, past, all, empty, same}
 use Rattle.references.specs.Characters.{xmlChar}
-use Rattle.references.specs.Unescape.{Reference, character, fault, ofCode, ofDigits, number, hexDigit, decimalDigit, ofNumber, charReference, reference, Piece, shows, bad, referred, afterAmpersand, afterCr, piece, Text, text, wrong, before, joined, shownFrom, unescape}
+use Rattle.references.specs.Unescape.{Reference, character, fault, ofDigits, number, hexDigit, decimalDigit, ofNumber, charReference, reference, Piece, shows, bad, referred, afterCr, piece, Text, text, wrong, before, joined, shownFrom, unescape}
 use Rattle.bounds.proofs.Branches.{either}
 
 -- the number of a fault of a reference
