@@ -1,6 +1,6 @@
 -- What holds of a state at a place: how many rows and warnings and how much text there are at most; and each step keeps it.
--- A row or a warning comes with a start tag, of 3 bytes at least, and is paid for when its element is closed: so 4 times
--- their number is at most the place and one for each open element.
+-- A row or a warning comes with a start tag of 3 bytes at least, or of 4 where it is `/>`; any other is closed by a tag of its
+-- own. So 4 times their number is at most the place plus the number of open elements.
 -- Assumes nothing.
 use Prim.Native.Nat.{ℕ, suc, _+_, _-_, _*_, _≤_, _<_}
 use mathlib.Core.Path.{_≡_, refl, ap, sym, _∙_}
@@ -25,7 +25,7 @@ use Rattle.bounds.proofs.Attributes.{Met}
 use Rattle.bounds.proofs.Nexts.{Starts, Onward, Ended}
 use Rattle.bounds.proofs.Texts.{Opens, start-opens}
 
--- a definition that is open has a row, which stands behind those of what is open around it
+-- a definition that is open has a row, after the rows of the definitions around it
 abbrev pub Owned : ℕ → List Frame → Type 0
 Owned n [] = Unit {0}
 Owned n (element k m r ∷ fs) = Owned n fs
@@ -135,7 +135,7 @@ module _ (doc : List ℕ) (top : ℕ) where
       (λ c. h)
 
   module _ {at q : ℕ} (m : at < q) (l : q ≤ top) where
-    -- the frame of an element pays for its row or warning
+    -- an element is closed: one open element less, and a byte or more is read
     popped : {f : Frame} {fs : List Frame} {u : Tables Shown} → Owned (length (u .rows)) fs → Holds at (f ∷ fs) u → Holds q fs u
     popped o h = record { few = omega (arith, h .few); text = omega (arith, h .text); owned = o }
 
