@@ -71,6 +71,7 @@ fn open_node(
 {
     let f = s.fill;
     let depth = s.depth;
+    let closes = c.closes;
     let moved = Fill {
         at: c.end,
         rows: f.rows,
@@ -80,7 +81,7 @@ fn open_node(
     match elements::node_row(doc, rows, text, c, i + 1, moved) {
         Answer::Fault(number, place) => Turn::Fault(number, place),
         Answer::Done(g) => {
-            if c.closes {
+            if closes {
                 return Turn::On(Walk {
                     depth,
                     at: s.at,
