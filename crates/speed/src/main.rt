@@ -1,8 +1,7 @@
 // Times the reader: makes a document of ordinary interfaces and reads it so many times.
-// Standard input has three numbers: how many interfaces, how often, and the rows lent.
+// Standard input has two numbers: the document (0 and 1: 10,000 bytes with few and with many rows
+// lent; 2: 100,000; 3: 500,000) and how often.
 use document::Verdict;
-ghost use Prim.Native.Nat.{_≤_};
-ghost use lib.ListN.{length};
 
 // A number, and the place after it.
 struct Number {
@@ -37,24 +36,16 @@ fn number_at(s: &[u8], from: usize) -> Number {
     Number { value: n, next: at }
 }
 
-fn least(a: usize, b: usize) -> usize
-    ensures { λ r. ⌜ r ≤ b ⌝ }
-{
-    if a < b {
-        return a;
-    }
-    b
-}
-
 // Puts as many bytes as have room from a place on, and answers the place after them.
 fn put(doc: &mut [u8], from: usize, s: &[u8]) -> usize {
     let mut i = 0;
     let mut at = from;
     while i < s.len() {
-        if at < doc.len() {
-            doc[at] = s[i];
-            at += 1;
+        if at >= doc.len() {
+            return at;
         }
+        doc[at] = s[i];
+        at += 1;
         i += 1;
     }
     at
@@ -93,13 +84,13 @@ fn interface(doc: &mut [u8], from: usize) -> usize {
     )
 }
 
-// A document of so many interfaces, and its length.
-fn fill(doc: &mut [u8], count: usize) -> usize {
+// As many interfaces as have room; the rest stays white space.
+fn fill(doc: &mut [u8]) {
     let mut at = put(doc, 0, b"<node>\n");
-    for _ in 0..count {
+    for _ in 1..doc.len() / 407 {
         at = interface(doc, at);
     }
-    put(doc, at, b"</node>\n")
+    put(doc, at, b"</node>\n");
 }
 
 // Reads the document so often, and answers the rows of the last time.
@@ -120,20 +111,55 @@ fn read(doc: &[u8], rows: &mut [u32], often: usize) -> usize {
     count
 }
 
+// Fills the document, reads it so often and tells its bytes and its rows.
+fn measure(doc: &mut [u8], rows: &mut [u32], often: usize) {
+    fill(doc);
+    let count = read(doc, rows, often);
+    io::print_decimal(1, doc.len() as u64);
+    io::write_all(1, b" bytes, ");
+    io::print_decimal(1, count as u64);
+    io::write_all(1, b" rows\n");
+}
+
+fn with_few_rows(doc: &mut [u8], often: usize) {
+    let mut rows = [0u32; 4096];
+    measure(doc, &mut rows, often);
+}
+
+fn with_many_rows(doc: &mut [u8], often: usize) {
+    let mut rows = [0u32; 524288];
+    measure(doc, &mut rows, often);
+}
+
+fn small(often: usize, few: bool) {
+    let mut doc = [32u8; 10000];
+    if few {
+        with_few_rows(&mut doc, often);
+    } else {
+        with_many_rows(&mut doc, often);
+    }
+}
+
+fn medium(often: usize) {
+    let mut doc = [32u8; 100000];
+    with_many_rows(&mut doc, often);
+}
+
+fn large(often: usize) {
+    let mut doc = [32u8; 500000];
+    with_many_rows(&mut doc, often);
+}
+
 fn main() {
     let mut line = [0u8; 64];
     let got = io::read_full(0, &mut line);
-    let interfaces = number_at(&line[..got], 0);
-    let often = number_at(&line[..got], interfaces.next);
-    let lent = number_at(&line[..got], often.next);
-    let mut doc = [0u8; 1048576];
-    let n = fill(&mut doc, interfaces.value);
-    let size = least(n, doc.len());
-    let mut rows = [0u32; 524288];
-    let words = least(lent.value, 32768) * 16;
-    let k = read(&doc[..size], &mut rows[..words], often.value);
-    io::print_decimal(1, size as u64);
-    io::write_all(1, b" bytes, ");
-    io::print_decimal(1, k as u64);
-    io::write_all(1, b" rows\n");
+    let kind = number_at(&line[..got], 0);
+    let often = number_at(&line[..got], kind.next);
+    if kind.value < 2 {
+        small(often.value, kind.value == 0);
+    } else if kind.value == 2 {
+        medium(often.value);
+    } else {
+        large(often.value);
+    }
 }
