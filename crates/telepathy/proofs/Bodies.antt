@@ -1,11 +1,10 @@
 -- The content of a definition: its parts and other children, and the loop over them.
 -- Assumes nothing.
-use Prim.Native.Nat.{ℕ, suc, _+_, _-_, _*_, _≤_, _<_}
+use Prim.Native.Nat.{ℕ, _+_, _-_, _≤_, _<_}
 use mathlib.Core.Path.{_≡_, refl, sym, _∙_, ap}
 use mathlib.Core.List.{List, [], _∷_}
-use mathlib.Core.Bool.{Bool, true, false, not, _&&_}
+use mathlib.Core.Bool.{Bool, true, false, not}
 use borrow.Author.Needs.{needs}
-use borrow.Author.Tests.{eq-eqb, ne-eqb}
 use native.Mathlib.Numerals.{add-one}
 use native.Mathlib.Omega.{arith}
 use lib.Dec.{eqb}
@@ -17,15 +16,15 @@ use Rattle.document.specs.Tokens.{Tag}
 use Rattle.document.specs.Rows.{Row, Tables}
 use Rattle.document.specs.Elements.{kindOf, among, heldBy, mayHold}
 use Rattle.document.specs.Reading as reading
-use Rattle.document.specs.Reading.{Frame, definition, State, reading, closed, judged, child, begins, noted, oneMore}
+use Rattle.document.specs.Reading.{Frame, definition, State, reading, closed, child, begins, noted, oneMore}
 use Rattle.document.specs.Outcome as outcome
-use Rattle.document.specs.Outcome.{Lent, lent, Stands, Bounded, Ready, TagIs, Steps, Begins, Others, runs, whole}
+use Rattle.document.specs.Outcome.{Lent, lent, Stands, Bounded, Ready, Steps, Begins, Others, runs, whole}
 use Rattle.document.specs.declared.StartTag.{StartTag}
 use Rattle.document.specs.declared.Fill.{Fill}
 use Rattle.document.specs.declared.Answer.{Answer}
 use Rattle.document.specs.declared.Next.{Next}
 use Rattle.document.proofs.Loops.{moved, moved-stands}
-use Rattle.telepathy.specs.Outcome.{DefinitionKind, PartKind, Holds, Unseen, More, Noted, Child, Body, Content, Onward, Ends, seen, openAs, none, entering}
+use Rattle.telepathy.specs.Outcome.{DefinitionKind, PartKind, Holds, Unseen, More, Noted, Child, Body, Content, Ends, seen, openAs, noParts}
 use Rattle.telepathy.specs.declared.Parts.{Parts}
 use Rattle.telepathy.specs.declared.Inner.{Inner}
 use Rattle.telepathy.proofs.Sorts.{by-part, by-definition}
@@ -141,7 +140,7 @@ pub record Sofar (doc : List ℕ) (k at len i : ℕ) (f₀ : Fill) (b₀ : Lent)
       Stands u b₀ f₀ →
       (v : Tables Shown)
       × Stands v b f
-      × (runs doc (f₀ .at) (reading (definition (openAs k i lt (take len (drop at doc)) why none) ∷ fs) u) ≡ runs doc (f .at) (reading (definition (openAs k i lt (take len (drop at doc)) why p) ∷ fs) v))
+      × (runs doc (f₀ .at) (reading (definition (openAs k i lt (take len (drop at doc)) why noParts) ∷ fs) u) ≡ runs doc (f .at) (reading (definition (openAs k i lt (take len (drop at doc)) why p) ∷ fs) v))
       × (take i (v .rows) ≡ take i (u .rows))
 
 module _ {doc : List ℕ} {k at len i : ℕ} {f₀ : Fill} {b₀ : Lent} where

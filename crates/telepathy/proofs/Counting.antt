@@ -1,10 +1,10 @@
 -- One part more: whether it is complete, whether one was incomplete, whether the first one's type is basic.
 -- Assumes nothing.
-use Prim.Native.Nat.{ℕ, suc, _+_, _≤_, _<_}
+use Prim.Native.Nat.{ℕ, _+_, _<_}
 use mathlib.Core.Path.{_≡_, refl, sym, _∙_, ap}
-use mathlib.Core.List.{List, [], _∷_}
-use mathlib.Core.Option.{Option, none, some}
-use mathlib.Core.Bool.{Bool, true, false, not, _&&_, _||_}
+use mathlib.Core.List.{List}
+use mathlib.Core.Option.{Option}
+use mathlib.Core.Bool.{Bool, true, false, not, _&&_}
 use borrow.Author.Needs.{needs}
 use borrow.Author.Tests.{eq-eqb, ne-eqb, eqb-true}
 use native.Mathlib.Numerals.{add-one}
@@ -12,21 +12,21 @@ use native.Mathlib.Omega.{arith}
 use mir.Syntax.{w64}
 use mir.Val.{Fits}
 use lib.Dec.{eqb}
-use Rattle.slices.specs.Bytes.{if, bytes}
+use Rattle.slices.specs.Bytes.{bytes}
 use Rattle.names.specs.Signature.{basicSignature}
-use Rattle.document.specs.Tags.{Shown, lookup}
+use Rattle.document.specs.Tags.{Shown}
 use Rattle.document.specs.Tokens.{Tag}
 use Rattle.document.specs.Elements.{attr, someSignature}
 use Rattle.document.specs.Reading as reading
-use Rattle.document.specs.Reading.{complete, isThere, isSome, oneMore}
-use Rattle.document.specs.Outcome.{ValueIs, Ready, TagIs}
+use Rattle.document.specs.Reading.{complete, isThere, isSome}
+use Rattle.document.specs.Outcome.{ValueIs, Ready}
 use Rattle.document.specs.declared.Value.{Value}
 use Rattle.document.specs.declared.StartTag.{StartTag}
 use Rattle.document.specs.declared.Fill.{Fill}
 use Rattle.document.proofs.Presence.{value-absent, value-there}
-use Rattle.rows.specs.Outcome.{Lies, Tests}
+use Rattle.rows.specs.Outcome.{Tests}
 use Rattle.elements.proofs.Rows.{lies-ty}
-use Rattle.telepathy.specs.Outcome.{PartKind, Completes, Breaks, Keyed, More, seen}
+use Rattle.telepathy.specs.Outcome.{PartKind, Completes, Breaks, Keyed, More}
 use Rattle.telepathy.specs.declared.Parts.{Parts}
 use Rattle.telepathy.proofs.Sorts.{by-part}
 

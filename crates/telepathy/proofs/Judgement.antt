@@ -1,22 +1,21 @@
 -- A definition is kept or dropped; from its row to the whole of it.
 -- Assumes nothing.
-use Prim.Native.Nat.{ℕ, suc, _+_, _*_, _≤_, _<_}
+use Prim.Native.Nat.{ℕ, _+_, _≤_, _<_}
 use mathlib.Core.Path.{_≡_, refl, sym, _∙_, ap}
 use mathlib.Core.List.{List, [], _∷_}
-use mathlib.Core.Bool.{Bool, true, false}
+use mathlib.Core.Bool.{false}
 use borrow.Author.Needs.{needs}
-use borrow.Author.Tests.{eq-eqb, ne-eqb}
+use borrow.Author.Tests.{ne-eqb}
 use native.Mathlib.Omega.{arith}
 use lib.Dec.{eqb}
 use lib.ListN.{length, take}
-use lib.Seq.{take-take, take-at, take-all}
+use lib.Seq.{take-take, take-at}
 use Rattle.slices.specs.Bytes.{if, bytes}
 use Rattle.document.specs.Tags.{Shown}
 use Rattle.document.specs.Tokens.{Tag}
 use Rattle.document.specs.Rows.{Row, Tables}
-use Rattle.document.specs.Elements.{among, attr}
-use Rattle.document.specs.Reading.{Definition, Frame, State, closed, withRow, withWarning, dropped, judged, reasonOf, noted, entered}
-use Rattle.document.specs.Outcome.{Lent, lent, Stands, Bounded, Ready, TagIs, Opening, Begins, Onward, Ends, runs, whole}
+use Rattle.document.specs.Reading.{Definition, Frame, closed, withRow, dropped, judged, reasonOf, noted, entered}
+use Rattle.document.specs.Outcome.{Lent, lent, Bounded, Ready, Opening, Begins, runs, whole}
 use Rattle.document.specs.declared.StartTag.{StartTag}
 use Rattle.document.specs.declared.Fill.{Fill}
 use Rattle.document.specs.declared.Answer.{Answer}
@@ -25,7 +24,7 @@ use Rattle.rows.specs.Outcome.{WarningPut, WarningFits}
 use Rattle.rows.proofs.Tables.{cut-to}
 use Rattle.elements.specs.Outcome.{TypedKind, UntypedKind}
 use Rattle.elements.proofs.Rows.{simple-type-kind, enum-kind, struct-kind, mapping-kind}
-use Rattle.telepathy.specs.Outcome.{DefinitionKind, Told, Content, Judging, Judged, Rest, tagged, entering, none}
+use Rattle.telepathy.specs.Outcome.{DefinitionKind, Told, Content, Judging, Judged, Rest, tagged, entering, noParts}
 use Rattle.telepathy.specs.declared.Parts.{Parts}
 use Rattle.telepathy.specs.declared.Inner.{Inner}
 use Rattle.telepathy.proofs.Sorts.{by-definition, carried, opening-end, opening-then}
@@ -110,7 +109,7 @@ module _ {doc : List ℕ} {c : StartTag} {f g : Fill} {b b′ : Lent} {x : Inner
   rest-fault e = record {
     kind = l .kind;
     onward = tt;
-    ends = λ t fs u v b₀ z s y k. (rw e at l) .ends (tagged c (f .rows) t none .reason) t fs v z y;
+    ends = λ t fs u v b₀ z s y k. (rw e at l) .ends (tagged c (f .rows) t noParts .reason) t fs v z y;
   }
 
 content-done : {doc : List ℕ} {c : StartTag} {i : ℕ} {g : Fill} {b b′ : Lent} {x : Inner} {h : Fill} {p : Parts} → Content doc c i g b b′ x → x ≡ Inner.Done h p → Content doc c i g b b′ (Inner.Done h p)
@@ -127,7 +126,7 @@ module _ {doc : List ℕ} {c : StartTag} {f g : Fill} {b : Lent} {rows w text : 
     kind = l .kind;
     onward = (o .since, o .grown, o .bounds);
     ends = λ t fs u v b₀ z s y k.
-        let i = content-done l e .ends (tagged c (f .rows) t none .reason) t fs v z y in
+        let i = content-done l e .ends (tagged c (f .rows) t noParts .reason) t fs v z y in
         let m = o .stands t u (i .0) b₀ rows text z s (i .1) (i .3 ∙ k) in
         (judged (tagged c (f .rows) t p) (i .0), m .0, i .2 ∙ ap (λ (n : ℕ). runs doc n (closed fs (judged (tagged c (f .rows) t p) (i .0)))) (sym (o .at)), m .1);
   }
@@ -160,7 +159,7 @@ module _ {doc : List ℕ} {c : StartTag} {f : Fill} {p : ℕ} {rows rows′ byte
       carried doc (f .rows) (noted (c .kind) t fs) b r (inside t fs u row (s .many)) (sym k)
       (l .ends t (noted (c .kind) t fs) u (withRow row u) (lent rows w bytes) z s y k))
     where
-      inside : (t : Tag) (fs : List Frame) (u : Tables Shown) (row : Row Shown) → length (u .rows) ≡ f .rows → runs doc (c .end) (entered whole doc (c .kind) t row fs u) ≡ runs doc (g .at) (entering t (tagged c (f .rows) t none) (noted (c .kind) t fs) (withRow row u))
+      inside : (t : Tag) (fs : List Frame) (u : Tables Shown) (row : Row Shown) → length (u .rows) ≡ f .rows → runs doc (c .end) (entered whole doc (c .kind) t row fs u) ≡ runs doc (g .at) (entering t (tagged c (f .rows) t noParts) (noted (c .kind) t fs) (withRow row u))
       inside t fs u row n = rw (opening-end o e, l .kind .is, by-definition (λ m. eqb m 1 ≡ false) refl refl refl refl (l .kind), n)
 
 pub ruleset all-definitions = (opening-fault, row-judging, definition-done, needs)

@@ -1,22 +1,19 @@
 -- Why a definition is dropped: by its tag, by its parts, and the first of these.
 -- Assumes nothing.
-use Prim.Native.Nat.{ℕ, suc, _≤_, _<_}
+use Prim.Native.Nat.{ℕ, _≤_, _<_}
 use mathlib.Core.Path.{_≡_, refl, sym, _∙_, ap}
 use mathlib.Core.List.{List, [], _∷_}
-use mathlib.Core.Option.{Option, none, some}
 use mathlib.Core.Bool.{Bool, true, false}
 use borrow.Author.Needs.{needs}
-use borrow.Author.Tests.{eq-eqb, ne-eqb}
+use borrow.Author.Tests.{ne-eqb}
 use native.Mathlib.Omega.{arith}
 use lib.Dec.{eqb}
 use Rattle.slices.specs.Bytes.{if, bytes}
-use Rattle.document.specs.Tags.{Shown}
 use Rattle.document.specs.Tokens.{Tag}
 use Rattle.document.specs.Elements.{among, attr, someSignature}
 use Rattle.document.specs.Reading.{tagReason, typeReason, partsReason}
-use Rattle.document.specs.Outcome.{ValueIs, Ready, TagIs}
+use Rattle.document.specs.Outcome.{TagIs}
 use Rattle.document.specs.declared.StartTag.{StartTag}
-use Rattle.document.specs.declared.Fill.{Fill}
 use Rattle.document.proofs.Presence.{value-absent, value-there}
 use Rattle.rows.specs.Outcome.{Tests}
 use Rattle.elements.proofs.Rows.{lies-ty}

@@ -1,11 +1,11 @@
 -- The kinds of definitions and of their parts, and the ways of a part.
 -- Assumes nothing.
-use Prim.Native.Nat.{ℕ, suc, _+_, _-_, _*_, _≤_, _<_}
+use Prim.Native.Nat.{ℕ, _+_, _-_, _≤_, _<_}
 use mathlib.Core.Path.{_≡_, refl, sym, _∙_, ap}
 use mathlib.Core.List.{List, [], _∷_}
 use mathlib.Core.Bool.{Bool, true, false, not}
 use borrow.Author.Needs.{needs}
-use borrow.Author.Tests.{eq-eqb, ne-eqb, eqb-true}
+use borrow.Author.Tests.{eqb-true}
 use native.Mathlib.Omega.{arith}
 use lib.Dec.{eqb}
 use lib.ListN.{length, take}
@@ -23,11 +23,7 @@ use Rattle.document.specs.declared.Answer.{Answer}
 use Rattle.document.specs.declared.Next.{Next}
 use Rattle.document.proofs.Openings.{definitions, opening-fault, opening-bounds, opening-owner}
 use Rattle.document.proofs.Loops.{Sofar, moved, loop-begins, loop-fault, loop-close, loop-ready, loop-child-fault, loop-child, loop-less, child-other}
-use Rattle.telepathy.specs.Outcome.{DefinitionKind, PartKind, PartContent, Holds}
-
--- a number of a list is one of its numbers
-one-of : (k x : ℕ) (xs : List ℕ) → among k (x ∷ xs) ≡ true → (k ≡ x → ⊥) → among k xs ≡ true
-one-of k x xs e n = rw (ne-eqb k x n) at e
+use Rattle.telepathy.specs.Outcome.{DefinitionKind, PartKind, PartContent}
 
 -- what holds of 10 and 12 holds of the kind of a part
 pub by-part : (P : ℕ → Type 0) → P 10 → P 12 → {k : ℕ} → PartKind k → P k
@@ -36,7 +32,7 @@ by-part P a b {k} h = go (eqb k 10) (eqb k 12) refl refl (h .is)
     go : (x y : Bool) → eqb k 10 ≡ x → eqb k 12 ≡ y → if x true (if y true false) ≡ true → P k
     go true y e f i = rw (eqb-true k 10 e) a
     go false true e f i = rw (eqb-true k 12 f) b
-    go false false e f i = let z : _≡_ {A = Bool} false true = i in absurd (let q : _≡_ {A = ℕ} 0 1 = cc in omega arith)
+    go false false e f i = let q : _≡_ {A = ℕ} 0 1 = cc in absurd (omega arith)
 
 -- what holds of the four numbers holds of the kind of a definition
 pub by-definition : (P : ℕ → Type 0) → P 8 → P 9 → P 11 → P 13 → {k : ℕ} → DefinitionKind k → P k

@@ -1,11 +1,11 @@
 -- What the functions say: a definition's kind and its parts, why it is dropped, and how a run goes on in it.
 -- Assumes nothing.
-use Prim.Native.Nat.{ℕ, _+_, _≤_, _<_}
+use Prim.Native.Nat.{ℕ, _≤_, _<_}
 use mathlib.Core.Path.{_≡_}
 use mathlib.Core.List.{List, [], _∷_}
 use mathlib.Core.Bool.{Bool, true, false, not, _||_}
 use lib.Dec.{eqb}
-use lib.ListN.{length, take, drop}
+use lib.ListN.{take, drop}
 use Rattle.slices.specs.Bytes.{if, bytes}
 use Rattle.names.specs.Signature.{basicSignature}
 use Rattle.document.specs.Tags.{Shown}
@@ -48,12 +48,12 @@ pub record Holds (k c : ℕ) (r : Bool) : Type 0 where
 abbrev pub seen : Parts → reading.Parts
 seen p = record { count = p .count; broken = p .broken; basic = p .basic }
 
-abbrev pub none : Parts
-none = record { count = 0; broken = false; basic = false }
+abbrev pub noParts : Parts
+noParts = record { count = 0; broken = false; basic = false }
 
 -- no parts yet
 pub record Unseen (p : Parts) : Type 0 where
-  pub is : p ≡ none
+  pub is : p ≡ noParts
 
 -- whether a part is complete; whether one was incomplete; whether the first one's type is basic
 pub record Completes (doc : List ℕ) (c : StartTag) (r : Bool) : Type 0 where
@@ -124,7 +124,7 @@ pub record Body (doc : List ℕ) (k at len i : ℕ) (f : Fill) (b b′ : Lent) (
   pub ends :
       (lt why : ℕ) (fs : List Frame) (u : Tables Shown) →
       Stands u b f →
-      Ends doc (runs doc (f .at) (reading.reading (definition (openAs k i lt (take len (drop at doc)) why none) ∷ fs) u)) (λ q v. closed fs (judged (openAs k i lt (take len (drop at doc)) why q) v)) i (take i (u .rows)) b′ r
+      Ends doc (runs doc (f .at) (reading.reading (definition (openAs k i lt (take len (drop at doc)) why noParts) ∷ fs) u)) (λ q v. closed fs (judged (openAs k i lt (take len (drop at doc)) why q) v)) i (take i (u .rows)) b′ r
 
 -- a definition whose row is put: it closes, or goes on
 abbrev pub entering : Tag → Definition → List Frame → Tables Shown → State Shown
@@ -138,7 +138,7 @@ pub record Content (doc : List ℕ) (c : StartTag) (i : ℕ) (f : Fill) (b b′ 
       (why : ℕ) (t : Tag) (fs : List Frame) (u : Tables Shown) →
       TagIs doc c t →
       Stands u b f →
-      Ends doc (runs doc (f .at) (entering t (openAs (c .kind) i (t .at) (t .name) why none) fs u)) (λ q v. closed fs (judged (openAs (c .kind) i (t .at) (t .name) why q) v)) i (take i (u .rows)) b′ r
+      Ends doc (runs doc (f .at) (entering t (openAs (c .kind) i (t .at) (t .name) why noParts) fs u)) (λ q v. closed fs (judged (openAs (c .kind) i (t .at) (t .name) why q) v)) i (take i (u .rows)) b′ r
 
 -- a definition that began at f is read up to h
 pub record Judging (doc : List ℕ) (c : StartTag) (f h : Fill) : Type 0 where
@@ -171,4 +171,4 @@ pub record Rest (doc : List ℕ) (c : StartTag) (f g : Fill) (b b′ : Lent) (r 
       Stands u b₀ f →
       Stands v b g →
       take (f .rows) (v .rows) ≡ u .rows →
-      outcome.Ends doc (runs doc (g .at) (entering t (tagged c (f .rows) t none) fs v)) fs (f .rows) (u .rows) b′ r
+      outcome.Ends doc (runs doc (g .at) (entering t (tagged c (f .rows) t noParts) fs v)) fs (f .rows) (u .rows) b′ r

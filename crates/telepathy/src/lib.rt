@@ -5,7 +5,6 @@ use document::Fill;
 use document::Next;
 use document::StartTag;
 use tags::step;
-ghost use mathlib.Core.Path.{_≡_};
 ghost use Prim.Native.Nat.{_+_, _≤_, _<_};
 ghost use mathlib.Core.Bool.{true};
 ghost use mathlib.Core.List.{[]};

@@ -1,0 +1,38 @@
+-- Of every document (docs/FORMAT.md, Tables and Answers): it is accepted or refused; the room that its tables take; the number
+-- and place of a refusal. Then the same of reading with the room lent, and how much room is always enough.
+-- Assumes nothing.
+use Prim.Native.Nat.{ℕ, _*_, _≤_}
+use mathlib.Core.Path.{_≡_}
+use mathlib.Core.List.{List}
+use lib.ListN.{length}
+use Rattle.document.specs.Tags.{Shown}
+use Rattle.document.specs.Rows.{Tables}
+use Rattle.document.specs.Reading.{accepted, refused}
+use Rattle.document.specs.Whole.{Room, meaning, read}
+use Rattle.bounds.specs.Bounds.{Fits, Refusal, Told}
+use Rattle.bounds.proofs.Meaning.{meaning-is, fitted-told, fitted-enough}
+
+module _ (doc : List ℕ) where
+  pub meaning-told : Told 17 (length doc) (meaning doc)
+  meaning-told = meaning-is doc
+
+  pub room : {u : Tables Shown} → meaning doc ≡ accepted u → Fits (length doc) u
+  room e = rw e at meaning-told
+
+  pub refusal : {n p : ℕ} → meaning doc ≡ refused n p → Refusal 17 (length doc) n p
+  refusal e = rw e at meaning-told
+
+  module _ (r : Room) where
+    pub read-told : Told 18 (length doc) (read doc r)
+    unfolding read
+    read-told = fitted-told (length doc) r (meaning doc) meaning-told
+
+    pub read-room : {u : Tables Shown} → read doc r ≡ accepted u → Fits (length doc) u
+    read-room e = rw e at read-told
+
+    pub read-refusal : {n p : ℕ} → read doc r ≡ refused n p → Refusal 18 (length doc) n p
+    read-refusal e = rw e at read-told
+
+    pub room-enough : 4 * length doc ≤ r .rows → length doc ≤ r .warnings → length doc ≤ r .text → read doc r ≡ meaning doc
+    unfolding read
+    room-enough = fitted-enough (length doc) r (meaning doc) meaning-told

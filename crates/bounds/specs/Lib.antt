@@ -1,0 +1,3 @@
+-- What is said of every document.
+-- Assumes nothing.
+pub mod Bounds

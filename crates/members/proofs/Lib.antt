@@ -1,0 +1,3 @@
+-- The laws of the members of an interface.
+-- Assumes nothing.
+pub mod Members

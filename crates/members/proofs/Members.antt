@@ -1,0 +1,137 @@
+-- The laws of the members of an interface.
+-- Assumes nothing.
+use Prim.Native.Nat.{ℕ, _+_, _-_, _≤_, _<_}
+use mathlib.Core.Path.{_≡_, refl, sym, _∙_}
+use mathlib.Core.List.{List, [], _∷_}
+use mathlib.Core.Bool.{Bool, true, false}
+use borrow.Author.Needs.{needs}
+use borrow.Author.Tests.{eq-eqb, ne-eqb, eqb-true}
+use native.Mathlib.Omega.{arith}
+use lib.Dec.{eqb}
+use lib.ListN.{length}
+use Rattle.slices.specs.Bytes.{if}
+use Rattle.document.specs.Elements.{among}
+use Rattle.document.specs.Outcome.{Lent, lent, Ready, Steps, Ignores, Others, Opening, Begins, Child, Children}
+use Rattle.document.specs.declared.StartTag.{StartTag}
+use Rattle.document.specs.declared.Fill.{Fill}
+use Rattle.document.specs.declared.Answer.{Answer}
+use Rattle.document.specs.declared.Next.{Next}
+use Rattle.document.proofs.Loops.{Sofar, moved, loops, loop-less, child-bare, child-begins, child-other, among-not}
+use Rattle.document.proofs.Openings.{definitions, openings, opening-closes, opening-children}
+use Rattle.elements.proofs.Rows.{method-kind, signal-kind}
+use Rattle.telepathy.specs.Outcome.{DefinitionKind}
+use Rattle.members.specs.Kinds.{Among, MemberKind}
+
+-- a child of an annotation leaves less of the document
+pub bare-less : {doc rows w w′ bytes : List ℕ} {at len i : ℕ} {f₀ f g : Fill} {b₀ : Lent} {r : Next} {c : StartTag} {a : Answer} → Sofar doc [] false at len i f₀ b₀ f (lent rows w bytes) → Steps doc (f .at) at len r → r ≡ Next.Start c → Ignores doc c (moved f (c .end)) w w′ a → a ≡ Answer.Done g → length doc - g .at < length doc - f .at
+bare-less s t q h e = loop-less s t q (child-bare (s .owner) h) e
+
+pub ruleset bares = (bare-less, child-bare, loops)
+
+-- the name of a tag lies in the document
+pub tag-inside : {doc : List ℕ} {c : StartTag} {f : Fill} → Ready doc c f → c .at + c .len ≤ length doc
+tag-inside r = omega (arith, r .fits .inside, r .fits .within)
+
+pub ruleset elements = (tag-inside, openings)
+
+-- what holds of these kinds holds of the same by another name
+same-held : {doc hs hs′ : List ℕ} {docs docs′ : Bool} {at len i : ℕ} {f : Fill} {b b′ : Lent} {r : Answer} → hs′ ≡ hs → docs′ ≡ docs → Children doc hs docs at len i f b b′ r → Children doc hs′ docs′ at len i f b b′ r
+same-held e d h = rw (e, d) h
+
+-- a method or a signal
+module _ {doc : List ℕ} {k : ℕ} {c : StartTag} {p : ℕ} {f g : Fill} {rows rows′ w bytes bytes′ : List ℕ} {a : Answer} (m : MemberKind k) (o : Opening doc k c p f rows rows′ bytes bytes′ a) (e : a ≡ Answer.Done g) where
+  pub member-closes : c .closes ≡ true → Begins doc k c p f (lent rows w bytes) (lent rows′ w bytes′) (Answer.Done g)
+  member-closes x = opening-closes o e (m .plain) x
+
+  pub member-children : {b : Lent} {r : Answer} → c .closes ≡ false → Children doc (6 ∷ 7 ∷ []) true (c .at) (c .len) (f .rows) g (lent rows′ w bytes′) b r → Begins doc k c p f (lent rows w bytes) b r
+  member-children x l = opening-children o e (m .plain) x (m .node) (same-held (m .held) (m .docs) l)
+
+pub method-member : MemberKind 3
+method-member = record { named = method-kind; held = refl; docs = refl; plain = refl; node = refl }
+
+pub signal-member : MemberKind 5
+signal-member = record { named = signal-kind; held = refl; docs = refl; plain = refl; node = refl }
+
+pub ruleset callables = (member-closes, member-children, elements)
+
+-- a row plus one or two is small
+pub child-parent : {doc : List ℕ} {c : StartTag} {i : ℕ} {f : Fill} (n : ℕ) → Ready doc c f → i < f .rows → n ≤ 2 → i + n ≤ 1048576
+child-parent n r l h = omega (arith, l, h, r .few, r .fits .inside, r .fits .within, r .sound .small)
+
+-- a kind is none of these
+pub record NoneOf (k : ℕ) (ks : List ℕ) : Type 0 where
+  pub is : among k ks ≡ false
+
+pub none-empty : {k : ℕ} → NoneOf k []
+none-empty = record { is = refl }
+
+pub none-more : {k x : ℕ} {ks : List ℕ} → (k ≡ x → ⊥) → NoneOf k ks → NoneOf k (x ∷ ks)
+none-more {k} {x} {ks} n h = record { is = among-not k x ks n (h .is) }
+
+pub child-else : {doc hs rows rows′ w w′ bytes : List ℕ} {c : StartTag} {i : ℕ} {f : Fill} {r : Answer} → NoneOf (c .kind) hs → Others doc c i f rows rows′ w w′ r → Child doc hs true c i f (lent rows w bytes) (lent rows′ w′ bytes) r
+child-else n h = child-other (n .is) h
+
+-- one of these kinds, looked for from the first on
+pub among-first : {k x : ℕ} {ks : List ℕ} → k ≡ x → Among k (x ∷ ks) true
+among-first {k} {x} e = record { is = rw (eq-eqb k x e) }
+
+pub among-later : {k x : ℕ} {ks : List ℕ} {r : Bool} → (k ≡ x → ⊥) → Among k ks r → Among k (x ∷ ks) r
+among-later {k} {x} n h = record { is = rw (ne-eqb k x n) (h .is) }
+
+pub among-last : {k x : ℕ} → Among k (x ∷ []) (eqb k x)
+among-last {k} {x} = record { is = go (eqb k x) }
+  where
+    go : (t : Bool) → t ≡ if t true false
+    go true = refl
+    go false = refl
+
+pub ruleset kinds = (among-first, among-later, among-last, needs)
+
+pub among-none : {k : ℕ} {ks : List ℕ} {t : Bool} → Among k ks t → t ≡ false → NoneOf k ks
+among-none h e = record { is = sym (h .is) ∙ e }
+
+-- a kind that was found among the definitions
+pub definition-kind : {k : ℕ} {t : Bool} → Among k definitions t → t ≡ true → DefinitionKind k
+definition-kind h e = record { is = sym (h .is) ∙ e }
+
+-- an element that holds these kinds holds definitions
+pub record HoldsDefinitions (ks : List ℕ) : Type 0 where
+  pub is : (k : ℕ) → among k definitions ≡ true → among k ks ≡ true
+
+pub holds-definitions : HoldsDefinitions definitions
+holds-definitions = record { is = λ k e. e }
+
+pub holds-more : {x : ℕ} {ks : List ℕ} → HoldsDefinitions ks → HoldsDefinitions (x ∷ ks)
+holds-more {x} h = record { is = λ k e. rw (h .is k e) (always (eqb k x)) }
+  where
+    always : (t : Bool) → if t true true ≡ true
+    always true = refl
+    always false = refl
+
+pub interface-holds : HoldsDefinitions (3 ∷ 4 ∷ 5 ∷ 6 ∷ definitions)
+interface-holds = holds-more (holds-more (holds-more (holds-more holds-definitions)))
+
+-- what holds of each of these kinds
+pick : (P : ℕ → Type 0) (k x : ℕ) (ks : List ℕ) → P x → (among k ks ≡ true → P k) → among k (x ∷ ks) ≡ true → P k
+pick P k x ks h rest e = go (eqb k x) refl e
+  where
+    go : (t : Bool) → eqb k x ≡ t → if t true (among k ks) ≡ true → P k
+    go true q e = rw (eqb-true k x q) h
+    go false q e = rest e
+
+abbrev NoPart : ℕ → Type 0
+NoPart k = among k (10 ∷ 12 ∷ 14 ∷ []) ≡ false
+
+no-part : (k : ℕ) → among k definitions ≡ true → among k (10 ∷ 12 ∷ 14 ∷ []) ≡ false
+no-part k =
+    pick NoPart k 8 (9 ∷ 11 ∷ 13 ∷ []) refl
+    (pick NoPart k 9 (11 ∷ 13 ∷ []) refl
+    (pick NoPart k 11 (13 ∷ []) refl
+    (pick NoPart k 13 [] refl (λ e. cc))))
+
+pub child-definition : {doc hs : List ℕ} {docs : Bool} {c : StartTag} {i : ℕ} {f : Fill} {b b′ : Lent} {t : Bool} {r : Answer} → i < f .rows → HoldsDefinitions hs → Among (c .kind) definitions t → t ≡ true → Begins doc (c .kind) c (i + 1) f b b′ r → Child doc hs docs c i f b b′ r
+child-definition {c = c} l d a e h = let y = sym (a .is) ∙ e in child-begins l refl (d .is (c .kind) y) (no-part (c .kind) y) h
+
+pub ruleset children = (child-begins, none-empty, none-more, child-else, child-parent, needs)
+
+pub ruleset interfaces = (child-definition, interface-holds, definition-kind, among-none, method-member, signal-member, child-begins, none-more, child-else, child-parent, needs)

@@ -1,0 +1,3 @@
+-- What the functions need that read the members of an interface.
+-- Assumes nothing.
+pub mod Kinds

@@ -1,0 +1,193 @@
+-- The walk through the open nodes, and the root.
+-- Assumes nothing.
+use Prim.Native.Nat.{ℕ, zero, suc, _+_, _-_, _*_, _≤_, _<_}
+use mathlib.Core.Path.{_≡_, refl, sym, _∙_, ap}
+use mathlib.Core.List.{List, [], _∷_}
+use mathlib.Core.Bool.{Bool, true, false}
+use borrow.Author.Needs.{needs}
+use native.Mathlib.Numerals.{add-one}
+use native.Mathlib.Omega.{arith}
+use mir.Syntax.{w64}
+use mir.Val.{Fits}
+use lib.ListN.{length, take, drop, getD}
+use Rattle.tables.proofs.Tables.{empty-stands}
+use Rattle.document.specs.Tags.{Shown}
+use Rattle.document.specs.Tokens.{Tag}
+use Rattle.document.specs.Rows.{Row, Tables}
+use Rattle.document.specs.Elements.{opens, opensAs}
+use Rattle.document.specs.Reading.{Frame, element, State, begun, reading, accepted, refused, withRow, entered, begins, step}
+use Rattle.document.specs.Outcome.{Lent, lent, Stands, Bounded, Ready, Sound, TagIs, TagFits, Tokenises, Opening, runs, whole}
+use Rattle.document.specs.declared.StartTag.{StartTag}
+use Rattle.document.specs.declared.ClosingTag.{ClosingTag}
+use Rattle.document.specs.declared.Fill.{Fill}
+use Rattle.document.specs.declared.Answer.{Answer}
+use Rattle.document.specs.declared.Token.{Token}
+use Rattle.document.proofs.Runs.{run-more, run-last, run-refused, run-accepted}
+use Rattle.reader.specs.Nodes.{framesOf, Nested, Walking, Turns, Walks, Levels, RootOpen, EndsNodes, ReadsRoot, ReadsWhole}
+use Rattle.reader.specs.declared.Walk.{Walk}
+use Rattle.reader.specs.declared.Turn.{Turn}
+use Rattle.reader.specs.declared.Turn.the-variants.{Fault, Done, On}
+
+-- a walk that began with s₀ came to s
+pub record Sofar (doc root opened₀ : List ℕ) (s₀ : Walk) (b₀ : Lent) (opened : List ℕ) (s : Walk) (b : Lent) : Type 0 where
+  pub walks : Walking doc opened s
+  pub leads :
+      (v : Tables Shown) →
+      Nested doc s₀ →
+      Stands v b₀ (s₀ .fill) →
+      (u : Tables Shown)
+      × Stands u b (s .fill)
+      × (runs doc (s₀ .fill .at) (reading (framesOf root opened₀ (s₀ .depth)) v) ≡ runs doc (s .fill .at) (reading (framesOf root opened (s .depth)) u))
+      × Nested doc s
+
+pub walk-begins : {doc root opened : List ℕ} {s : Walk} {b : Lent} → Walking doc opened s → Sofar doc root opened s b opened s b
+walk-begins g = record { walks = g; leads = λ v d y. (v, y, refl, d) }
+
+module _ {doc root opened₀ opened opened′ : List ℕ} {s₀ s : Walk} {b₀ b b′ : Lent} (g : Sofar doc root opened₀ s₀ b₀ opened s b) {k : Turn} (h : Turns doc root opened opened′ s b b′ k) where
+  pub walk-fault : {n p : ℕ} → k ≡ Fault n p → Walks doc root opened₀ s₀ b₀ b′ (Answer.Fault n p)
+  walk-fault e = record { leads = λ v d y. let x = g .leads v d y in x .2 ∙ (rw e at h) .leads (x .0) (x .3) (x .1) }
+
+  pub walk-done : {f : Fill} → k ≡ Done f → Walks doc root opened₀ s₀ b₀ b′ (Answer.Done f)
+  walk-done e = record {
+    leads = λ v d y.
+        let x = g .leads v d y in
+        let z = (rw e at h) .leads (x .0) (x .3) (x .1) in
+        (z .0, z .1, x .2 ∙ z .2);
+  }
+
+  pub walk-on : {s′ : Walk} → k ≡ On s′ → Sofar doc root opened₀ s₀ b₀ opened′ s′ b′
+  walk-on {s′} e =
+      let t : Turns doc root opened opened′ s b b′ (On s′) = rw e at h in
+      record {
+        walks = t .onward .1;
+        leads = λ v d y.
+            let x = g .leads v d y in
+            let z = t .leads (x .0) (x .3) (x .1) in
+            (z .0, z .1, x .2 ∙ z .2, z .3);
+      }
+
+  pub walk-less : {s′ : Walk} → k ≡ On s′ → length doc - s′ .fill .at < length doc - s .fill .at
+  walk-less {s′} e =
+      let t : Turns doc root opened opened′ s b b′ (On s′) = rw e at h in
+      omega (arith, t .onward .0, t .onward .1 .bounds .inside)
+
+pub ruleset walking = (walk-begins, walk-fault, walk-done, walk-on, walk-less, needs)
+
+carried : {s s′ : State Shown} (b : Lent) (r : Answer) → s ≡ s′ → EndsNodes s′ b r → EndsNodes s b r
+carried b (Answer.Fault n p) h e = h ∙ e
+carried b (Answer.Done f) h e = (e .0, e .1, h ∙ e .2)
+
+-- the root's row, in tables that are empty
+pub root-ready : {doc : List ℕ} {c : StartTag} → Sound doc → TagFits doc c → 0 < c .at → Ready doc c (record { at = c .end; rows = 0; warnings = 0; text = 0 })
+root-ready sound fits l = record { sound = sound; fits = fits; at = refl; few = omega arith; text = omega arith }
+
+module _ {doc : List ℕ} {c : StartTag} {rows rows′ text text′ : List ℕ} {a : Answer} (o : Opening doc 1 c 0 (record { at = c .end; rows = 0; warnings = 0; text = 0 }) rows rows′ text text′ a) where
+  pub root-fault : {w : List ℕ} {n q : ℕ} → a ≡ Answer.Fault n q → ReadsRoot doc c (lent rows′ w text′) (Answer.Fault n q)
+  unfolding begins
+  root-fault {w} {n} {q} e = record { ends = λ t z. rw ((rw e at o) .is t z) (run-refused whole doc (c .end) n q) }
+
+  module _ {h : Fill} (e : a ≡ Answer.Done h) where
+    done : Opening doc 1 c 0 (record { at = c .end; rows = 0; warnings = 0; text = 0 }) rows rows′ text text′ (Answer.Done h)
+    done = rw e at o
+
+    after : (t : Tag) (w : List ℕ) → TagIs doc c t → (row : Row Shown) × (begins whole doc 1 t [] (record { rows = []; warnings = [] }) ≡ entered whole doc 1 t row [] (record { rows = []; warnings = [] })) × Stands (record { rows = row ∷ []; warnings = [] }) (lent rows′ w text′) h
+    unfolding begins
+    after t w z =
+        let j = done .is t z in
+        let s : Stands (record { rows = []; warnings = [] }) (lent rows w text) (record { at = c .end; rows = 0; warnings = 0; text = 0 }) = record {
+          rows = empty-stands 16 rows;
+          many = refl;
+          warnings = empty-stands 4 w;
+          text = empty-stands 1 text;
+        } in
+        (j .0, rw (j .1), j .2 (record { rows = []; warnings = [] }) w s)
+
+    pub root-closes : {w : List ℕ} → c .closes ≡ true → ReadsRoot doc c (lent rows′ w text′) (Answer.Done h)
+    root-closes {w} x = record {
+      ends = λ t z.
+          let j = after t w z in
+          (record { rows = j .0 ∷ []; warnings = [] }, j .2, ap (runs doc (c .end)) (j .1) ∙ ended t z (j .0));
+    }
+      where
+        ended : (t : Tag) → TagIs doc c t → (row : Row Shown) → runs doc (c .end) (entered whole doc 1 t row [] (record { rows = []; warnings = [] })) ≡ accepted (record { rows = row ∷ []; warnings = [] })
+        ended t z row = rw (sym (z .closes) ∙ x) (run-accepted whole doc (c .end) (record { rows = row ∷ []; warnings = [] }))
+
+    pub root-open : TagFits doc c → c .closes ≡ false → RootOpen doc c h rows′ text′
+    root-open fits x = record {
+      bounds = done .onward .2;
+      one = done .onward .1;
+      at = done .onward .0;
+      named = omega (arith, fits .inside, fits .within);
+      stands = λ t w z. let j = after t w z in (record { rows = j .0 ∷ []; warnings = [] }, j .2, j .1 ∙ inside t z (j .0));
+    }
+      where
+        inside : (t : Tag) → TagIs doc c t → (row : Row Shown) → entered whole doc 1 t row [] (record { rows = []; warnings = [] }) ≡ reading (element 1 (take (c .len) (drop (c .at) doc)) 0 ∷ []) (record { rows = row ∷ []; warnings = [] })
+        inside t z row = rw (sym (z .closes) ∙ x, z .named .is)
+
+-- the first of the open nodes
+module _ {doc opened : List ℕ} {c : StartTag} {g : Fill} {rows text : List ℕ} (o : RootOpen doc c g rows text) (q : Levels opened) where
+  pub levels-walk : Walking doc opened (record { depth = 1; at = 0; len = 0; fill = g })
+  levels-walk = record {
+    bounds = o .bounds;
+    deep = omega arith;
+    few = omega arith;
+    long = q .long;
+    named = omega arith;
+    owners = λ j b. let i : j ≡ 0 = omega arith in rw (i, q .root) (omega (arith, o .one));
+  }
+
+  pub levels-named : c .at + c .len ≤ length doc
+  levels-named = o .named
+
+  pub levels-read : {w : List ℕ} {b : Lent} {r : Answer} → Walks doc (take (c .len) (drop (c .at) doc)) opened (record { depth = 1; at = 0; len = 0; fill = g }) (lent rows w text) b r → ReadsRoot doc c b r
+  levels-read {w} {b} {r} k = record {
+    ends = λ t z.
+        let j = o .stands t w z in
+        carried b r (ap (runs doc (c .end)) (j .2) ∙ there (j .0)) (k .leads (j .0) (λ d. absurd (omega arith)) (j .1));
+  }
+    where
+      there : (v : Tables Shown) → runs doc (c .end) (reading (element 1 (take (c .len) (drop (c .at) doc)) 0 ∷ []) v) ≡ runs doc (g .at) (reading (framesOf (take (c .len) (drop (c .at) doc)) opened 1) v)
+      there v = rw (o .at, q .root)
+
+pub ruleset leveled = (levels-walk, levels-named, levels-read, needs)
+
+pub ruleset rooted = (root-ready, root-fault, root-closes, root-open, needs)
+
+-- the first token
+module _ {doc : List ℕ} {k : Token} (x : Tokenises doc 0 k) where
+  pub first-fault : {b : Lent} {n p : ℕ} → k ≡ Token.Fault n p → ReadsWhole doc b (Answer.Fault n p)
+  unfolding step
+  first-fault e = record { ends = run-last whole doc 0 begun _ ((rw e at x) .is) }
+
+  pub first-end : {b : Lent} {p : ℕ} → k ≡ Token.End p → ReadsWhole doc b (Answer.Fault 3 p)
+  unfolding step
+  first-end e = record { ends = run-last whole doc 0 begun _ ((rw e at x) .is) }
+
+  pub first-close : {b : Lent} {c : ClosingTag} → k ≡ Token.Close c → ReadsWhole doc b (Answer.Fault 4 (c .lt + 1))
+  unfolding step
+  first-close {c = c} e =
+      let t : Tokenises doc 0 (Token.Close c) = rw e at x in
+      record {
+        ends = run-more whole doc 0 begun _ (c .end) (t .is) (omega (arith, t .onward)) (t .onward .3) ∙ rw add-one (run-refused whole doc (c .end) 4 (suc (c .lt)));
+      }
+
+  module _ {c : StartTag} (e : k ≡ Token.Start c) where
+    start : Tokenises doc 0 (Token.Start c)
+    start = rw e at x
+
+    pub first-further : 0 < c .at
+    first-further = start .onward .0
+
+    pub first-fits : TagFits doc c
+    first-fits = start .onward .1
+
+    pub first-root : {b : Lent} {r : Answer} → ReadsRoot doc c b r → ReadsWhole doc b r
+    unfolding step
+    first-root {b} {r} h = record {
+      ends = carried b r (run-more whole doc 0 begun _ (c .end) (start .is .2) (omega (arith, start .onward .1 .inside)) (start .onward .1 .within)) (h .ends (start .is .0) (start .is .1));
+    }
+
+pub first-wide : {doc : List ℕ} {k : Token} → Tokenises doc 0 k → Sound doc → {c : ClosingTag} → k ≡ Token.Close c → Fits w64 (c .lt + 1)
+first-wide {doc} x s {c} e = let t : Tokenises doc 0 (Token.Close c) = rw e at x in omega (arith, t .onward, s .small)
+
+pub ruleset firsts = (first-fault, first-end, first-close, first-further, first-fits, first-root, first-wide, needs)

@@ -1,0 +1,220 @@
+-- A turn of the node loop: what each way of it says.
+-- Assumes nothing.
+use Prim.Native.Nat.{ℕ, zero, suc, _+_, _-_, _*_, _≤_, _<_}
+use mathlib.Core.Path.{_≡_, refl, sym, _∙_, ap}
+use mathlib.Core.List.{List, [], _∷_}
+use mathlib.Core.Bool.{Bool, true, false, not, _&&_}
+use borrow.Author.Needs.{needs}
+use borrow.Author.Tests.{eq-eqb, ne-eqb}
+use native.Mathlib.Numerals.{sub-one}
+use native.Mathlib.Omega.{arith}
+use lib.Dec.{eqb}
+use lib.ListN.{length, take, drop, getD}
+use Rattle.slices.specs.Bytes.{if, bytes}
+use Rattle.document.specs.Tags.{Shown}
+use Rattle.document.specs.Tokens.{Tag}
+use Rattle.document.specs.Rows.{Tables}
+use Rattle.document.specs.Elements.{kindOf, mayHold}
+use Rattle.document.specs.Reading.{Frame, element, State, reading, accepted, refused, nameOf, closed, child, begins}
+use Rattle.document.specs.Outcome.{Lent, lent, Stands, Bounded, Ready, TagIs, TagFits, Steps, OnwardNext, Leads, Child, Ends, runs, whole}
+use Rattle.document.specs.declared.StartTag.{StartTag}
+use Rattle.document.specs.declared.Fill.{Fill}
+use Rattle.document.specs.declared.Answer.{Answer}
+use Rattle.document.specs.declared.Next.{Next}
+use Rattle.document.proofs.Runs.{run-accepted}
+use Rattle.document.proofs.Loops.{moved-stands}
+use Rattle.reader.specs.Nodes.{framesOf, Nested, Walking, Turns, LeadsFrom, Opens, Started, Begun, Looks, NextIn, nameIn, moved, Shuts, IsShut, ChildIn, IsChildIn}
+use Rattle.reader.specs.declared.Walk.{Walk}
+use Rattle.reader.specs.declared.Turn.{Turn}
+use Rattle.reader.specs.declared.Turn.the-variants.{Fault, Done, On}
+use Rattle.reader.proofs.Frames.{frames-top, frames-parent, frames-closed}
+
+-- the name of the innermost open node
+pub next-root : {doc : List ℕ} {at len : ℕ} {s : Walk} {r : Next} → s .depth ≡ 1 → Steps doc (s .fill .at) at len r → NextIn doc (take len (drop at doc)) s r
+next-root {s = s} d x = record { onward = x .onward; leads = λ f fs u n e. x .leads f fs u (e ∙ rw (eq-eqb (s .depth) 1 d)) }
+
+pub next-nested : {doc : List ℕ} {at len : ℕ} {s : Walk} {r : Next} → Looks doc at len s → (s .depth ≡ 1 → ⊥) → Steps doc (s .fill .at) (s .at) (s .len) r → NextIn doc (take len (drop at doc)) s r
+next-nested {s = s} p d x = record {
+  onward = x .onward;
+  leads = λ f fs u n e. x .leads f fs u (e ∙ rw (ne-eqb (s .depth) 1 d) (sym (n (omega (arith, p .deep)))));
+}
+
+pub looks : {doc opened : List ℕ} {s : Walk} (at len : ℕ) → Walking doc opened s → at + len ≤ length doc → Looks doc at len s
+looks at len g h = record { deep = g .deep; from = g .bounds .inside; root = h; nested = g .named; small = g .bounds .sound .small }
+
+pub ruleset nexts = (next-root, next-nested, needs)
+
+-- a child that is no node
+module _ {doc : List ℕ} {c : StartTag} {i : ℕ} {s : Walk} {b b′ : Lent} {a : Answer} (h : Child doc (1 ∷ 2 ∷ 8 ∷ 9 ∷ 11 ∷ 13 ∷ []) true c i (moved (s .fill) (c .end)) b b′ a) where
+  pub child-fault : {n p : ℕ} → a ≡ Answer.Fault n p → ChildIn doc c i s b b′ (Fault n p)
+  child-fault e = record { is = rw e at h }
+
+  pub child-on : {g : Fill} → a ≡ Answer.Done g → ChildIn doc c i s b b′ (On (record { depth = s .depth; at = s .at; len = s .len; fill = g }))
+  child-on e = record { is = (rw e at h, refl) }
+
+pub ruleset childIns = (child-fault, child-on, needs)
+
+prefixed : (doc root opened : List ℕ) (b : Lent) {x x′ : State Shown} (k : Turn) → x ≡ x′ → LeadsFrom doc root opened x′ b k → LeadsFrom doc root opened x b k
+prefixed doc root opened b (Fault m p) h l = h ∙ l
+prefixed doc root opened b (Done f) h l = (l .0, l .1, h ∙ l .2)
+prefixed doc root opened b (On s′) h l = (l .0, l .1, h ∙ l .2, l .3)
+
+module _ {doc root opened : List ℕ} {s : Walk} (g : Walking doc opened s) {r : Next} (x : NextIn doc root s r) where
+  frames : framesOf root opened (s .depth) ≡ element 1 (nameIn root s) (getD opened (s .depth - 1) 0) ∷ framesOf root opened (s .depth - 1)
+  frames = frames-top root opened (s .depth) (g .deep)
+
+  pub turn-fault : {n p : ℕ} {b : Lent} → r ≡ Next.Fault n p → Turns doc root opened opened s b b (Fault n p)
+  turn-fault {n} {p} e = record {
+    onward = tt;
+    leads = λ v d y.
+        let z : NextIn doc root s (Next.Fault n p) = rw e at x in
+        rw frames (z .leads (element 1 (nameIn root s) (getD opened (s .depth - 1) 0)) (framesOf root opened (s .depth - 1)) v d refl);
+  }
+
+  -- the closing tag
+  pub turn-close : {lt end : ℕ} {k : Turn} {b : Lent} → r ≡ Next.Close lt end → Shuts s end k → Turns doc root opened opened s b b k
+  turn-close {lt} {end} {k} {b} e h = go k (h .is)
+    where
+      z : NextIn doc root s (Next.Close lt end)
+      z = rw e at x
+
+      bounded : Bounded doc (moved (s .fill) end)
+      bounded = record {
+        sound = g .bounds .sound;
+        inside = z .onward .2;
+        few = omega (arith, g .bounds .few, z .onward);
+        text = omega (arith, g .bounds .text, z .onward);
+      }
+
+      shuts : (v : Tables Shown) → Nested doc s → runs doc (s .fill .at) (reading (framesOf root opened (s .depth)) v) ≡ runs doc end (closed (framesOf root opened (s .depth - 1)) v)
+      shuts v d = rw frames (z .leads (element 1 (nameIn root s) (getD opened (s .depth - 1) 0)) (framesOf root opened (s .depth - 1)) v d refl)
+
+      last : (v : Tables Shown) → s .depth ≡ 1 → runs doc end (closed (framesOf root opened (s .depth - 1)) v) ≡ accepted v
+      last v e = rw e (run-accepted whole doc end v)
+
+      inner : (s .depth ≡ 1 → ⊥) → 0 < s .depth - 1
+      inner n = omega (arith, g .deep)
+
+      walks : (s .depth ≡ 1 → ⊥) → Walking doc opened (record { depth = s .depth - 1; at = s .at; len = s .len; fill = moved (s .fill) end })
+      walks n = record {
+        bounds = bounded;
+        deep = inner n;
+        few = omega (arith, g .few);
+        long = g .long;
+        named = g .named;
+        owners = λ j l. g .owners j (omega arith);
+      }
+
+      go : (k : Turn) → IsShut s end k → Turns doc root opened opened s b b k
+      go (Fault n p) h = absurd h
+      go (Done f) h = record {
+        onward = rw (h .1) bounded;
+        leads = λ v d y. (v, rw (h .1) (moved-stands end y), shuts v d ∙ last v (h .0));
+      }
+      go (On s′) h = record {
+        onward = rw (h .1) (omega (arith, z .onward), walks (h .0));
+        leads = λ v d y. rw (h .1) (v, moved-stands end y, shuts v d ∙ ap (runs doc end) (frames-closed root opened (s .depth - 1) v (inner (h .0))), λ l. d (omega arith));
+      }
+
+  -- a start tag
+  module _ {c : StartTag} (e : r ≡ Next.Start c) where
+    start : NextIn doc root s (Next.Start c)
+    start = rw e at x
+
+    pub turn-further : s .fill .at < c .at
+    turn-further = start .onward .0
+
+    pub turn-fits : TagFits doc c
+    turn-fits = start .onward .1
+
+    pub turn-started : Started doc opened c s
+    turn-started = record { walks = g; further = turn-further; fits = turn-fits }
+
+    pub turn-begun : {opened′ : List ℕ} {b b′ : Lent} {k : Turn} → Begun doc c s opened opened′ b b′ k → Turns doc root opened opened′ s b b′ k
+    turn-begun {opened′} {b} {b′} {k} h = record {
+      onward = h .onward;
+      leads = λ v d y.
+          let z = start .leads (element 1 (nameIn root s) (getD opened (s .depth - 1) 0)) (framesOf root opened (s .depth - 1)) v d refl in
+          prefixed doc root opened′ b′ k (rw frames (z .2)) (h .leads root (z .0) v (z .1) d y);
+    }
+
+pub ruleset turns = (looks, turn-fault, turn-close, turn-started, turn-begun, needs)
+
+-- the element of a start tag
+module _ {doc opened : List ℕ} {c : StartTag} {s : Walk} (begun : Started doc opened c s) where
+  walks : Walking doc opened s
+  walks = begun .walks
+
+  pub begun-ready : Ready doc c (moved (s .fill) (c .end))
+  begun-ready = record {
+    sound = walks .bounds .sound;
+    fits = begun .fits;
+    at = refl;
+    few = omega (arith, walks .bounds .few, begun .further);
+    text = omega (arith, walks .bounds .text, begun .further);
+  }
+
+  pub begun-level : s .depth - 1 < length opened
+  begun-level = omega (arith, walks .deep, walks .few, walks .long)
+
+  pub begun-owner : (i : ℕ) → i ≡ getD opened (s .depth - 1) 0 → i < s .fill .rows
+  begun-owner i e = rw e (walks .owners (s .depth - 1) (omega (arith, walks .deep)))
+
+  pub begun-deep : 0 < s .depth
+  begun-deep = walks .deep
+
+  pub begun-open : {i : ℕ} {opened′ rows rows′ w text text′ : List ℕ} {k : Turn} → c .kind ≡ 1 → i ≡ getD opened (s .depth - 1) 0 → Opens doc c i s opened opened′ rows rows′ text text′ k → Begun doc c s opened opened′ (lent rows w text) (lent rows′ w text′) k
+  unfolding mayHold
+  begun-open {i} {opened′} {rows} {rows′} {w} {text} {text′} {k} n q o = record {
+    onward = o .onward;
+    leads = λ root t v z d y.
+        prefixed doc root opened′ (lent rows′ w text′) k (one root t v (sym (z .kind) ∙ n))
+        (o .leads root t v w z d (frames-parent root opened (s .depth) (walks .deep) ∙ ap suc (sym q)) y);
+  }
+    where
+      one : (root : List ℕ) (t : Tag) (v : Tables Shown) → kindOf (t .name) ≡ 1 → runs doc (c .end) (child whole doc 1 (getD opened (s .depth - 1) 0) t (framesOf root opened (s .depth)) v) ≡ runs doc (c .end) (begins whole doc 1 t (framesOf root opened (s .depth)) v)
+      one root t v j = rw j
+
+  pub begun-child : {i : ℕ} {b b′ : Lent} {k : Turn} → i ≡ getD opened (s .depth - 1) 0 → ChildIn doc c i s b b′ k → Begun doc c s opened opened b b′ k
+  begun-child {i} {b} {b′} {k} q h = go k (h .is)
+    where
+      frames : (root : List ℕ) → framesOf root opened (s .depth) ≡ element 1 (nameIn root s) (getD opened (s .depth - 1) 0) ∷ framesOf root opened (s .depth - 1)
+      frames root = frames-top root opened (s .depth) (walks .deep)
+
+      ends : (root : List ℕ) {a : Answer} → Child doc (1 ∷ 2 ∷ 8 ∷ 9 ∷ 11 ∷ 13 ∷ []) true c i (moved (s .fill) (c .end)) b b′ a → (v : Tables Shown) (t : Tag) → TagIs doc c t → Stands v b (s .fill) → Ends doc (runs doc (c .end) (child whole doc 1 (getD opened (s .depth - 1) 0) t (framesOf root opened (s .depth)) v)) (framesOf root opened (s .depth)) i (take i (v .rows)) b′ a
+      ends root m v t z y = rw (← q, frames root) (rw (← q) (m .ends 1 (nameIn root s) t (framesOf root opened (s .depth - 1)) v refl refl z (moved-stands (c .end) y)))
+
+      grown : (x n : ℕ) → s .fill .rows ≤ n → x < s .fill .rows → x < n
+      grown x n h l = omega arith
+
+      again : (root : List ℕ) (n at : ℕ) (u : Tables Shown) → n ≡ s .depth → runs doc at (closed (framesOf root opened (s .depth)) u) ≡ runs doc at (reading (framesOf root opened n) u)
+      again root n at u e = rw (e, frames-closed root opened (s .depth) u (walks .deep))
+
+      same-name : (s′ : Walk) → s′ .depth ≡ s .depth → s′ .at ≡ s .at → s′ .len ≡ s .len → Nested doc s → Nested doc s′
+      same-name s′ a b l d h = rw (b, l) (d (omega (arith, a)))
+
+      go : (k : Turn) → IsChildIn doc c i s b b′ k → Begun doc c s opened opened b b′ k
+      go (Fault n p) m = record { onward = tt; leads = λ root t v z d y. ends root m v t z y }
+      go (Done f) m = absurd m
+      go (On s′) m =
+          let d′ : s′ .depth ≡ s .depth = ap (λ (x : Walk). x .depth) (m .1) in
+          let a′ : s′ .at ≡ s .at = ap (λ (x : Walk). x .at) (m .1) in
+          let l′ : s′ .len ≡ s .len = ap (λ (x : Walk). x .len) (m .1) in
+          record {
+            onward = (
+              omega (arith, begun .further, begun .fits .inside, m .0 .onward .0),
+              record {
+                bounds = m .0 .onward .2;
+                deep = omega (arith, d′, walks .deep);
+                few = omega (arith, d′, walks .few);
+                long = walks .long;
+                named = omega (arith, a′, l′, walks .named);
+                owners = λ j b. grown (getD opened j 0) (s′ .fill .rows) (m .0 .onward .1) (walks .owners j (omega (arith, d′)));
+              },
+            );
+            leads = λ root t v z d y.
+                let o = ends root (m .0) v t z y in
+                (o .0, o .1, o .2 ∙ again root (s′ .depth) (s′ .fill .at) (o .0) d′, same-name s′ d′ a′ l′ d);
+          }
+
+pub ruleset starteds = (begun-ready, begun-level, begun-owner, begun-deep, begun-open, begun-child, needs)

@@ -1,0 +1,55 @@
+-- What the public entry says.
+-- Assumes nothing.
+use Prim.Native.Nat.{ℕ, _*_, _/_, _≤_, _<_}
+use mathlib.Core.Path.{_≡_}
+use mathlib.Core.List.{List}
+use mathlib.Core.Bool.{Bool, not, _||_}
+use lib.Dec.{ltb}
+use lib.ListN.{length, replicate}
+use Rattle.tables.specs.Table.{cleared}
+use Rattle.document.specs.Tags.{Shown}
+use Rattle.document.specs.Reading.{State, begun}
+use Rattle.document.specs.Whole.{Room, read, verdictOf, rowsLeft, warningsLeft, textLeft}
+use Rattle.document.specs.Outcome.{Lent, lent, Sound, runs}
+use Rattle.document.specs.declared.Fill.{Fill}
+use Rattle.document.specs.declared.Answer.{Answer}
+use Rattle.document.specs.declared.Verdict.{Verdict}
+use Rattle.document.specs.declared.Verdict.the-variants.{Refused, Accepted}
+use Rattle.reader.specs.Nodes.{EndsNodes}
+
+-- the room of buffers of so many words, words and bytes
+abbrev pub room : ℕ → ℕ → ℕ → Room
+room r w t = record { rows = r; warnings = w; text = t }
+
+-- verdict and buffers are the document's, with that room
+pub record Says (doc : List ℕ) (r w t : ℕ) (rows warnings text : List ℕ) (v : Verdict) : Type 0 where
+  pub verdict : v ≡ verdictOf (read doc (room r w t))
+  pub rows-left : rows ≡ rowsLeft (room r w t) (read doc (room r w t))
+  pub warnings-left : warnings ≡ warningsLeft (room r w t) (read doc (room r w t))
+  pub text-left : text ≡ textLeft (room r w t) (read doc (room r w t))
+
+-- a document within the limit and UTF-8 has been read to its end, as the answer and the buffers say
+pub record Ended (doc rows warnings text : List ℕ) (a : Answer) : Type 0 where
+  pub sound : Sound doc
+  pub ends : EndsNodes (runs doc 0 begun) (lent rows warnings text) a
+
+-- what a refusal says: zeros in every buffer
+pub record Refuses (n p : ℕ) (rows rows′ warnings warnings′ text text′ : List ℕ) (v : Verdict) : Type 0 where
+  pub verdict : v ≡ Refused n p
+  pub rows-left : rows′ ≡ replicate (length rows) 0
+  pub warnings-left : warnings′ ≡ replicate (length warnings) 0
+  pub text-left : text′ ≡ replicate (length text) 0
+
+-- the counts have room
+abbrev pub hasRoom : ℕ → ℕ → ℕ → Fill → Bool
+hasRoom r w t f = not (ltb (r / 16) (f .rows) || ltb (w / 4) (f .warnings) || ltb t (f .text))
+
+pub record HasRoom (r w t : ℕ) (f : Fill) (b : Bool) : Type 0 where
+  pub is : b ≡ hasRoom r w t f
+
+-- what an acceptance says: zeros past the used part
+pub record Accepts (f : Fill) (rows rows′ warnings warnings′ text text′ : List ℕ) (v : Verdict) : Type 0 where
+  pub verdict : v ≡ Accepted (f .rows) (f .text) (f .warnings)
+  pub rows-left : rows′ ≡ cleared (f .rows * 16) rows
+  pub warnings-left : warnings′ ≡ cleared (f .warnings * 4) warnings
+  pub text-left : text′ ≡ cleared (f .text) text

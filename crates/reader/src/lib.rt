@@ -1,0 +1,428 @@
+// The reader: the node loop and the public entry.
+use document::Answer;
+use document::Fill;
+use document::Next;
+use document::StartTag;
+use document::Token;
+use document::Verdict;
+use tags::step;
+ghost use mathlib.Core.Path.{_≡_};
+ghost use mathlib.Core.List.{[], _∷_};
+ghost use mathlib.Core.Bool.{true, false};
+ghost use Prim.Native.Nat.{_+_, _*_, _≤_, _<_};
+ghost use lib.ListN.{length, take, drop};
+ghost use Rattle.scan.specs.Classes.{Classes};
+ghost use Rattle.document.specs.Outcome.{lent, Ready, Sound, TagFits, Child};
+ghost use Rattle.document.specs.Whole.{read, verdictOf, rowsLeft, warningsLeft, textLeft};
+ghost use Rattle.reader.specs.Entry.{room, Says, Ended, Refuses, HasRoom, Accepts};
+ghost use Rattle.reader.specs.Nodes.{Walking, Turns, Opens, Looks, NextIn, Shuts, ChildIn, Started, Begun, Walks, Levels, RootOpen, ReadsRoot, ReadsWhole, moved};
+
+// How many nodes are open, the place and length of the name of one that is open in the root, and the counts so far.
+pub struct Walk {
+    pub depth: usize,
+    pub at: usize,
+    pub len: usize,
+    pub fill: Fill,
+}
+
+// What a turn of the node loop comes to: a fault, the root's end, or one token more.
+pub enum Turn {
+    Fault(u32, usize),
+    Done(Fill),
+    On(Walk),
+}
+
+// A child of a node with row i that is no node itself.
+fn node_child(
+    doc: &[u8],
+    classes: &[u8; 256],
+    rows: &mut [u32],
+    warnings: &mut [u32],
+    text: &mut [u8],
+    c: StartTag,
+    i: usize,
+    f: Fill,
+) -> Answer
+    requires { ⌜ Ready (now doc) c f ⌝ ∗ ⌜ i < f .rows ⌝ ∗ ⌜ (c .kind ≡ 1 → ⊥) ⌝ ∗ ⌜ Classes (now classes) ⌝ }
+    ensures { λ r. ⌜ Child (now (doc .entry)) (1 ∷ 2 ∷ 8 ∷ 9 ∷ 11 ∷ 13 ∷ []) true c i f (lent (now (rows .entry)) (now (warnings .entry)) (now (text .entry))) (lent (now (rows .exit)) (now (warnings .exit)) (now (text .exit))) r ⌝ }
+{
+    let kind = c.kind;
+    if kind == 2 {
+        return members::interface(doc, classes, rows, warnings, text, c, i + 1, f);
+    }
+    if members::is_definition(kind) {
+        return telepathy::definition(doc, classes, rows, warnings, text, c, i + 1, f);
+    }
+    skip::docstring_or_skip(doc, classes, rows, warnings, c, i, f)
+}
+
+// A node in a node: its row, and where it is open one more level.
+fn open_node(
+    doc: &[u8],
+    rows: &mut [u32],
+    text: &mut [u8],
+    opened: &mut [u32],
+    c: StartTag,
+    i: usize,
+    s: Walk,
+) -> Turn
+    requires { ⌜ Started (now doc) (now opened) c s ⌝ ∗ ⌜ c .kind ≡ 1 ⌝ ∗ ⌜ i < s .fill .rows ⌝ }
+    ensures { λ r. ⌜ Opens (now (doc .entry)) c i s (now (opened .entry)) (now (opened .exit)) (now (rows .entry)) (now (rows .exit)) (now (text .entry)) (now (text .exit)) r ⌝ }
+{
+    let f = s.fill;
+    let depth = s.depth;
+    let closes = c.closes;
+    let moved = Fill {
+        at: c.end,
+        rows: f.rows,
+        warnings: f.warnings,
+        text: f.text,
+    };
+    match elements::node_row(doc, rows, text, c, i + 1, moved) {
+        Answer::Fault(number, place) => Turn::Fault(number, place),
+        Answer::Done(g) => {
+            if closes {
+                return Turn::On(Walk {
+                    depth,
+                    at: s.at,
+                    len: s.len,
+                    fill: g,
+                });
+            }
+            if depth == 1024 {
+                return Turn::Fault(7, c.end);
+            }
+            opened[depth] = f.rows as u32;
+            Turn::On(Walk {
+                depth: depth + 1,
+                at: c.at,
+                len: c.len,
+                fill: g,
+            })
+        }
+    }
+}
+
+// What comes next in the innermost open node; the root's name stands at a place.
+fn next_in(doc: &[u8], classes: &[u8; 256], at: usize, len: usize, s: Walk) -> Next
+    requires { ⌜ Looks (now doc) «at» len s ⌝ ∗ ⌜ Classes (now classes) ⌝ }
+    ensures { λ r. ⌜ NextIn (now (doc .entry)) (take len (drop «at» (now (doc .entry)))) s r ⌝ }
+{
+    let from = s.fill.at;
+    if s.depth == 1 {
+        return step(doc, classes, from, at, len);
+    }
+    step(doc, classes, from, s.at, s.len)
+}
+
+// The closing tag of the innermost open node.
+fn close_node(s: Walk, end: usize) -> Turn
+    requires { ⌜ 0 < s .depth ⌝ }
+    ensures { λ r. ⌜ Shuts s end r ⌝ }
+{
+    let f = s.fill;
+    let fill = Fill {
+        at: end,
+        rows: f.rows,
+        warnings: f.warnings,
+        text: f.text,
+    };
+    if s.depth == 1 {
+        return Turn::Done(fill);
+    }
+    Turn::On(Walk {
+        depth: s.depth - 1,
+        at: s.at,
+        len: s.len,
+        fill,
+    })
+}
+
+// A child of the innermost open node that is no node itself.
+fn read_child(
+    doc: &[u8],
+    classes: &[u8; 256],
+    rows: &mut [u32],
+    warnings: &mut [u32],
+    text: &mut [u8],
+    c: StartTag,
+    i: usize,
+    s: Walk,
+) -> Turn
+    requires { ⌜ Ready (now doc) c (moved (s .fill) (c .end)) ⌝ ∗ ⌜ i < s .fill .rows ⌝ ∗ ⌜ (c .kind ≡ 1 → ⊥) ⌝ ∗ ⌜ Classes (now classes) ⌝ }
+    ensures { λ r. ⌜ ChildIn (now (doc .entry)) c i s (lent (now (rows .entry)) (now (warnings .entry)) (now (text .entry))) (lent (now (rows .exit)) (now (warnings .exit)) (now (text .exit))) r ⌝ }
+{
+    let f = s.fill;
+    let fill = Fill {
+        at: c.end,
+        rows: f.rows,
+        warnings: f.warnings,
+        text: f.text,
+    };
+    match node_child(doc, classes, rows, warnings, text, c, i, fill) {
+        Answer::Fault(number, place) => Turn::Fault(number, place),
+        Answer::Done(g) => Turn::On(Walk {
+            depth: s.depth,
+            at: s.at,
+            len: s.len,
+            fill: g,
+        }),
+    }
+}
+
+// An element in the innermost open node.
+fn start_in(
+    doc: &[u8],
+    classes: &[u8; 256],
+    rows: &mut [u32],
+    warnings: &mut [u32],
+    text: &mut [u8],
+    opened: &mut [u32],
+    c: StartTag,
+    s: Walk,
+) -> Turn
+    requires { ⌜ Started (now doc) (now opened) c s ⌝ ∗ ⌜ Classes (now classes) ⌝ }
+    ensures { λ r. ⌜ Begun (now (doc .entry)) c s (now (opened .entry)) (now (opened .exit)) (lent (now (rows .entry)) (now (warnings .entry)) (now (text .entry))) (lent (now (rows .exit)) (now (warnings .exit)) (now (text .exit))) r ⌝ }
+{
+    let last = s.depth - 1;
+    let i = wide(opened[last]);
+    if c.kind == 1 {
+        return open_node(doc, rows, text, opened, c, i, s);
+    }
+    read_child(doc, classes, rows, warnings, text, c, i, s)
+}
+
+// One token more in the innermost open node.
+fn turn_at(
+    doc: &[u8],
+    classes: &[u8; 256],
+    rows: &mut [u32],
+    warnings: &mut [u32],
+    text: &mut [u8],
+    opened: &mut [u32],
+    at: usize,
+    len: usize,
+    s: Walk,
+) -> Turn
+    requires { ⌜ Walking (now doc) (now opened) s ⌝ ∗ ⌜ at + len ≤ length (now doc) ⌝ ∗ ⌜ Classes (now classes) ⌝ }
+    ensures { λ r. ⌜ Turns (now (doc .entry)) (take len (drop «at» (now (doc .entry)))) (now (opened .entry)) (now (opened .exit)) s (lent (now (rows .entry)) (now (warnings .entry)) (now (text .entry))) (lent (now (rows .exit)) (now (warnings .exit)) (now (text .exit))) r ⌝ }
+{
+    match next_in(doc, classes, at, len, s) {
+        Next::Fault(number, place) => Turn::Fault(number, place),
+        Next::Close(_, end) => close_node(s, end),
+        Next::Start(c) => start_in(doc, classes, rows, warnings, text, opened, c, s),
+    }
+}
+
+fn wide(x: u32) -> usize
+    ensures { λ r. ⌜ r ≡ x ⌝ }
+{
+    x as usize
+}
+
+// The open nodes, up to the root's end.
+fn nodes(
+    doc: &[u8],
+    classes: &[u8; 256],
+    rows: &mut [u32],
+    warnings: &mut [u32],
+    text: &mut [u8],
+    opened: &mut [u32],
+    at: usize,
+    len: usize,
+    s: Walk,
+) -> Answer
+    requires { ⌜ Walking (now doc) (now opened) s ⌝ ∗ ⌜ at + len ≤ length (now doc) ⌝ ∗ ⌜ Classes (now classes) ⌝ }
+    ensures { λ r. ⌜ Walks (now (doc .entry)) (take len (drop «at» (now (doc .entry)))) (now (opened .entry)) s (lent (now (rows .entry)) (now (warnings .entry)) (now (text .entry))) (lent (now (rows .exit)) (now (warnings .exit)) (now (text .exit))) r ⌝ }
+{
+    let mut w = s;
+    loop {
+        match turn_at(doc, classes, rows, warnings, text, opened, at, len, w) {
+            Turn::Fault(number, place) => {
+                return Answer::Fault(number, place);
+            }
+            Turn::Done(f) => {
+                return Answer::Done(f);
+            }
+            Turn::On(next) => {
+                w = next;
+            }
+        }
+    }
+}
+
+// Room for the rows of the open nodes.
+fn levels() -> [u32; 1024]
+    ensures { λ r. ⌜ Levels r ⌝ }
+{
+    [0u32; 1024]
+}
+
+// The children of the root, whose row is put.
+fn open_root(
+    doc: &[u8],
+    classes: &[u8; 256],
+    rows: &mut [u32],
+    warnings: &mut [u32],
+    text: &mut [u8],
+    c: StartTag,
+    g: Fill,
+) -> Answer
+    requires { ⌜ RootOpen (now doc) c g (now rows) (now text) ⌝ ∗ ⌜ Classes (now classes) ⌝ }
+    ensures { λ r. ⌜ ReadsRoot (now (doc .entry)) c (lent (now (rows .exit)) (now (warnings .exit)) (now (text .exit))) r ⌝ }
+{
+    let mut opened = levels();
+    let s = Walk {
+        depth: 1,
+        at: 0,
+        len: 0,
+        fill: g,
+    };
+    nodes(
+        doc,
+        classes,
+        rows,
+        warnings,
+        text,
+        &mut opened,
+        c.at,
+        c.len,
+        s,
+    )
+}
+
+// The root element, which may have any name.
+fn root_node(
+    doc: &[u8],
+    classes: &[u8; 256],
+    rows: &mut [u32],
+    warnings: &mut [u32],
+    text: &mut [u8],
+    c: StartTag,
+) -> Answer
+    requires { ⌜ Sound (now doc) ⌝ ∗ ⌜ TagFits (now doc) c ⌝ ∗ ⌜ 0 < c .at ⌝ ∗ ⌜ Classes (now classes) ⌝ }
+    ensures { λ r. ⌜ ReadsRoot (now (doc .entry)) c (lent (now (rows .exit)) (now (warnings .exit)) (now (text .exit))) r ⌝ }
+{
+    let fill = Fill {
+        at: c.end,
+        rows: 0,
+        warnings: 0,
+        text: 0,
+    };
+    match elements::node_row(doc, rows, text, c, 0, fill) {
+        Answer::Fault(number, place) => Answer::Fault(number, place),
+        Answer::Done(g) => {
+            if c.closes {
+                return Answer::Done(g);
+            }
+            open_root(doc, classes, rows, warnings, text, c, g)
+        }
+    }
+}
+
+// The document's root element, past what is ignorable.
+fn document_node(
+    doc: &[u8],
+    classes: &[u8; 256],
+    rows: &mut [u32],
+    warnings: &mut [u32],
+    text: &mut [u8],
+) -> Answer
+    requires { ⌜ Sound (now doc) ⌝ ∗ ⌜ Classes (now classes) ⌝ }
+    ensures { λ r. ⌜ ReadsWhole (now (doc .entry)) (lent (now (rows .exit)) (now (warnings .exit)) (now (text .exit))) r ⌝ }
+{
+    match tags::token(doc, classes, 0) {
+        Token::Fault(number, place) => Answer::Fault(number, place),
+        Token::End(place) => Answer::Fault(3, place),
+        Token::Close(c) => Answer::Fault(4, c.lt + 1),
+        Token::Start(c) => root_node(doc, classes, rows, warnings, text, c),
+    }
+}
+
+// Leaves zeros in every buffer.
+fn refuse(
+    rows: &mut [u32],
+    warnings: &mut [u32],
+    text: &mut [u8],
+    number: u32,
+    place: usize,
+) -> Verdict
+    ensures { λ r. ⌜ Refuses number place (now (rows .entry)) (now (rows .exit)) (now (warnings .entry)) (now (warnings .exit)) (now (text .entry)) (now (text .exit)) r ⌝ }
+{
+    tables::clear_words(rows, 0);
+    tables::clear_words(warnings, 0);
+    tables::clear_bytes(text, 0);
+    Verdict::Refused(number, place)
+}
+
+// Leaves zeros past the used part of every buffer.
+fn accept(rows: &mut [u32], warnings: &mut [u32], text: &mut [u8], f: Fill) -> Verdict
+    requires { ⌜ f .rows * 16 ≤ length (now rows) ⌝ ∗ ⌜ f .warnings * 4 ≤ length (now warnings) ⌝ }
+    ensures { λ r. ⌜ Accepts f (now (rows .entry)) (now (rows .exit)) (now (warnings .entry)) (now (warnings .exit)) (now (text .entry)) (now (text .exit)) r ⌝ }
+{
+    tables::clear_words(rows, f.rows * 16);
+    tables::clear_words(warnings, f.warnings * 4);
+    tables::clear_bytes(text, f.text);
+    Verdict::Accepted(f.rows, f.text, f.warnings)
+}
+
+// Whether whole rows, whole warnings and the text have room.
+fn has_room(rows: usize, warnings: usize, text: usize, f: Fill) -> bool
+    ensures { λ r. ⌜ HasRoom rows warnings text f r ⌝ }
+{
+    if rows / 16 < f.rows {
+        return false;
+    }
+    if warnings / 4 < f.warnings {
+        return false;
+    }
+    f.text <= text
+}
+
+// The verdict on a document that has been read, and the buffers that go with it.
+fn finish(doc: &[u8], rows: &mut [u32], warnings: &mut [u32], text: &mut [u8], a: Answer) -> Verdict
+    requires { ⌜ Ended (now doc) (now rows) (now warnings) (now text) a ⌝ }
+    ensures { λ r. ⌜ Says (now (doc .entry)) (length (now (rows .entry))) (length (now (warnings .entry))) (length (now (text .entry))) (now (rows .exit)) (now (warnings .exit)) (now (text .exit)) r ⌝ }
+{
+    match a {
+        Answer::Fault(number, place) => refuse(rows, warnings, text, number, place),
+        Answer::Done(f) => {
+            if has_room(rows.len(), warnings.len(), text.len(), f) {
+                return accept(rows, warnings, text, f);
+            }
+            refuse(rows, warnings, text, 18, doc.len())
+        }
+    }
+}
+
+// Reads an introspection document into the tables lent: rows of 16 words, warnings of 4, text.
+pub fn parse_with_warnings(
+    document: &[u8],
+    rows: &mut [u32],
+    warnings: &mut [u32],
+    text: &mut [u8],
+) -> Verdict
+    ensures verdict { λ r. ⌜ r ≡ verdictOf (read (now (document .entry)) (room (length (now (rows .entry))) (length (now (warnings .entry))) (length (now (text .entry))))) ⌝ }
+    ensures rows { λ r. ⌜ now (rows .exit) ≡ rowsLeft (room (length (now (rows .entry))) (length (now (warnings .entry))) (length (now (text .entry)))) (read (now (document .entry)) (room (length (now (rows .entry))) (length (now (warnings .entry))) (length (now (text .entry))))) ⌝ }
+    ensures warnings { λ r. ⌜ now (warnings .exit) ≡ warningsLeft (room (length (now (rows .entry))) (length (now (warnings .entry))) (length (now (text .entry)))) (read (now (document .entry)) (room (length (now (rows .entry))) (length (now (warnings .entry))) (length (now (text .entry))))) ⌝ }
+    ensures text { λ r. ⌜ now (text .exit) ≡ textLeft (room (length (now (rows .entry))) (length (now (warnings .entry))) (length (now (text .entry)))) (read (now (document .entry)) (room (length (now (rows .entry))) (length (now (warnings .entry))) (length (now (text .entry))))) ⌝ }
+{
+    if 1048576 < document.len() {
+        return refuse(rows, warnings, text, 2, 1048576);
+    }
+    let bad = utf8::ill_formed(document);
+    if bad < document.len() {
+        return refuse(rows, warnings, text, 1, bad);
+    }
+    read_sound(document, rows, warnings, text)
+}
+
+// The same for a document within the limit that is UTF-8.
+fn read_sound(doc: &[u8], rows: &mut [u32], warnings: &mut [u32], text: &mut [u8]) -> Verdict
+    requires { ⌜ Sound (now doc) ⌝ }
+    ensures { λ r. ⌜ Says (now (doc .entry)) (length (now (rows .entry))) (length (now (warnings .entry))) (length (now (text .entry))) (now (rows .exit)) (now (warnings .exit)) (now (text .exit)) r ⌝ }
+{
+    let classes = scan::classes();
+    let a = document_node(doc, &classes, rows, warnings, text);
+    finish(doc, rows, warnings, text, a)
+}
