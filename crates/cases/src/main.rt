@@ -2,6 +2,7 @@
 mod answers;
 mod shown;
 mod text;
+mod whole;
 
 use tables::Triple;
 ghost use mathlib.Core.Path.{_≡_};
@@ -64,6 +65,9 @@ fn case(out: &mut [u8], n: usize, s: &[u8], first: &mut [u8], second: &mut [u8])
     let rest = output::after(output::after(s, space), 1);
     if slices::equal(word, b"lookup") {
         return lookup(out, n, rest, first, second);
+    }
+    if slices::equal(word, b"read") {
+        return whole::read(out, n, rest, first, second);
     }
     if slices::equal(word, b"escape") {
         return roomy(out, n, word, rest, first, second);

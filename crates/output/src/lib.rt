@@ -70,3 +70,21 @@ pub fn front_mut<'a>(s: &'a mut [u8], n: usize) -> &'a mut [u8] {
     }
     s
 }
+
+// The first n words, or all where there are fewer.
+pub fn front_words<'a>(s: &'a [u32], n: usize) -> &'a [u32] {
+    if n <= s.len() {
+        let from = 0;
+        return &s[from..n];
+    }
+    s
+}
+
+// The same of words that may be changed.
+pub fn front_words_mut<'a>(s: &'a mut [u32], n: usize) -> &'a mut [u32] {
+    if n <= s.len() {
+        let from = 0;
+        return &mut s[from..n];
+    }
+    s
+}
