@@ -1,0 +1,144 @@
+// The listing program: reads a document from standard input, and writes what was read (docs/FORMAT.md, The listing program).
+use document::Verdict;
+ghost use Prim.Native.Nat.{_<_, _≤_};
+ghost use lib.ListN.{length};
+
+// What reading has come to: whether it failed, and how many bytes there are.
+struct Came {
+    failed: bool,
+    end: usize,
+}
+
+// One read, behind the bytes that are there.
+fn read_some(document: &mut [u8], n: usize) -> Came
+    requires { ⌜ n ≤ length (now document) ⌝ }
+    ensures { λ r. ⌜ (n ≤ r .end) × (r .end ≤ length (now (document .entry))) ⌝ }
+{
+    let part = &mut document[n..];
+    let got = libc::read(0, part);
+    let k = io::count(got, part);
+    Came {
+        failed: got < 0,
+        end: n + k,
+    }
+}
+
+// Reads until the input ends, the buffer is full or a read fails.
+fn read_all(document: &mut [u8]) -> Came {
+    let mut n = 0;
+    while n < document.len() {
+        let came = read_some(document, n);
+        if came.failed {
+            return came;
+        }
+        if came.end == n {
+            return came;
+        }
+        n = came.end;
+    }
+    Came {
+        failed: false,
+        end: n,
+    }
+}
+
+fn wide(x: u32) -> u64 {
+    x as u64
+}
+
+fn least(a: usize, b: usize) -> usize
+    ensures { λ r. ⌜ r ≤ b ⌝ }
+{
+    if a < b {
+        return a;
+    }
+    b
+}
+
+// What follows the word before a place: a line's end after each `width` words.
+fn ending(i: usize, width: usize) -> u8
+    requires { ⌜ 0 < width ⌝ }
+{
+    if i % width == 0 {
+        return 10;
+    }
+    32
+}
+
+// Puts words, a line for each `width`.
+fn put_table(out: &mut [u8], n: usize, words: &[u32], width: usize) -> usize
+    requires { ⌜ 0 < width ⌝ }
+{
+    let mut m = n;
+    let mut i = 0;
+    while i < words.len() {
+        m = output::put_number(out, m, wide(words[i]));
+        i += 1;
+        m = output::put(out, m, ending(i, width));
+    }
+    m
+}
+
+// The line of a refusal.
+fn put_refused(out: &mut [u8], number: u32, place: usize) -> usize {
+    let k = output::put_bytes(out, 0, b"refused");
+    let j = output::put_word(out, k, wide(number));
+    let i = output::put_word(out, j, place as u64);
+    output::put(out, i, 10)
+}
+
+// The first line of a document that was read: counts of rows, text bytes and warnings.
+fn put_counts(out: &mut [u8], r: usize, t: usize, w: usize) -> usize {
+    let m = output::put_bytes(out, 0, b"ok");
+    let k = output::put_word(out, m, r as u64);
+    let j = output::put_word(out, k, t as u64);
+    let i = output::put_word(out, j, w as u64);
+    output::put(out, i, 10)
+}
+
+// That line, the rows and the warnings.
+fn put_accepted(
+    out: &mut [u8],
+    rows: &[u32],
+    warnings: &[u32],
+    r: usize,
+    t: usize,
+    w: usize,
+) -> usize {
+    let m = put_counts(out, r, t, w);
+    let k = put_table(out, m, output::front_words(rows, least(r, 1024) * 16), 16);
+    put_table(out, k, output::front_words(warnings, least(w, 4096) * 4), 4)
+}
+
+// Reads a document, and puts what was read.
+fn put_listing(out: &mut [u8], document: &[u8]) -> usize {
+    let mut rows = [0u32; 16384];
+    let mut warnings = [0u32; 16384];
+    let mut text = io::large_buffer();
+    match reader::parse_with_warnings(document, &mut rows, &mut warnings, &mut text) {
+        Verdict::Refused(number, place) => put_refused(out, number, place),
+        Verdict::Accepted(r, t, w) => put_accepted(out, &rows, &warnings, r, t, w),
+    }
+}
+
+// Lists what the buffer can hold of standard input.
+fn list(document: &mut [u8]) {
+    let came = read_all(document);
+    if came.failed {
+        io::write_all(2, b"listing: cannot read standard input\n");
+        return;
+    }
+    let mut out = io::large_buffer();
+    if 65536 < came.end {
+        let n = put_refused(&mut out, 2, 65536);
+        output::flush(&out, n);
+        return;
+    }
+    let n = put_listing(&mut out, output::front(document, came.end));
+    output::flush(&out, n);
+}
+
+fn main() {
+    let mut document = [0u8; 65537];
+    list(&mut document);
+}
