@@ -75,6 +75,9 @@ fn case(out: &mut [u8], n: usize, s: &[u8], first: &mut [u8], second: &mut [u8])
     if slices::equal(word, b"unescape") {
         return roomy(out, n, word, rest, first, second);
     }
+    if slices::equal(word, b"words") {
+        return whole::words(out, n, rest);
+    }
     let k = text::expand(first, rest);
     answers::of_text(out, n, word, output::front(first, k))
 }

@@ -1,5 +1,5 @@
 // The texts of cases: `\xx` is a byte, `\(N:piece)` a piece N times.
-ghost use Prim.Native.Nat.{_<_, _≤_};
+ghost use Prim.Native.Nat.{_<_};
 ghost use mathlib.Core.Path.{_≡_};
 ghost use lib.ListN.{length};
 

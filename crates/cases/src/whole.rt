@@ -233,3 +233,35 @@ pub fn read(out: &mut [u8], n: usize, s: &[u8], first: &mut [u8], second: &mut [
         text,
     )
 }
+
+// Puts a record of four words into a table, if it has room.
+fn put_one(table: &mut [u32], i: usize) -> usize
+    requires { ⌜ i < 64 ⌝ }
+{
+    let record = [1u32, 2, 3, 4];
+    tables::put_words(table, i, &record)
+}
+
+// Puts some, one behind the other.
+fn put_some(table: &mut [u32], count: usize) -> usize
+    requires { ⌜ count ≤ 64 ⌝ }
+{
+    let mut n = 0;
+    let mut i = 0;
+    while i < count {
+        n = put_one(table, i);
+        i += 1;
+    }
+    n
+}
+
+// A case of a table: its words, how many records of four words to put. The answer: what the last one answered, and the table.
+pub fn words(out: &mut [u8], n: usize, s: &[u8]) -> usize {
+    let room = crate::text::number(s);
+    let count = crate::text::number(output::after(s, room.after));
+    let mut space = [9u32; 64];
+    let table = output::front_words_mut(&mut space, room.value as usize);
+    let k = put_some(table, least(count.value as usize, 64));
+    let m = output::put_number(out, n, k as u64);
+    put_records(out, m, table, 4, b'/')
+}

@@ -1,6 +1,4 @@
 // Standard output through a buffer that the caller lends: each function takes how many bytes the buffer holds, and answers how many it holds then.
-ghost use Prim.Native.Nat.{_≤_};
-ghost use lib.ListN.{length};
 
 // Puts a byte; a full buffer is written out first.
 pub fn put(out: &mut [u8], n: usize, b: u8) -> usize {

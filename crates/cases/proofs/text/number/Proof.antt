@@ -1,7 +1,6 @@
 -- `cases::text::number` meets its contract: what is left is the measure.
 -- Assumes nothing.
 use Prim.Native.Nat.{_≤_, _-_}
-use mathlib.Core.Path.{_≡_}
 use lib.ListN.{length}
 use borrow.Author.Needs.{needs}
 use Rattle.cases.proofs.text.number.Statement.{statement}
