@@ -1,6 +1,6 @@
 // Times the reader: makes a document of ordinary interfaces and reads it so many times.
 // Standard input has two numbers: the document (0 and 1: 10,000 bytes with few and with many rows
-// lent; 2: 100,000; 3: 500,000) and how often.
+// lent; 2: 100,000; 3: 1,000,000) and how often.
 use document::Verdict;
 
 // A number, and the place after it.
@@ -145,9 +145,13 @@ fn medium(often: usize) {
     with_many_rows(&mut doc, often);
 }
 
+fn with_large(doc: &mut [u8; 1000000], often: usize) {
+    with_many_rows(doc, often);
+}
+
 fn large(often: usize) {
-    let mut doc = [32u8; 500000];
-    with_many_rows(&mut doc, often);
+    let mut doc = [32u8; 1000000];
+    with_large(&mut doc, often);
 }
 
 fn main() {
