@@ -1,4 +1,5 @@
--- Worked documents, each with what reading it comes to: the verdict and the words and text of the tables.
+-- Worked cases: documents, each with what reading it comes to (the refusal, or the words and text of the tables), and a value
+-- with what it is escaped to.
 -- Assumes nothing.
 use Prim.Native.Nat.{ℕ}
 use Prim.Native.String as string
@@ -12,6 +13,7 @@ use Rattle.scan.specs.Ignorable.{ignorable}
 use Rattle.names.specs.Names.{interfaceName, memberName}
 use Rattle.names.specs.Signature.{signature}
 use Rattle.references.specs.Characters.{xmlChar, utf8}
+use Rattle.references.specs.Escape.{escape}
 use Rattle.references.specs.Unescape.{reference, piece, unescape}
 use Rattle.document.specs.Tags.{attribute, gather}
 use Rattle.document.specs.Tokens.{opening, closing, next, tokens}
@@ -26,6 +28,7 @@ pub data Result : Type 0 where
   turned : ℕ → ℕ → Result
   tables : List ℕ → List ℕ → List ℕ → Result
   unended : Result
+  written : List ℕ → Result
 
 abbrev pub resultOf : State Shown → Result
 resultOf begun = unended
@@ -33,29 +36,38 @@ resultOf (reading fs t) = unended
 resultOf (accepted t) = tables (wordsFrom 0 (t .rows)) (texts (t .rows)) (warned (t .warnings))
 resultOf (refused n p) = turned n p
 
+-- a document to read, or a value to escape
+pub data Given : Type 0 where
+  document value : List ℕ → Given
+
+abbrev pub resultFor : Given → Result
+resultFor (document s) = resultOf (meaning s)
+resultFor (value s) = written (escape s)
+
 abbrev pub node : List ℕ
 node = 1 ∷ replicate 15 0
 
-abbrev pub cases : List (List ℕ × Result)
+abbrev pub cases : List (Given × Result)
 cases =
-    (bytes "", turned 3 0)
-    ∷ (bytes "<x/>", tables node [] [])
-    ∷ (bytes "<a>", turned 5 3)
-    ∷ (bytes "<a></b>", turned 6 7)
-    ∷ (bytes "</a>", turned 4 1)
-    ∷ (bytes "<a b=c>", turned 4 3)
-    ∷ (bytes "<a x=\"1\" x=\"&q;\"/>", turned 8 9)
-    ∷ (bytes "<a x=\"&q;\" x=\"1\"/>", turned 10 6)
-    ∷ (bytes "<a name=\"a" ++ (13 ∷ 10 ∷ bytes "b\"/>"), tables (1 ∷ 0 ∷ 2 ∷ 0 ∷ 3 ∷ replicate 11 0) (bytes "a b") [])
-    ∷ (bytes "<a name=\"a&#10;b\"/>", tables (1 ∷ 0 ∷ 2 ∷ 0 ∷ 3 ∷ replicate 11 0) (97 ∷ 10 ∷ 98 ∷ []) [])
-    ∷ (bytes "<a name=\"&#X41;\"/>", tables (1 ∷ 0 ∷ 2 ∷ 0 ∷ 1 ∷ replicate 11 0) (bytes "A") [])
-    ∷ (bytes "<node><docstring> a </docstring><docstring/></node>", tables (1 ∷ replicate 10 0 ++ (1 ∷ 18 ∷ 1 ∷ 0 ∷ 0 ∷ [])) [] [])
+    (document (bytes ""), turned 3 0)
+    ∷ (document (bytes "<x/>"), tables node [] [])
+    ∷ (document (bytes "<a>"), turned 5 3)
+    ∷ (document (bytes "<a></b>"), turned 6 7)
+    ∷ (document (bytes "</a>"), turned 4 1)
+    ∷ (document (bytes "<a b=c>"), turned 4 3)
+    ∷ (document (bytes "<a x=\"1\" x=\"&q;\"/>"), turned 8 9)
+    ∷ (document (bytes "<a x=\"&q;\" x=\"1\"/>"), turned 10 6)
+    ∷ (document (bytes "<a name=\"a" ++ (13 ∷ 10 ∷ bytes "b\"/>")), tables (1 ∷ 0 ∷ 2 ∷ 0 ∷ 3 ∷ replicate 11 0) (bytes "a b") [])
+    ∷ (document (bytes "<a name=\"a&#10;b\"/>"), tables (1 ∷ 0 ∷ 2 ∷ 0 ∷ 3 ∷ replicate 11 0) (97 ∷ 10 ∷ 98 ∷ []) [])
+    ∷ (document (bytes "<a name=\"&#X41;\"/>"), tables (1 ∷ 0 ∷ 2 ∷ 0 ∷ 1 ∷ replicate 11 0) (bytes "A") [])
+    ∷ (value (bytes "<\"&"), written (bytes "&lt;&quot;&amp;"))
+    ∷ (document (bytes "<node><docstring> a </docstring><docstring/></node>"), tables (1 ∷ replicate 10 0 ++ (1 ∷ 18 ∷ 1 ∷ 0 ∷ 0 ∷ [])) [] [])
     ∷ (
-      bytes "<node><interface name=\"a.b\"><method name=\"M\"/><x/></interface></node>",
+      document (bytes "<node><interface name=\"a.b\"><method name=\"M\"/><x/></interface></node>"),
       tables (node ++ (2 ∷ 1 ∷ 1 ∷ 23 ∷ 3 ∷ replicate 11 0) ++ (3 ∷ 2 ∷ 1 ∷ 42 ∷ 1 ∷ replicate 11 0)) [] (1 ∷ 46 ∷ 47 ∷ 1 ∷ []),
     )
     ∷ []
 
-pub worked : map (λ c. resultOf (meaning (c .0))) cases ≡ map (λ c. c .1) cases
-unfolding meaning illFormed sequence run step begins unsupported docstringIn opensAs kindOf mayHold tokens next opening closing gather attribute unescape piece reference xmlChar utf8 ignorable rowWords trimStart trimEnd characters interfaceName memberName signature
+pub worked : map (λ c. resultFor (c .0)) cases ≡ map (λ c. c .1) cases
+unfolding meaning escape illFormed sequence run step begins unsupported docstringIn opensAs kindOf mayHold tokens next opening closing gather attribute unescape piece reference xmlChar utf8 ignorable rowWords trimStart trimEnd characters interfaceName memberName signature
 worked = refl
