@@ -1,0 +1,118 @@
+-- Sound rows (docs/FORMAT.md, Sound rows), clause by clause.
+-- Assumes nothing.
+use Prim.Native.Nat.{ℕ, zero, suc, _-_, _/_}
+use mathlib.Core.List.{List, [], _∷_}
+use mathlib.Core.Bool.{Bool, true, false, not, _&&_, _||_}
+use lib.Dec.{eqb, leb, ltb}
+use lib.ListN.{length}
+use Rattle.slices.specs.Bytes.{if}
+use Rattle.utf8.specs.WellFormed.{wellFormed}
+use Rattle.names.specs.Names.{interfaceName, memberName, propertyName}
+use Rattle.names.specs.Signature.{signature}
+use Rattle.tables.specs.Triple.{inside, shown}
+use Rattle.tables.specs.declared.Triple.{Triple}
+use Rattle.document.specs.Elements.{among, mayHold, someSignature}
+use Rattle.items.specs.Words.{RowWords, absent, rowsOf}
+
+-- the kind of row i, or 0
+abbrev pub kindAt : List RowWords → ℕ → ℕ
+kindAt [] i = 0
+kindAt (r ∷ rs) zero = r .kind
+kindAt (r ∷ rs) (suc i) = kindAt rs i
+
+-- row 0 is a node with parent 0; any other row's parent comes before it and may hold its kind
+abbrev pub placed : List RowWords → ℕ → RowWords → Bool
+placed rows zero r = eqb (r .kind) 1 && eqb (r .parent) 0
+placed rows (suc i) r = ltb 0 (r .parent) && leb (r .parent) (suc i) && mayHold (kindAt rows (r .parent - 1)) (r .kind)
+
+-- whether a kind uses three words, and whether it must
+pub record Use : Type 0 where
+  pub may : Bool
+  pub must : Bool
+
+abbrev pub unused : Use
+unused = record { may = false; must = false }
+
+abbrev pub optional : Use
+optional = record { may = true; must = false }
+
+abbrev pub required : Use
+required = record { may = true; must = true }
+
+-- name is present except in node and arg, where it may be missing
+abbrev pub nameUse : ℕ → Use
+nameUse k = if (among k (1 ∷ 7 ∷ [])) optional required
+
+-- words 5-7: value of annotation and enumvalue; signature of property, arg, simple-type, enum, member; present where used
+abbrev pub valueUse : ℕ → Use
+valueUse k = if (among k (4 ∷ 6 ∷ 7 ∷ 8 ∷ 9 ∷ 10 ∷ 12 ∷ [])) required unused
+
+-- tp type of property, arg, member
+abbrev pub tpUse : ℕ → Use
+tpUse k = if (among k (4 ∷ 7 ∷ 12 ∷ [])) optional unused
+
+-- docstring, for all but annotation
+abbrev pub docUse : ℕ → Use
+docUse k = if (eqb k 6) unused optional
+
+-- names of kinds 2 to 5 are valid
+abbrev pub validName : ℕ → List ℕ → Bool
+validName k s =
+    if (eqb k 2) (interfaceName s)
+    (if (eqb k 3) (memberName s)
+    (if (eqb k 4) (propertyName s)
+    (if (eqb k 5) (memberName s) true)))
+
+-- signatures are valid; property and arg may have the empty one
+abbrev pub validValue : ℕ → List ℕ → Bool
+validValue k s = if (among k (4 ∷ 7 ∷ [])) (signature s) (if (among k (8 ∷ 9 ∷ 12 ∷ [])) (someSignature s) true)
+
+abbrev pub anyText : List ℕ → Bool
+anyText s = true
+
+-- word 14 is valid: property 1 read, 2 write, 3 readwrite; arg 1 in, 2 out, 0 none; words that a kind does not use are 0
+abbrev pub validWord : ℕ → ℕ → Bool
+validWord k w = if (eqb k 4) (ltb 0 w && leb w 3) (if (eqb k 7) (leb w 2) (eqb w 0))
+
+-- a triple is absent where it may be; else it is used, lies inside its buffer, is UTF-8 and valid
+unfoldable pub goodTriple : List ℕ → List ℕ → Use → (List ℕ → Bool) → Triple → Bool
+goodTriple document text u valid t =
+    let s = shown document text t in
+    let there = u .may && inside document text t && wellFormed s && valid s in
+    if (absent t) (not (u .must)) there
+
+-- docstrings are in the document
+abbrev pub inDocument : Triple → Bool
+inDocument t = eqb (t .source) 0 || eqb (t .source) 1
+
+-- row i of the rows
+unfoldable pub soundRow : List ℕ → List ℕ → List RowWords → ℕ → RowWords → Bool
+soundRow document text rows i r =
+    let k = r .kind in
+    placed rows i r
+    && goodTriple document text (nameUse k) (validName k) (r .name)
+    && goodTriple document text (valueUse k) (validValue k) (r .value)
+    && goodTriple document text (tpUse k) anyText (r .tp)
+    && goodTriple document text (docUse k) anyText (r .doc)
+    && inDocument (r .doc)
+    && validWord k (r .word)
+    && eqb (r .last) 0
+
+-- the first bad row from row i on, or the number of rows
+abbrev pub firstBad : List ℕ → List ℕ → List RowWords → ℕ → List RowWords → ℕ
+firstBad document text rows i [] = i
+firstBad document text rows i (r ∷ rs) = let n = firstBad document text rows (suc i) rs in if (soundRow document text rows i r) n i
+
+pub data Soundness : Type 0 where
+  sound : Soundness
+  unsound : ℕ → Soundness
+
+abbrev pub judged : ℕ → ℕ → Soundness
+judged n bad = if (ltb bad n) (unsound bad) sound
+
+-- n rows are claimed: 262,144 if more are; else the rows held if fewer than claimed; else the first bad row
+unfoldable pub soundness : List ℕ → List ℕ → List ℕ → ℕ → Soundness
+soundness document text ws n =
+    let held = length ws / 16 in
+    let r = judged n (firstBad document text (rowsOf n ws) 0 (rowsOf n ws)) in
+    if (ltb 262144 n) (unsound 262144) (if (ltb held n) (unsound held) r)

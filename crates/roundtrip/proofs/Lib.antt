@@ -1,0 +1,2 @@
+-- Laws of written bytes and of reading them.
+-- Assumes nothing.
