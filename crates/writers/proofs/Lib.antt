@@ -1,0 +1,3 @@
+-- The laws of scanning rows and writing items.
+-- Assumes nothing.
+pub mod Scans

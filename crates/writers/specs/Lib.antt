@@ -1,0 +1,3 @@
+-- What the functions that scan rows and write items say.
+-- Assumes nothing.
+pub mod Rows

@@ -1,0 +1,99 @@
+-- Rows of a table by their numbers, and what the functions that look for children say.
+-- Assumes nothing.
+use Prim.Native.Nat.{ℕ, suc, _+_, _-_, _*_, _≤_, _<_}
+use mathlib.Core.Path.{_≡_}
+use mathlib.Core.List.{List, [], _∷_}
+use mathlib.Core.Bool.{Bool, true, false, not, _&&_}
+use lib.Dec.{eqb, ltb}
+use lib.ListN.{length, drop, getD}
+use Rattle.slices.specs.Bytes.{if}
+use Rattle.items.specs.Words.{RowWords, rowOf, rowsOf, viewed, rowsShown}
+use Rattle.items.specs.Content.{Row}
+
+-- word k of row i
+abbrev pub wordAt : List ℕ → ℕ → ℕ → ℕ
+wordAt ws i k = getD ws (i * 16 + k) 0
+
+pub record Word (ws : List ℕ) (i k r : ℕ) : Type 0 where
+  pub is : r ≡ wordAt ws i k
+
+-- row i, with the bytes that it shows
+abbrev pub rowAt : List ℕ → List ℕ → List ℕ → ℕ → Row
+rowAt d x ws i = viewed d x (rowOf (drop (i * 16) ws))
+
+-- the k rows from row i on
+abbrev pub wordsIn : List ℕ → ℕ → ℕ → List RowWords
+wordsIn ws i k = rowsOf k (drop (i * 16) ws)
+
+abbrev pub rowsIn : List ℕ → List ℕ → List ℕ → ℕ → ℕ → List Row
+rowsIn d x ws i k = rowsShown d x (drop (i * 16) ws) k
+
+-- n rows are held, and each parent comes before
+pub record Held (ws : List ℕ) (n : ℕ) : Type 0 where
+  pub few : n ≤ 262144
+  pub held : n * 16 ≤ length ws
+  pub parents : (k : ℕ) → k < n → wordAt ws k 1 ≤ k
+
+-- what is short enough
+pub record Small (d x : List ℕ) : Type 0 where
+  pub document : length d ≤ 1048576
+  pub text : length x ≤ 1048576
+
+-- a row of kind k whose parent's row plus one is p
+abbrev pub isChild : ℕ → ℕ → RowWords → Bool
+isChild k p r = eqb (r .kind) k && eqb (r .parent) p
+
+abbrev pub anyChild : ℕ → ℕ → List RowWords → Bool
+anyChild k p [] = false
+anyChild k p (r ∷ rs) = let t = anyChild k p rs in if (isChild k p r) true t
+
+-- whether row i is a child
+pub record Child (ws : List ℕ) (kind p i : ℕ) (r : Bool) : Type 0 where
+  pub is : r ≡ isChild kind p (rowOf (drop (i * 16) ws))
+
+-- whether a row from one on up to another is a child
+pub record SomeChild (ws : List ℕ) (kind p from to : ℕ) (r : Bool) : Type 0 where
+  pub is : r ≡ anyChild kind p (wordsIn ws from (to - from))
+
+-- r is the first row from a row on whose parent's row plus one is p, or the end
+pub record NextChild (ws : List ℕ) (p from to r : ℕ) : Type 0 where
+  pub onward : from ≤ r
+  pub within : r ≤ to
+  pub none : (k : ℕ) → from ≤ k → k < r → wordAt ws k 1 ≡ p → ⊥
+  pub is : r < to → wordAt ws r 1 ≡ p
+
+-- no row from row r on is a child of row i
+pub record Last (ws : List ℕ) (n i r : ℕ) : Type 0 where
+  pub onward : i < r
+  pub within : r ≤ n
+  pub none : (k : ℕ) → r ≤ k → k < n → wordAt ws k 1 ≡ suc i → ⊥
+
+-- among n rows, what stands in a child of row i stands before the next child
+abbrev pub InOrder : List ℕ → ℕ → ℕ → Type 0
+InOrder ws n i =
+    (j m k : ℕ) →
+    i < j →
+    j < m →
+    m ≤ k →
+    k < n →
+    wordAt ws j 1 ≡ suc i →
+    wordAt ws m 1 ≡ suc i →
+    wordAt ws k 1 ≡ suc j →
+    ⊥
+
+pub record Ordered (ws : List ℕ) (n i : ℕ) (r : Bool) : Type 0 where
+  pub is : r ≡ true → InOrder ws n i
+
+-- row j is a child of row p less one, whose children are in order if `ordered` says so
+pub record ChildOf (ws : List ℕ) (n p j : ℕ) (ordered : Bool) : Type 0 where
+  pub some : 0 < p
+  pub after : p ≤ j
+  pub parent : wordAt ws j 1 ≡ p
+  pub order : ordered ≡ true → (i : ℕ) → p ≡ suc i → InOrder ws n i
+
+-- a row whose parent's row plus one is q stands in a child of row p less one that is not the last
+abbrev pub strays : List ℕ → ℕ → ℕ → ℕ → Bool
+strays ws p last q = ltb p q && eqb (wordAt ws (q - 1) 1) p && not (eqb q (suc last))
+
+pub record Stray (ws : List ℕ) (p last q : ℕ) (r : Bool) : Type 0 where
+  pub is : r ≡ strays ws p last q

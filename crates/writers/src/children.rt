@@ -1,0 +1,110 @@
+// The children of a row: whether there are some, where the next one is, where their own children end.
+ghost use mathlib.Core.Path.{_≡_};
+ghost use Prim.Native.Nat.{_*_, _+_, _≤_, _<_};
+ghost use lib.ListN.{length};
+ghost use Rattle.writers.specs.Rows.{Word, Child, SomeChild, NextChild, Stray, Held, Ordered, ChildOf, Last};
+
+// Word k of row i.
+pub fn word_at(rows: &[u32], i: usize, k: usize) -> u32
+    requires { ⌜ i < 262144 ⌝ ∗ ⌜ k < 16 ⌝ ∗ ⌜ i * 16 + 16 ≤ length (now rows) ⌝ }
+    ensures { λ r. ⌜ Word (now (rows .entry)) i k r ⌝ }
+{
+    rows[i * 16 + k]
+}
+
+// The parent's row of row i, plus one.
+fn parent_at(rows: &[u32], i: usize) -> usize
+    requires { ⌜ i < 262144 ⌝ ∗ ⌜ i * 16 + 16 ≤ length (now rows) ⌝ }
+    ensures { λ r. ⌜ Word (now (rows .entry)) i 1 r ⌝ }
+{
+    word_at(rows, i, 1) as usize
+}
+
+// Whether row i is of a kind, and its parent's row plus one is p.
+pub fn is_child(rows: &[u32], i: usize, kind: u32, p: usize) -> bool
+    requires { ⌜ i < 262144 ⌝ ∗ ⌜ i * 16 + 16 ≤ length (now rows) ⌝ }
+    ensures { λ r. ⌜ Child (now (rows .entry)) kind p i r ⌝ }
+{
+    if word_at(rows, i, 0) == kind {
+        return parent_at(rows, i) == p;
+    }
+    false
+}
+
+// Whether a row from one on up to another is of a kind, and its parent's row plus one is p.
+pub fn has_child(rows: &[u32], from: usize, to: usize, kind: u32, p: usize) -> bool
+    requires { ⌜ from ≤ to ⌝ ∗ ⌜ to ≤ 262144 ⌝ ∗ ⌜ to * 16 ≤ length (now rows) ⌝ }
+    ensures { λ r. ⌜ SomeChild (now (rows .entry)) kind p from to r ⌝ }
+{
+    let mut k = from;
+    while k < to {
+        if is_child(rows, k, kind, p) {
+            return true;
+        }
+        k += 1;
+    }
+    false
+}
+
+// The first row from one on up to another whose parent's row plus one is p, or the other.
+pub fn next_child(rows: &[u32], from: usize, to: usize, p: usize) -> usize
+    requires { ⌜ from ≤ to ⌝ ∗ ⌜ to ≤ 262144 ⌝ ∗ ⌜ to * 16 ≤ length (now rows) ⌝ }
+    ensures { λ r. ⌜ NextChild (now (rows .entry)) p from to r ⌝ }
+{
+    let mut k = from;
+    while k < to {
+        if parent_at(rows, k) == p {
+            return k;
+        }
+        k += 1;
+    }
+    k
+}
+
+// Whether a row whose parent's row plus one is q stands in a child of row p less one that is not the last.
+fn is_stray(rows: &[u32], p: usize, last: usize, q: usize) -> bool
+    requires { ⌜ q ≤ 262144 ⌝ ∗ ⌜ last < 262144 ⌝ ∗ ⌜ q * 16 ≤ length (now rows) ⌝ }
+    ensures { λ r. ⌜ Stray (now (rows .entry)) p last q r ⌝ }
+{
+    if q <= p {
+        return false;
+    }
+    if parent_at(rows, q - 1) == p {
+        return q != last + 1;
+    }
+    false
+}
+
+// Whether what stands in a child of row i stands before the next child.
+pub fn is_ordered(rows: &[u32], n: usize, i: usize) -> bool
+    requires { ⌜ Held (now rows) n ⌝ ∗ ⌜ i < n ⌝ }
+    ensures { λ r. ⌜ Ordered (now (rows .entry)) n i r ⌝ }
+{
+    let p = i + 1;
+    let mut last = i;
+    let mut k = p;
+    while k < n {
+        let q = parent_at(rows, k);
+        if q == p {
+            last = k;
+            k += 1;
+        } else {
+            if is_stray(rows, p, last, q) {
+                return false;
+            }
+            k += 1;
+        }
+    }
+    true
+}
+
+// Where the children of row j end, itself a child of row p less one.
+pub fn last_child(rows: &[u32], n: usize, j: usize, p: usize, ordered: bool) -> usize
+    requires { ⌜ Held (now rows) n ⌝ ∗ ⌜ j < n ⌝ ∗ ⌜ ChildOf (now rows) n p j ordered ⌝ }
+    ensures { λ r. ⌜ Last (now (rows .entry)) n j r ⌝ }
+{
+    if ordered {
+        return next_child(rows, j + 1, n, p);
+    }
+    n
+}

@@ -1,0 +1,2 @@
+// The four writers: method, signal, annotation and arg, from sound rows.
+mod children;
