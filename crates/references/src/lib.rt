@@ -11,7 +11,7 @@ ghost use Rattle.references.specs.Entries.{escaping, unescaping, answerO
 ghost use Rattle.references.specs.Admission.{Admits, Reads, Finishes};
 
 mod digits;
-mod put;
+pub mod put;
 
 // A place in a value, and one in the document.
 pub struct ValuePlace(pub usize);
