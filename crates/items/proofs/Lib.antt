@@ -1,2 +1,3 @@
 -- Laws of the definitions.
 -- Assumes nothing.
+pub mod Rows
