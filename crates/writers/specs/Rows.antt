@@ -34,10 +34,12 @@ pub record Held (ws : List ℕ) (n : ℕ) : Type 0 where
   pub held : n * 16 ≤ length ws
   pub parents : (k : ℕ) → k < n → wordAt ws k 1 ≤ k
 
--- what is short enough
-pub record Small (d x : List ℕ) : Type 0 where
+-- the document and the text are within the limit, and row i is held
+pub record RowHeld (d x ws : List ℕ) (i : ℕ) : Type 0 where
   pub document : length d ≤ 1048576
   pub text : length x ≤ 1048576
+  pub few : i < 262144
+  pub held : i * 16 + 16 ≤ length ws
 
 -- a row of kind k whose parent's row plus one is p
 abbrev pub isChild : ℕ → ℕ → RowWords → Bool
