@@ -18,12 +18,17 @@ use Rattle.scan.specs.Classes.{Classes}
 use Rattle.references.specs.Escape.{escape}
 use Rattle.references.specs.Outcome.{Puts}
 use Rattle.references.proofs.Escapes.{escape-most}
-use Rattle.references.proofs.Putting.{puts-then}
-use Rattle.items.specs.Words.{tripleAt, shownBy, absent}
-use Rattle.items.specs.Written.{tag, writtenAnnotation}
-use Rattle.items.specs.Content.{present}
-use Rattle.writers.specs.Rows.{Word, wordAt, RowHeld}
-use Rattle.writers.specs.Writes.{ShownAt, Puttable, ShownPut, AnnotationPut}
+use Rattle.references.proofs.Putting.{puts-none, puts-then}
+use Rattle.items.specs.Words.{tripleAt, shownBy, absent, viewed}
+use Rattle.items.specs.Written.{Annotation, Pair, pair, pairs, optional, directions, tag, concat, writtenAnnotation}
+use Rattle.items.specs.Content.{present, direction, childOf, annotationOf, annotations}
+use Rattle.writers.specs.Rows.{Word, wordAt, Absent, Child, rowAt, rowsIn, RowHeld}
+use Rattle.writers.proofs.Scans.{rows-one, word-first, word-second, word-third}
+use Rattle.writers.specs.Writes.{ShownAt, Puttable, ShownPut, annotationAt, AnnotationPut, ifAnnotation, IfAnnotationPut, Scannable, annotationsIn, AnnotationsPut, nameAt, ArgNamePut, DirectionPut, ArgTagPut}
+
+-- the same bytes in other words
+pub puts-as : {xs ys t t′ : List ℕ} {n r : ℕ} → xs ≡ ys → Puts xs n t t′ r → Puts ys n t t′ r
+puts-as {t = t} {t′ = t′} {n = n} {r = r} e p = subst (λ l. Puts l n t t′ r) e p
 
 take-short : (n : ℕ) (l : List ℕ) → length (take n l) ≤ length l
 take-short zero l = omega arith
@@ -45,13 +50,8 @@ short-shown d x t h k = short-part d x (resolved d x t) h k
 module _ {d x ws : List ℕ} {i k : ℕ} (h : RowHeld d x ws i) where
   pub shown-is : {a b c : ℕ} {s : List ℕ} → Word ws i k a → Word ws i (k + 1) b → Word ws i (k + 2) c → s ≡ shown d x (record { source = a; start = b; len = c }) → ShownAt d x ws i k s
   shown-is {a} {b} {c} p q r g =
-      let u : k + 1 ≡ suc k = omega arith in
-      let v : k + 2 ≡ suc (suc k) = omega arith in
-      let e : a ≡ getD (drop (i * 16) ws) k 0 = p .is ∙ sym (getD-drop (i * 16) ws k 0) in
-      let f : b ≡ getD (drop (i * 16) ws) (suc k) 0 = q .is ∙ ap (λ j. wordAt ws i j) u ∙ sym (getD-drop (i * 16) ws (suc k) 0) in
-      let o : c ≡ getD (drop (i * 16) ws) (suc (suc k)) 0 = r .is ∙ ap (λ j. wordAt ws i j) v ∙ sym (getD-drop (i * 16) ws (suc (suc k)) 0) in
       record {
-        is = g ∙ ap (shown d x) (λ j. record { source = e j; start = f j; len = o j });
+        is = g ∙ ap (shown d x) (λ j. record { source = word-first k p j; start = word-second k q j; len = word-third k r j });
         short = rw g (short-shown d x (record { source = a; start = b; len = c }) (h .document) (h .text));
       }
 
@@ -91,6 +91,7 @@ unfolding tag
 annotation-bytes n v = ap (λ l. bytes "<annotation name=\"" ++ l) (regroup (escape n) (escape v) (bytes " value=\"") (bytes "/>"))
 
 pub annotation-put : {d x ws t t₁ t₂ t₃ : List ℕ} {i n m l r : ℕ} → ShownPut d x ws i 2 (bytes "<annotation name=\"") n t t₁ m → ShownPut d x ws i 5 (bytes "\" value=\"") m t₁ t₂ l → Puts (bytes "\"/>") l t₂ t₃ r → AnnotationPut d x ws i n t t₃ r
+unfolding annotationAt
 annotation-put {d} {x} {ws} {i = i} p q s =
     let w = drop (i * 16) ws in
     let nm = shown d x (tripleAt 2 w) in
@@ -112,4 +113,150 @@ module _ {d x ws cl : List ℕ} {i n : ℕ} (h : RowHeld d x ws i) (c : Classes 
 pub annotation-end : {d x ws t t₁ t₂ : List ℕ} {i n m : ℕ} (l : ℕ) → n + 16777216 < 2 ^ 62 → ShownPut d x ws i 2 (bytes "<annotation name=\"") n t t₁ m → ShownPut d x ws i 5 (bytes "\" value=\"") m t₁ t₂ l → l + length (bytes "\"/>") < 2 ^ 62
 annotation-end l s p q = omega (arith, s, p .most, q .most)
 
-pub ruleset texts = (shown-is, shown-put, value-room, annotation-name, annotation-value, annotation-end, annotation-put, needs)
+-- one row shown, and those after it
+pub shown-one : (d x ws : List ℕ) (k n : ℕ) → rowsIn d x ws k (suc n) ≡ rowAt d x ws k ∷ rowsIn d x ws (suc k) n
+shown-one d x ws k n = ap (map (viewed d x)) (rows-one ws k n)
+
+module _ {d x ws t t′ : List ℕ} {p i n r : ℕ} {b : Bool} (c : Child ws 6 p i b) where
+  pub annotation-is : b ≡ true → AnnotationPut d x ws i n t t′ r → IfAnnotationPut d x ws p i n t t′ r
+  unfolding ifAnnotation
+  annotation-is f q = record { puts = rw (sym (c .is) ∙ f) (q .puts); most = q .most }
+
+pub annotation-not : {d x ws t : List ℕ} {p i n : ℕ} {b : Bool} → Child ws 6 p i b → b ≡ false → IfAnnotationPut d x ws p i n t t n
+unfolding ifAnnotation
+annotation-not c f = record { puts = rw (sym (c .is) ∙ f) puts-none; most = omega arith }
+
+noted-or : (b : Bool) (a : Annotation) (l : List Annotation) → concat (map writtenAnnotation (if b (a ∷ l) l)) ≡ if b (writtenAnnotation a) [] ++ concat (map writtenAnnotation l)
+noted-or true a l = refl
+noted-or false a l = refl
+
+-- the annotations of a row among the rows from row k on
+one-annotation : (d x ws : List ℕ) (p k to : ℕ) → k < to → annotationsIn d x ws p k to ≡ ifAnnotation d x ws p k ++ annotationsIn d x ws p (suc k) to
+unfolding ifAnnotation annotationAt annotationsIn
+one-annotation d x ws p k to h =
+    let e : to - k ≡ suc (to - suc k) = omega (arith, h) in
+    ap (λ m. concat (map writtenAnnotation (annotations p (rowsIn d x ws k m)))) e
+    ∙ ap (λ l. concat (map writtenAnnotation (annotations p l))) (shown-one d x ws k (to - suc k))
+    ∙ noted-or (childOf 6 p (rowAt d x ws k)) (annotationOf (rowAt d x ws k)) (annotations p (rowsIn d x ws (suc k) (to - suc k)))
+
+no-annotation : (d x ws : List ℕ) (p k to : ℕ) → to - k ≡ 0 → annotationsIn d x ws p k to ≡ []
+unfolding annotationsIn
+no-annotation d x ws p k to e = ap (λ j. concat (map writtenAnnotation (annotations p (rowsIn d x ws k j)))) e
+
+-- a loop over the rows: what is put and what is left are the annotations asked for
+pub record Annotating (d x ws : List ℕ) (p from to n : ℕ) (t₀ t : List ℕ) (k m : ℕ) : Type 0 where
+  pub done : List ℕ
+  pub left : done ++ annotationsIn d x ws p k to ≡ annotationsIn d x ws p from to
+  pub puts : Puts done n t₀ t m
+  pub most : m ≤ n + (k - from) * 16777216
+  pub onward : from ≤ k
+  pub within : k ≤ to
+  pub same : length t ≡ length t₀
+
+pub note-begins : {d x ws t cl : List ℕ} {p from to n : ℕ} → Scannable d x ws from to cl n → Annotating d x ws p from to n t t from n
+note-begins g = record { done = []; left = refl; puts = puts-none; most = omega arith; onward = omega arith; within = g .onward; same = refl }
+
+module _ {d x ws t₀ t : List ℕ} {p from to n k m : ℕ} (g : Annotating d x ws p from to n t₀ t k m) where
+  pub note-ends : to ≤ k → AnnotationsPut d x ws p from to n t₀ t m
+  note-ends h =
+      let e : to - k ≡ 0 = omega (arith, h) in
+      let z : annotationsIn d x ws p k to ≡ [] = no-annotation d x ws p k to e in
+      let f : k ≡ to = omega (arith, h, g .within) in
+      record {
+        puts = puts-as (sym (append-nil (g .done)) ∙ ap (_++_ (g .done)) (sym z) ∙ g .left) (g .puts);
+        most = rw (sym f) (g .most);
+      }
+
+  module _ (h : k < to) where
+    pub note-more : {t′ : List ℕ} {r : ℕ} → length t′ ≡ length t → IfAnnotationPut d x ws p k m t t′ r → Annotating d x ws p from to n t₀ t′ (k + 1) r
+    note-more s q =
+        let e : suc k ≡ k + 1 = omega arith in
+        let one = ifAnnotation d x ws p k in
+        record {
+          done = g .done ++ one;
+          left =
+              ap (λ j. (g .done ++ one) ++ annotationsIn d x ws p j to) (sym e)
+              ∙ append-assoc (g .done) one (annotationsIn d x ws p (suc k) to)
+              ∙ ap (_++_ (g .done)) (sym (one-annotation d x ws p k to h))
+              ∙ g .left;
+          puts = puts-then (g .puts) (q .puts);
+          most = omega (arith, g .most, g .onward, q .most);
+          onward = omega (arith, g .onward);
+          within = omega (arith, h);
+          same = s ∙ g .same;
+        }
+
+    module _ {cl : List ℕ} (w : Scannable d x ws from to cl n) where
+      pub note-held : RowHeld d x ws k
+      note-held = record { document = w .document; text = w .text; few = omega (arith, h, w .few); held = omega (arith, h, w .held) }
+
+      pub note-room : m + 16777216 < 2 ^ 62
+      note-room = omega (arith, h, g .most, g .onward, w .room)
+
+module _ {d x ws : List ℕ} {i n : ℕ} where
+  pub arg-unnamed : {t t′ : List ℕ} {r : ℕ} {b : Bool} → Absent ws i 2 b → b ≡ true → Puts (bytes "<arg") n t t′ r → ArgNamePut d x ws i n t t′ r
+  arg-unnamed a f p = record { puts = rw (sym (a .is) ∙ f) p; most = omega (arith, p .counts) }
+
+  pub arg-named : {t t₁ t₂ : List ℕ} {m r : ℕ} {b : Bool} → Absent ws i 2 b → b ≡ false → ShownPut d x ws i 2 (bytes "<arg name=\"") n t t₁ m → Puts (bytes "\"") m t₁ t₂ r → ArgNamePut d x ws i n t t₂ r
+  arg-named a f p q = record {
+    puts = rw (sym (a .is) ∙ f) (puts-as (name-bytes (shown d x (tripleAt 2 (drop (i * 16) ws)))) (puts-then (p .puts) q));
+    most = omega (arith, p .most, q .counts);
+  }
+    where
+      name-bytes : (s : List ℕ) → (bytes "<arg name=\"" ++ escape s) ++ bytes "\"" ≡ bytes "<arg" ++ pairs (optional (some s))
+      name-bytes s = ap (λ l. bytes "<arg name=\"" ++ l) (sym (append-nil (escape s ++ 34 ∷ [])))
+
+module _ {d x ws cl : List ℕ} {i n : ℕ} (h : RowHeld d x ws i) (c : Classes cl) (s : n + 16777216 < 2 ^ 62) where
+  pub arg-name : Puttable d x ws i 2 cl (bytes "<arg name=\"") n
+  arg-name = record { held = h; word = omega arith; classes = c; room = omega (arith, s) }
+
+  pub arg-type : {t t₁ : List ℕ} {m : ℕ} → ArgNamePut d x ws i n t t₁ m → Puttable d x ws i 5 cl (bytes " type=\"") m
+  arg-type p = record { held = h; word = omega arith; classes = c; room = omega (arith, s, p .most) }
+
+pub name-end : {d x ws t t₁ : List ℕ} {i n : ℕ} (m : ℕ) → n + 16777216 < 2 ^ 62 → ShownPut d x ws i 2 (bytes "<arg name=\"") n t t₁ m → m + length (bytes "\"") < 2 ^ 62
+name-end m s p = omega (arith, s, p .most)
+
+pub arg-start : (n : ℕ) → n + 16777216 < 2 ^ 62 → n + length (bytes "<arg") < 2 ^ 62
+arg-start n s = omega (arith, s)
+
+module _ {ws t t′ : List ℕ} {i n r w : ℕ} (e : Word ws i 14 w) where
+  pub direction-none : w ≡ 0 → Puts (bytes "\"") n t t′ r → DirectionPut ws i n t t′ r
+  direction-none f p = record { puts = rw (sym (e .is) ∙ f) p; most = omega (arith, p .counts) }
+
+  pub direction-inward : w ≡ 1 → Puts (bytes "\" direction=\"in\"") n t t′ r → DirectionPut ws i n t t′ r
+  unfolding escape
+  direction-inward f p = record { puts = rw (sym (e .is) ∙ f) p; most = omega (arith, p .counts) }
+
+  pub direction-outward : (w ≡ 0 → ⊥) → (w ≡ 1 → ⊥) → Puts (bytes "\" direction=\"out\"") n t t′ r → DirectionPut ws i n t t′ r
+  unfolding escape
+  direction-outward f g p =
+      let z : wordAt ws i 14 ≡ suc (suc (w - 2)) = sym (e .is) ∙ omega (arith, f, g) in
+      record { puts = rw z p; most = omega (arith, p .counts) }
+
+pub direction-start : {d x ws t t₁ t₂ : List ℕ} {i n m : ℕ} (l : ℕ) → n + 16777216 < 2 ^ 62 → ArgNamePut d x ws i n t t₁ m → ShownPut d x ws i 5 (bytes " type=\"") m t₁ t₂ l → l + 32 < 2 ^ 62
+direction-start l s p q = omega (arith, s, p .most, q .most)
+
+pairs-append : (ps qs : List Pair) → pairs (ps ++ qs) ≡ pairs ps ++ pairs qs
+pairs-append [] qs = refl
+pairs-append (p ∷ ps) qs = ap (_++_ (pair (p .key) (p .value))) (pairs-append ps qs) ∙ sym (append-assoc (pair (p .key) (p .value)) (pairs ps) (pairs qs))
+
+pub arg-tag : {d x ws t t₁ t₂ t₃ : List ℕ} {i n m l r : ℕ} → ArgNamePut d x ws i n t t₁ m → ShownPut d x ws i 5 (bytes " type=\"") m t₁ t₂ l → DirectionPut ws i l t₂ t₃ r → ArgTagPut d x ws i n t t₃ r
+arg-tag {d} {x} {ws} {i = i} p q s = record {
+  puts = puts-as (tag-bytes (optional (nameAt d x ws i)) (shown d x (tripleAt 5 (drop (i * 16) ws))) (directions (direction (wordAt ws i 14)))) (puts-then (p .puts) (puts-then (q .puts) (s .puts)));
+  most = omega (arith, p .most, q .most, s .most);
+}
+  where
+    inner : (a b c : List ℕ) → a ++ (b ++ (34 ∷ c)) ≡ a ++ ((b ++ 34 ∷ []) ++ c)
+    inner a b c = ap (_++_ a) (sym (append-assoc b (34 ∷ []) c))
+
+    tag-bytes : (ps : List Pair) (v : List ℕ) (qs : List Pair) → (bytes "<arg" ++ pairs ps) ++ ((bytes " type=\"" ++ escape v) ++ (34 ∷ pairs qs)) ≡ bytes "<arg" ++ pairs (ps ++ (record { key = bytes "type"; value = v } ∷ qs))
+    tag-bytes ps v qs =
+        ap (λ l. bytes "<arg" ++ l)
+        (inner (pairs ps) (bytes " type=\"" ++ escape v) (pairs qs)
+        ∙ sym (pairs-append ps (record { key = bytes "type"; value = v } ∷ qs)))
+
+pub ruleset texts = (shown-is, shown-put, value-room, annotation-name, annotation-value, annotation-end, annotation-put, annotation-is, annotation-not, needs)
+
+pub ruleset notes = (note-begins, note-ends, note-more, note-held, note-room, needs)
+
+pub ruleset tags = (arg-unnamed, arg-named, arg-name, arg-type, name-end, arg-start, direction-none, direction-inward, direction-outward, direction-start, arg-tag, needs)

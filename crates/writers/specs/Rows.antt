@@ -7,7 +7,7 @@ use mathlib.Core.Bool.{Bool, true, false, not, _&&_}
 use lib.Dec.{eqb, ltb}
 use lib.ListN.{length, drop, getD}
 use Rattle.slices.specs.Bytes.{if}
-use Rattle.items.specs.Words.{RowWords, rowOf, rowsOf, viewed, rowsShown}
+use Rattle.items.specs.Words.{RowWords, tripleAt, absent, rowOf, rowsOf, viewed, rowsShown}
 use Rattle.items.specs.Content.{Row}
 
 -- word k of row i
@@ -16,6 +16,10 @@ wordAt ws i k = getD ws (i * 16 + k) 0
 
 pub record Word (ws : List ℕ) (i k r : ℕ) : Type 0 where
   pub is : r ≡ wordAt ws i k
+
+-- whether the triple from word k on is absent
+pub record Absent (ws : List ℕ) (i k : ℕ) (r : Bool) : Type 0 where
+  pub is : r ≡ absent (tripleAt k (drop (i * 16) ws))
 
 -- row i, with the bytes that it shows
 abbrev pub rowAt : List ℕ → List ℕ → List ℕ → ℕ → Row

@@ -13,10 +13,10 @@ use Rattle.tables.specs.Triple.{shown}
 use Rattle.scan.specs.Classes.{Classes}
 use Rattle.references.specs.Escape.{escape}
 use Rattle.references.specs.Outcome.{Puts}
-use Rattle.items.specs.Words.{tripleAt, rowsShown}
-use Rattle.items.specs.Written.{Annotation, Arg, Member, pairs, named, argPairs, concat, writtenAnnotation, writtenArg, writtenMember}
-use Rattle.items.specs.Content.{Row, present, direction, annotationOf, annotations, args, memberOf}
-use Rattle.writers.specs.Rows.{rowAt, rowsIn, RowHeld}
+use Rattle.items.specs.Words.{tripleAt, shownBy, rowOf, rowsShown}
+use Rattle.items.specs.Written.{Annotation, Arg, Member, pairs, named, optional, directions, argPairs, concat, writtenAnnotation, writtenArg, writtenMember}
+use Rattle.items.specs.Content.{Row, present, direction, annotationOf, annotations, argOf, args, memberOf}
+use Rattle.writers.specs.Rows.{wordAt, isChild, rowAt, rowsIn, Held, RowHeld, Last}
 
 -- what the triple from word k on of row i shows
 pub record ShownAt (d x ws : List ℕ) (i k : ℕ) (s : List ℕ) : Type 0 where
@@ -36,14 +36,57 @@ pub record ShownPut (d x ws : List ℕ) (i k : ℕ) (before : List ℕ) (n : ℕ
   pub most : r ≤ n + length before + 6291456
 
 -- row i as an annotation
+unfoldable pub annotationAt : List ℕ → List ℕ → List ℕ → ℕ → List ℕ
+annotationAt d x ws i = writtenAnnotation (annotationOf (rowAt d x ws i))
+
 pub record AnnotationPut (d x ws : List ℕ) (i n : ℕ) (t t′ : List ℕ) (r : ℕ) : Type 0 where
-  pub puts : Puts (writtenAnnotation (annotationOf (rowAt d x ws i))) n t t′ r
+  pub puts : Puts (annotationAt d x ws i) n t t′ r
   pub most : r ≤ n + 16777216
 
+-- the same, if it is one of row p less one
+unfoldable pub ifAnnotation : List ℕ → List ℕ → List ℕ → ℕ → ℕ → List ℕ
+ifAnnotation d x ws p i = if (isChild 6 p (rowOf (drop (i * 16) ws))) (annotationAt d x ws i) []
+
+pub record IfAnnotationPut (d x ws : List ℕ) (p i n : ℕ) (t t′ : List ℕ) (r : ℕ) : Type 0 where
+  pub puts : Puts (ifAnnotation d x ws p i) n t t′ r
+  pub most : r ≤ n + 16777216
+
+-- what putting the children of a row needs that stand among the rows from one on up to another: the rows are held, and there
+-- is room for the count
+pub record Scannable (d x ws : List ℕ) (from to : ℕ) (cl : List ℕ) (n : ℕ) : Type 0 where
+  pub document : length d ≤ 1048576
+  pub text : length x ≤ 1048576
+  pub onward : from ≤ to
+  pub few : to ≤ 262144
+  pub held : to * 16 ≤ length ws
+  pub classes : Classes cl
+  pub room : n + (to - from) * 16777216 + 16 < 2 ^ 62
+
 -- the annotations of a row among the rows from one on up to another; p is that row plus one
-abbrev pub annotationsIn : List ℕ → List ℕ → List ℕ → ℕ → ℕ → ℕ → List ℕ
+unfoldable pub annotationsIn : List ℕ → List ℕ → List ℕ → ℕ → ℕ → ℕ → List ℕ
 annotationsIn d x ws p from to = concat (map writtenAnnotation (annotations p (rowsIn d x ws from (to - from))))
 
 pub record AnnotationsPut (d x ws : List ℕ) (p from to n : ℕ) (t t′ : List ℕ) (r : ℕ) : Type 0 where
   pub puts : Puts (annotationsIn d x ws p from to) n t t′ r
   pub most : r ≤ n + (to - from) * 16777216
+
+-- the name of the arg in row i
+abbrev pub nameAt : List ℕ → List ℕ → List ℕ → ℕ → Option (List ℕ)
+nameAt d x ws i = shownBy d x (tripleAt 2 (drop (i * 16) ws))
+
+pub record ArgNamePut (d x ws : List ℕ) (i n : ℕ) (t t′ : List ℕ) (r : ℕ) : Type 0 where
+  pub puts : Puts (bytes "<arg" ++ pairs (optional (nameAt d x ws i))) n t t′ r
+  pub most : r ≤ n + 6291480
+
+pub record DirectionPut (ws : List ℕ) (i n : ℕ) (t t′ : List ℕ) (r : ℕ) : Type 0 where
+  pub puts : Puts (34 ∷ pairs (directions (direction (wordAt ws i 14)))) n t t′ r
+  pub most : r ≤ n + 17
+
+pub record ArgTagPut (d x ws : List ℕ) (i n : ℕ) (t t′ : List ℕ) (r : ℕ) : Type 0 where
+  pub puts : Puts (bytes "<arg" ++ pairs (argPairs (nameAt d x ws i) (shown d x (tripleAt 5 (drop (i * 16) ws))) (direction (wordAt ws i 14)))) n t t′ r
+  pub most : r ≤ n + 12583000
+
+-- row i as an arg of the first m rows, if none from row `to` on is a child of it
+pub record ArgPut (d x ws : List ℕ) (i to n : ℕ) (t t′ : List ℕ) (r : ℕ) : Type 0 where
+  pub puts : (m : ℕ) → Held ws m → Last ws m i to → Puts (writtenArg (argOf (rowsShown d x ws m) i (rowAt d x ws i))) n t t′ r
+  pub most : r ≤ n + (to - i) * 16777216

@@ -2,7 +2,7 @@
 ghost use mathlib.Core.Path.{_≡_};
 ghost use Prim.Native.Nat.{_*_, _+_, _≤_, _<_};
 ghost use lib.ListN.{length};
-ghost use Rattle.writers.specs.Rows.{Word, Child, SomeChild, NextChild, Stray, Held, Ordered, ChildOf, Last};
+ghost use Rattle.writers.specs.Rows.{Word, Absent, Child, SomeChild, NextChild, Stray, Held, Ordered, ChildOf, Last};
 
 // Word k of row i.
 pub fn word_at(rows: &[u32], i: usize, k: usize) -> u32
@@ -18,6 +18,20 @@ fn parent_at(rows: &[u32], i: usize) -> usize
     ensures { λ r. ⌜ Word (now (rows .entry)) i 1 r ⌝ }
 {
     word_at(rows, i, 1) as usize
+}
+
+// Whether the triple from word k on of row i is three zeros.
+pub fn is_absent(rows: &[u32], i: usize, k: usize) -> bool
+    requires { ⌜ i < 262144 ⌝ ∗ ⌜ k ≤ 11 ⌝ ∗ ⌜ i * 16 + 16 ≤ length (now rows) ⌝ }
+    ensures { λ r. ⌜ Absent (now (rows .entry)) i k r ⌝ }
+{
+    if word_at(rows, i, k) != 0 {
+        return false;
+    }
+    if word_at(rows, i, k + 1) != 0 {
+        return false;
+    }
+    word_at(rows, i, k + 2) == 0
 }
 
 // Whether row i is of a kind, and its parent's row plus one is p.

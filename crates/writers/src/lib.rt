@@ -1,8 +1,9 @@
 // The four writers: method, signal, annotation and arg, from sound rows.
-ghost use Prim.Native.Nat.{_+_, _≤_, _<_, _^_};
+ghost use Prim.Native.Nat.{_+_, _*_, _≤_, _<_, _^_};
+ghost use lib.ListN.{length};
 ghost use Rattle.scan.specs.Classes.{Classes};
 ghost use Rattle.writers.specs.Rows.{RowHeld};
-ghost use Rattle.writers.specs.Writes.{ShownAt, Puttable, ShownPut, AnnotationPut};
+ghost use Rattle.writers.specs.Writes.{ShownAt, Puttable, ShownPut, AnnotationPut, IfAnnotationPut, Scannable, AnnotationsPut, ArgNamePut, DirectionPut, ArgTagPut, ArgPut};
 use tables::Triple;
 
 mod children;
@@ -61,4 +62,125 @@ fn put_annotation<'a>(
     let named = put_shown(document, text, rows, i, 2, b"<annotation name=\"", classes, out, n);
     let valued = put_shown(document, text, rows, i, 5, b"\" value=\"", classes, out, named);
     writer::put_text(out, valued, b"\"/>")
+}
+
+// Row i as an annotation, if it is one of row p less one.
+fn put_if_annotation<'a>(
+    document: &'a [u8],
+    text: &'a [u8],
+    rows: &[u32],
+    p: usize,
+    i: usize,
+    classes: &[u8; 256],
+    out: &mut [u8],
+    n: usize,
+) -> usize
+    requires { ⌜ RowHeld (now document) (now text) (now rows) i ⌝ ∗ ⌜ Classes (now classes) ⌝ ∗ ⌜ n + 16777216 < 2 ^ 62 ⌝ }
+    ensures { λ r. ⌜ IfAnnotationPut (now (document .entry)) (now (text .entry)) (now (rows .entry)) p i n (now (out .entry)) (now (out .exit)) r ⌝ }
+{
+    if children::is_child(rows, i, 6, p) {
+        return put_annotation(document, text, rows, i, classes, out, n);
+    }
+    n
+}
+
+// The annotations of row p less one among the rows from one on up to another.
+fn put_annotations<'a>(
+    document: &'a [u8],
+    text: &'a [u8],
+    rows: &[u32],
+    p: usize,
+    from: usize,
+    to: usize,
+    classes: &[u8; 256],
+    out: &mut [u8],
+    n: usize,
+) -> usize
+    requires { ⌜ Scannable (now document) (now text) (now rows) from to (now classes) n ⌝ }
+    ensures { λ r. ⌜ AnnotationsPut (now (document .entry)) (now (text .entry)) (now (rows .entry)) p from to n (now (out .entry)) (now (out .exit)) r ⌝ }
+{
+    let mut m = n;
+    let mut k = from;
+    while k < to {
+        m = put_if_annotation(document, text, rows, p, k, classes, out, m);
+        k += 1;
+    }
+    m
+}
+
+// `<arg`, and its name if it has one.
+fn put_arg_name<'a>(
+    document: &'a [u8],
+    text: &'a [u8],
+    rows: &[u32],
+    i: usize,
+    classes: &[u8; 256],
+    out: &mut [u8],
+    n: usize,
+) -> usize
+    requires { ⌜ RowHeld (now document) (now text) (now rows) i ⌝ ∗ ⌜ Classes (now classes) ⌝ ∗ ⌜ n + 16777216 < 2 ^ 62 ⌝ }
+    ensures { λ r. ⌜ ArgNamePut (now (document .entry)) (now (text .entry)) (now (rows .entry)) i n (now (out .entry)) (now (out .exit)) r ⌝ }
+{
+    if children::is_absent(rows, i, 2) {
+        return writer::put_text(out, n, b"<arg");
+    }
+    let named = put_shown(document, text, rows, i, 2, b"<arg name=\"", classes, out, n);
+    writer::put_text(out, named, b"\"")
+}
+
+// The end of the type's value, and the direction if there is one.
+fn put_direction(rows: &[u32], i: usize, out: &mut [u8], n: usize) -> usize
+    requires { ⌜ i < 262144 ⌝ ∗ ⌜ i * 16 + 16 ≤ length (now rows) ⌝ ∗ ⌜ n + 32 < 2 ^ 62 ⌝ }
+    ensures { λ r. ⌜ DirectionPut (now (rows .entry)) i n (now (out .entry)) (now (out .exit)) r ⌝ }
+{
+    let direction = children::word_at(rows, i, 14);
+    if direction == 0 {
+        return writer::put_text(out, n, b"\"");
+    }
+    if direction == 1 {
+        return writer::put_text(out, n, b"\" direction=\"in\"");
+    }
+    writer::put_text(out, n, b"\" direction=\"out\"")
+}
+
+// The start tag of an arg, up to its end.
+fn put_arg_tag<'a>(
+    document: &'a [u8],
+    text: &'a [u8],
+    rows: &[u32],
+    i: usize,
+    classes: &[u8; 256],
+    out: &mut [u8],
+    n: usize,
+) -> usize
+    requires { ⌜ RowHeld (now document) (now text) (now rows) i ⌝ ∗ ⌜ Classes (now classes) ⌝ ∗ ⌜ n + 16777216 < 2 ^ 62 ⌝ }
+    ensures { λ r. ⌜ ArgTagPut (now (document .entry)) (now (text .entry)) (now (rows .entry)) i n (now (out .entry)) (now (out .exit)) r ⌝ }
+{
+    let named = put_arg_name(document, text, rows, i, classes, out, n);
+    let typed = put_shown(document, text, rows, i, 5, b" type=\"", classes, out, named);
+    put_direction(rows, i, out, typed)
+}
+
+// Row i as an arg; no row from row `to` on is a child of it.
+fn put_arg<'a>(
+    document: &'a [u8],
+    text: &'a [u8],
+    rows: &[u32],
+    i: usize,
+    to: usize,
+    classes: &[u8; 256],
+    out: &mut [u8],
+    n: usize,
+) -> usize
+    requires { ⌜ i < to ⌝ ∗ ⌜ Scannable (now document) (now text) (now rows) i to (now classes) n ⌝ }
+    ensures { λ r. ⌜ ArgPut (now (document .entry)) (now (text .entry)) (now (rows .entry)) i to n (now (out .entry)) (now (out .exit)) r ⌝ }
+{
+    let tagged = put_arg_tag(document, text, rows, i, classes, out, n);
+    let p = i + 1;
+    if children::has_child(rows, p, to, 6, p) {
+        let opened = writer::put_text(out, tagged, b">");
+        let noted = put_annotations(document, text, rows, p, p, to, classes, out, opened);
+        return writer::put_text(out, noted, b"</arg>");
+    }
+    writer::put_text(out, tagged, b"/>")
 }
