@@ -2,3 +2,4 @@
 -- Assumes nothing.
 pub mod Scans
 pub mod Texts
+pub mod Args
