@@ -1,0 +1,3 @@
+-- Laws of the check of sound rows.
+-- Assumes nothing.
+pub mod Uses
