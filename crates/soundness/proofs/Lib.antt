@@ -1,3 +1,4 @@
 -- Laws of the check of sound rows.
 -- Assumes nothing.
 pub mod Uses
+pub mod Triples

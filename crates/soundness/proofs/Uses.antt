@@ -7,7 +7,7 @@ use mathlib.Core.Bool.{Bool, true, false, _&&_}
 use borrow.Author.Needs.{needs}
 use borrow.Author.Tests.{ne-eqb, lt-ltb}
 use native.Mathlib.Omega.{arith}
-use lib.Dec.{T, eqb, leb}
+use lib.Dec.{eqb, leb}
 use Rattle.slices.specs.Bytes.{if}
 use Rattle.names.specs.Names.{interfaceName, memberName, propertyName}
 use Rattle.names.specs.Signature.{signature}
@@ -16,15 +16,11 @@ use Rattle.items.specs.Sound.{validName, validValue, validWord}
 use Rattle.rows.proofs.Shown.{some-empty, some-there}
 use Rattle.soundness.specs.Outcome.{mayLackName, usesValue, usesTp}
 
-is-true : (b : Bool) → T b → true ≡ b
-is-true true h = refl
-is-true false h = absurd h
-
 -- ---- what may stand in what
 
-pub held-one : (k c j : ℕ) → c ≡ j → T (among j (heldBy k)) → true ≡ mayHold k c
+pub held-one : (k c j : ℕ) → c ≡ j → among j (heldBy k) ≡ true → true ≡ mayHold k c
 unfolding mayHold
-held-one k c j e t = rw e (is-true (among j (heldBy k)) t)
+held-one k c j e t = rw (e, t)
 
 module _ (c : ℕ) where
   pub node-none : (c ≡ 1 → ⊥) → (c ≡ 2 → ⊥) → (c ≡ 8 → ⊥) → (c ≡ 9 → ⊥) → (c ≡ 11 → ⊥) → (c ≡ 13 → ⊥) → false ≡ mayHold 1 c
@@ -67,17 +63,17 @@ pub ruleset held = (held-one, node-none, interface-none, method-none, held-by, h
 
 -- ---- which words a kind uses
 
-pub lacks-one : (k j : ℕ) → k ≡ j → T (among j (1 ∷ 7 ∷ [])) → true ≡ mayLackName k
+pub lacks-one : (k j : ℕ) → k ≡ j → among j (1 ∷ 7 ∷ []) ≡ true → true ≡ mayLackName k
 unfolding mayLackName
-lacks-one k j e t = rw e (is-true (among j (1 ∷ 7 ∷ [])) t)
+lacks-one k j e t = rw (e, t)
 
-pub value-one : (k j : ℕ) → k ≡ j → T (among j (4 ∷ 6 ∷ 7 ∷ 8 ∷ 9 ∷ 10 ∷ 12 ∷ [])) → true ≡ usesValue k
+pub value-one : (k j : ℕ) → k ≡ j → among j (4 ∷ 6 ∷ 7 ∷ 8 ∷ 9 ∷ 10 ∷ 12 ∷ []) ≡ true → true ≡ usesValue k
 unfolding usesValue
-value-one k j e t = rw e (is-true (among j (4 ∷ 6 ∷ 7 ∷ 8 ∷ 9 ∷ 10 ∷ 12 ∷ [])) t)
+value-one k j e t = rw (e, t)
 
-pub tp-one : (k j : ℕ) → k ≡ j → T (among j (4 ∷ 7 ∷ 12 ∷ [])) → true ≡ usesTp k
+pub tp-one : (k j : ℕ) → k ≡ j → among j (4 ∷ 7 ∷ 12 ∷ []) ≡ true → true ≡ usesTp k
 unfolding usesTp
-tp-one k j e t = rw e (is-true (among j (4 ∷ 7 ∷ 12 ∷ [])) t)
+tp-one k j e t = rw (e, t)
 
 module _ (k : ℕ) where
   pub lacks-none : (k ≡ 1 → ⊥) → (k ≡ 7 → ⊥) → false ≡ mayLackName k
