@@ -2,3 +2,4 @@
 -- Assumes nothing.
 pub mod Uses
 pub mod Triples
+pub mod Rows

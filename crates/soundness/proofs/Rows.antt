@@ -1,0 +1,142 @@
+-- Rows: their places, their texts, and the first bad one.
+-- Assumes nothing.
+use Prim.Native.Nat.{ℕ, zero, suc, _+_, _*_, _-_, _/_, _≤_, _<_}
+use mathlib.Core.Path.{_≡_, refl, sym, ap, _∙_}
+use mathlib.Core.List.{List, [], _∷_}
+use mathlib.Core.Bool.{Bool, true, false, not, _&&_}
+use borrow.Author.Needs.{needs}
+use borrow.Author.Tests.{ne-eqb, lt-ltb, le-ltb, le-leb, lt-leb, not-true, not-false}
+use native.Mathlib.Nat.{add-zero, div-mul-le-self}
+use native.Mathlib.Numerals.{add-one, add-two}
+use native.Mathlib.Omega.{arith}
+use lib.Dec.{eqb, leb, ltb}
+use lib.ListN.{length, drop, getD}
+use Rattle.slices.specs.Bytes.{if}
+use Rattle.tables.specs.declared.Triple.{Triple}
+use Rattle.names.proofs.Codes.{flag-on, flag-off}
+use Rattle.document.specs.Elements.{mayHold}
+use Rattle.items.specs.Words.{RowWords, tripleAt, rowOf, rowsOf}
+use Rattle.items.specs.Sound.{kindAt, placed, goodTriple, nameUse, valueUse, tpUse, docUse, validName, validValue, anyText, inDocument, validWord, soundRow, firstBad, sound, unsound, soundness}
+use Rattle.items.proofs.Rows.{row-at, rows-past, row-word, row-kind, row-triple, kind-at}
+use Rattle.soundness.specs.Outcome.{goodDoc, goodFront, goodBack, Placed, Front, Back, RowSound, Judges}
+
+pub ruleset words = (add-one, add-two, needs)
+
+-- ---- the place of a row
+
+module _ (ws : List ℕ) (i p : ℕ) (g : p ≡ getD ws (i * 16 + 1) 0) where
+  root : (r : Bool) → i ≡ 0 → r ≡ eqb (getD ws (i * 16) 0) 1 && eqb (getD ws (i * 16 + 1) 0) 0 → Placed ws i r
+  root r e h = record { is = λ n l. rw e (rw e at h) }
+
+  pub root-kind : i ≡ 0 → (getD ws (i * 16) 0 ≡ 1 → ⊥) → Placed ws i false
+  root-kind e h = root false e (rw (ne-eqb (getD ws (i * 16) 0) 1 h))
+
+  pub root-parent : i ≡ 0 → getD ws (i * 16) 0 ≡ 1 → Placed ws i (eqb p 0)
+  root-parent e h = root (eqb p 0) e (rw (h, g))
+
+  -- any other row
+  inner : (i ≡ 0 → ⊥) → (n : ℕ) → placed (rowsOf n ws) i (rowOf (drop (i * 16) ws)) ≡ ltb 0 p && leb p i && mayHold (kindAt (rowsOf n ws) (p - 1)) (getD ws (i * 16) 0)
+  inner h n = go i h
+    where
+      go : (j : ℕ) → (j ≡ 0 → ⊥) → placed (rowsOf n ws) j (rowOf (drop (i * 16) ws)) ≡ ltb 0 p && leb p j && mayHold (kindAt (rowsOf n ws) (p - 1)) (getD ws (i * 16) 0)
+      go zero h = absurd (h refl)
+      go (suc j) h = rw (row-word i 1 ws, row-kind i ws, g)
+
+  module _ (h : i ≡ 0 → ⊥) where
+    pub no-parent : p ≡ 0 → Placed ws i false
+    no-parent e = record { is = λ n l. sym (inner h n ∙ rw e) }
+
+    module _ (o : p ≡ 0 → ⊥) where
+      pub late-parent : i < p → Placed ws i false
+      late-parent e = record { is = λ n l. sym (inner h n ∙ rw (lt-ltb 0 p (omega arith), lt-leb p i e)) }
+
+      pub parent-holds : {r : Bool} → p ≤ i → r ≡ mayHold (getD ws ((p - 1) * 16) 0) (getD ws (i * 16) 0) → Placed ws i r
+      parent-holds e q = record {
+        is = λ n l. q ∙ sym (inner h n ∙ rw (lt-ltb 0 p (omega arith), le-leb p i e, kind-at n (p - 1) ws (omega arith)));
+      }
+
+pub ruleset places = (root-kind, root-parent, no-parent, late-parent, parent-holds, needs)
+
+-- ---- its texts
+
+module _ (d x ws : List ℕ) (i : ℕ) where
+  module _ {t : Triple} {b : Bool} (e : t ≡ tripleAt (i * 16 + 2) ws) (h : b ≡ goodTriple d x (nameUse (getD ws (i * 16) 0)) (validName (getD ws (i * 16) 0)) t) where
+    named : goodTriple d x (nameUse (getD (drop (i * 16) ws) 0 0)) (validName (getD (drop (i * 16) ws) 0 0)) (tripleAt 2 (drop (i * 16) ws)) ≡ b
+    named = sym (rw (row-kind i ws, row-triple i 2 ws, ← e) h)
+
+    pub no-name : not b ≡ true → Front d x ws i false
+    unfolding goodFront
+    no-name q = record { is = rw (named ∙ not-true b q) }
+
+    pub name-and-value : {s : Triple} {r : Bool} → not b ≡ false → s ≡ tripleAt (i * 16 + 5) ws → r ≡ goodTriple d x (valueUse (getD ws (i * 16) 0)) (validValue (getD ws (i * 16) 0)) s → Front d x ws i r
+    unfolding goodFront
+    name-and-value q f v = record { is = rw (named ∙ not-false b q, row-kind i ws, row-triple i 5 ws, ← f) v }
+
+  module _ {t : Triple} {b : Bool} (e : t ≡ tripleAt (i * 16 + 8) ws) (h : b ≡ goodTriple d x (tpUse (getD ws (i * 16) 0)) anyText t) where
+    typed : goodTriple d x (tpUse (getD (drop (i * 16) ws) 0 0)) anyText (tripleAt 8 (drop (i * 16) ws)) ≡ b
+    typed = sym (rw (row-kind i ws, row-triple i 8 ws, ← e) h)
+
+    pub no-tp : not b ≡ true → Back d x ws i false
+    unfolding goodBack
+    no-tp q = record { is = rw (typed ∙ not-true b q) }
+
+    pub tp-and-doc : {s : Triple} {r : Bool} → not b ≡ false → s ≡ tripleAt (i * 16 + 11) ws → r ≡ goodDoc d x (getD ws (i * 16) 0) s → Back d x ws i r
+    unfolding goodBack
+    tp-and-doc q f v = record { is = rw (typed ∙ not-false b q, row-kind i ws, row-triple i 11 ws, ← f) v }
+
+pub ruleset texts = (no-name, name-and-value, no-tp, tp-and-doc, needs)
+
+-- ---- the whole row
+
+and-false : (b : Bool) → b && false ≡ false
+and-false true = refl
+and-false false = refl
+
+-- a row's clauses, as the code takes them
+module _ (d x : List ℕ) (rows : List RowWords) (i : ℕ) (r : RowWords) where
+  grouped : soundRow d x rows i r ≡ placed rows i r && goodFront d x r && goodBack d x r && validWord (r .kind) (r .word) && eqb (r .last) 0
+  unfolding soundRow goodFront goodBack goodDoc
+  grouped =
+      go
+      (placed rows i r)
+      (goodTriple d x (nameUse (r .kind)) (validName (r .kind)) (r .name))
+      (goodTriple d x (valueUse (r .kind)) (validValue (r .kind)) (r .value))
+      (goodTriple d x (tpUse (r .kind)) anyText (r .tp))
+      (goodTriple d x (docUse (r .kind)) anyText (r .doc))
+      (inDocument (r .doc))
+      (validWord (r .kind) (r .word) )
+      (eqb (r .last) 0)
+    where
+      go : (p n v t o s w l : Bool) → p && n && v && t && o && s && w && l ≡ p && (n && v) && (t && (o && s)) && w && l
+      go false n v t o s w l = refl
+      go true false v t o s w l = refl
+      go true true false t o s w l = refl
+      go true true true false o s w l = refl
+      go true true true true o s w l = refl
+
+module _ (d x ws : List ℕ) (i : ℕ) where
+  pub not-placed : {b : Bool} → Placed ws i b → not b ≡ true → RowSound d x ws i false
+  not-placed {b} p q = record { is = λ n l. sym (grouped d x (rowsOf n ws) i (rowOf (drop (i * 16) ws)) ∙ rw (sym (p .is n l) ∙ not-true b q)) }
+
+  pub bad-front : {b : Bool} → Front d x ws i b → not b ≡ true → RowSound d x ws i false
+  bad-front {b} p q = record { is = λ n l. sym (grouped d x (rowsOf n ws) i (rowOf (drop (i * 16) ws)) ∙ rw (sym (p .is) ∙ not-true b q, and-false)) }
+
+  pub bad-back : {b : Bool} → Back d x ws i b → not b ≡ true → RowSound d x ws i false
+  bad-back {b} p q = record { is = λ n l. sym (grouped d x (rowsOf n ws) i (rowOf (drop (i * 16) ws)) ∙ rw (sym (p .is) ∙ not-true b q, and-false)) }
+
+  module _ {w : Bool} (e : w ≡ validWord (getD ws (i * 16) 0) (getD ws (i * 16 + 14) 0)) where
+    word : validWord (getD (drop (i * 16) ws) 0 0) (getD (drop (i * 16) ws) 14 0) ≡ w
+    word = sym (rw (row-kind i ws, row-word i 14 ws) e)
+
+    pub bad-word : not w ≡ true → RowSound d x ws i false
+    bad-word q = record { is = λ n l. sym (grouped d x (rowsOf n ws) i (rowOf (drop (i * 16) ws)) ∙ rw (word ∙ not-true w q, and-false)) }
+
+    pub last-word : {a f b : Bool} → Placed ws i a → not a ≡ false → Front d x ws i f → not f ≡ false → Back d x ws i b → not b ≡ false → not w ≡ false → RowSound d x ws i (eqb (getD ws (i * 16 + 15) 0) 0)
+    last-word {a} {f} {b} p o g h k q u = record {
+      is = λ n l.
+          sym
+          (grouped d x (rowsOf n ws) i (rowOf (drop (i * 16) ws))
+          ∙ rw (sym (p .is n l) ∙ not-false a o, sym (g .is) ∙ not-false f h, sym (k .is) ∙ not-false b q, word ∙ not-false w u, row-word i 15 ws));
+    }
+
+pub ruleset whole = (not-placed, bad-front, bad-back, bad-word, last-word, needs)
