@@ -18,6 +18,7 @@ use Rattle.document.specs.Elements.{mayHold}
 use Rattle.items.specs.Words.{RowWords, tripleAt, rowOf, rowsOf}
 use Rattle.items.specs.Sound.{kindAt, placed, goodTriple, nameUse, valueUse, tpUse, docUse, validName, validValue, anyText, inDocument, validWord, soundRow, firstBad, sound, unsound, soundness}
 use Rattle.items.proofs.Rows.{row-at, rows-past, row-word, row-kind, row-triple, kind-at}
+use Rattle.soundness.specs.declared.Soundness.{Soundness}
 use Rattle.soundness.specs.Outcome.{goodDoc, goodFront, goodBack, Placed, Front, Back, RowSound, Judges}
 
 pub ruleset words = (add-one, add-two, needs)
@@ -140,3 +141,63 @@ module _ (d x ws : List ℕ) (i : ℕ) where
     }
 
 pub ruleset whole = (not-placed, bad-front, bad-back, bad-word, last-word, needs)
+
+-- ---- the first bad row
+
+-- a loop over n rows that stands at row i: what is left of them decides
+pub record Checking (d x ws : List ℕ) (n i : ℕ) : Type 0 where
+  pub left : firstBad d x (rowsOf n ws) 0 (rowsOf n ws) ≡ firstBad d x (rowsOf n ws) i (drop i (rowsOf n ws))
+  pub inside : i ≤ n
+
+pub check-begins : (d x ws : List ℕ) (n : ℕ) → Checking d x ws n 0
+check-begins d x ws n = record { left = refl; inside = omega arith }
+
+module _ {d x ws : List ℕ} {n i : ℕ} (g : Checking d x ws n i) where
+  pub check-ends : n ≤ i → i ≡ firstBad d x (rowsOf n ws) 0 (rowsOf n ws)
+  check-ends h =
+      let e : i ≡ n = omega (arith, g .inside) in
+      sym (g .left ∙ rw (e, rows-past n ws))
+
+  module _ {b : Bool} (h : i < n) (r : RowSound d x ws i b) where
+    pub check-stops : not b ≡ true → i ≡ firstBad d x (rowsOf n ws) 0 (rowsOf n ws)
+    check-stops q = sym (g .left ∙ rw (row-at n i ws h, sym (r .is n h) ∙ not-true b q))
+
+    pub check-more : not b ≡ false → Checking d x ws n (i + 1)
+    check-more q = record { left = g .left ∙ rw (add-one, row-at n i ws h, sym (r .is n h) ∙ not-false b q); inside = omega arith }
+
+pub ruleset checks = (check-begins, check-ends, check-stops, check-more, needs)
+
+-- ---- what is said of the whole
+
+pub held-words : (n : ℕ) (ws : List ℕ) → n ≤ length ws / 16 → n * 16 ≤ length ws
+held-words n ws h = omega (arith, div-mul-le-self (length ws) 16)
+
+module _ (d x ws : List ℕ) (n : ℕ) where
+  pub too-many : 262144 < n → Judges d x ws n (Soundness.Unsound 262144)
+  unfolding soundness
+  too-many h = record { is = rw (lt-ltb 262144 n h) }
+
+  module _ (c : n ≤ 262144) where
+    pub too-few : length ws / 16 < n → Judges d x ws n (Soundness.Unsound (length ws / 16))
+    unfolding soundness
+    too-few h = record { is = rw (le-ltb 262144 n c, lt-ltb (length ws / 16) n h) }
+
+    module _ {b : ℕ} (h : n ≤ length ws / 16) (e : b ≡ firstBad d x (rowsOf n ws) 0 (rowsOf n ws)) where
+      pub one-bad : b < n → Judges d x ws n (Soundness.Unsound b)
+      unfolding soundness
+      one-bad l = record { is = rw (le-ltb 262144 n c, le-ltb (length ws / 16) n h, ← e, lt-ltb b n l) }
+
+      pub all-good : n ≤ b → Judges d x ws n Soundness.Sound
+      unfolding soundness
+      all-good l = record { is = rw (le-ltb 262144 n c, le-ltb (length ws / 16) n h, ← e, le-ltb b n l) }
+
+pub ruleset judges = (held-words, too-many, too-few, one-bad, all-good, needs)
+
+-- ---- for whoever matches on what the check says
+
+module _ {d x ws : List ℕ} {n : ℕ} {r : Soundness} (g : Judges d x ws n r) where
+  pub judged-sound : r ≡ Soundness.Sound → soundness d x ws n ≡ sound
+  judged-sound e = sym ((rw e at g) .is)
+
+  pub judged-unsound : {p : ℕ} → r ≡ Soundness.Unsound p → soundness d x ws n ≡ unsound p
+  judged-unsound e = sym ((rw e at g) .is)
