@@ -48,12 +48,12 @@ module _ (ws : List ℕ) (i p : ℕ) (g : p ≡ getD ws (i * 16 + 1) 0) where
     no-parent e = record { is = λ n l. sym (inner h n ∙ rw e) }
 
     module _ (o : p ≡ 0 → ⊥) where
-      pub late-parent : i < p → Placed ws i false
-      late-parent e = record { is = λ n l. sym (inner h n ∙ rw (lt-ltb 0 p (omega arith), lt-leb p i e)) }
+      pub late-parent : i ≤ p - 1 → Placed ws i false
+      late-parent e = record { is = λ n l. sym (inner h n ∙ rw (lt-ltb 0 p (omega arith), lt-leb p i (omega arith))) }
 
-      pub parent-holds : {r : Bool} → p ≤ i → r ≡ mayHold (getD ws ((p - 1) * 16) 0) (getD ws (i * 16) 0) → Placed ws i r
+      pub parent-holds : {r : Bool} → p - 1 < i → r ≡ mayHold (getD ws ((p - 1) * 16) 0) (getD ws (i * 16) 0) → Placed ws i r
       parent-holds e q = record {
-        is = λ n l. q ∙ sym (inner h n ∙ rw (lt-ltb 0 p (omega arith), le-leb p i e, kind-at n (p - 1) ws (omega arith)));
+        is = λ n l. q ∙ sym (inner h n ∙ rw (lt-ltb 0 p (omega arith), le-leb p i (omega arith), kind-at n (p - 1) ws (omega arith)));
       }
 
 pub ruleset places = (root-kind, root-parent, no-parent, late-parent, parent-holds, needs)
@@ -105,7 +105,7 @@ module _ (d x : List ℕ) (rows : List RowWords) (i : ℕ) (r : RowWords) where
       (goodTriple d x (tpUse (r .kind)) anyText (r .tp))
       (goodTriple d x (docUse (r .kind)) anyText (r .doc))
       (inDocument (r .doc))
-      (validWord (r .kind) (r .word) )
+      (validWord (r .kind) (r .word))
       (eqb (r .last) 0)
     where
       go : (p n v t o s w l : Bool) → p && n && v && t && o && s && w && l ≡ p && (n && v) && (t && (o && s)) && w && l

@@ -51,10 +51,11 @@ fn is_placed(rows: &[u32], i: usize) -> bool
     if parent == 0 {
         return false;
     }
-    if i < parent {
+    let above = parent - 1;
+    if i <= above {
         return false;
     }
-    kinds::may_hold(rows[(parent - 1) * 16], kind)
+    kinds::may_hold(rows[above * 16], kind)
 }
 
 // Words 2-7 of row i: the name and the value that its kind wants.

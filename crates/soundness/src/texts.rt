@@ -1,6 +1,6 @@
 // Triples of a row: absent, or a text that its kind may have there.
-use tables::Triple;
 use super::kinds;
+use tables::Triple;
 ghost use mathlib.Core.Path.{_≡_};
 ghost use mathlib.Core.Bool.{_&&_};
 ghost use Rattle.utf8.specs.WellFormed.{wellFormed};
