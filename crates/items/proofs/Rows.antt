@@ -57,15 +57,15 @@ kind-at (suc n) (suc i) ws h =
 
 -- ---- sound rows
 
-pub and-true : (a b : Bool) → a && b ≡ true → (a ≡ true) × (b ≡ true)
-and-true true b e = (refl, e)
-and-true false b e = (cc, cc)
+pub both-true : (a b : Bool) → a && b ≡ true → (a ≡ true) × (b ≡ true)
+both-true true b e = (refl, e)
+both-true false b e = (cc, cc)
 
 before-it : (rows : List RowWords) (i : ℕ) (r : RowWords) → placed rows i r ≡ true → r .parent ≤ i
-before-it rows zero r e = omega (arith, eqb-true (r .parent) 0 (and-true (eqb (r .kind) 1) (eqb (r .parent) 0) e .1))
+before-it rows zero r e = omega (arith, eqb-true (r .parent) 0 (both-true (eqb (r .kind) 1) (eqb (r .parent) 0) e .1))
 before-it rows (suc i) r e =
-    let p = and-true (ltb 0 (r .parent) && leb (r .parent) (suc i)) (mayHold (kindAt rows (r .parent - 1)) (r .kind)) e in
-    leb-true (r .parent) (suc i) (and-true (ltb 0 (r .parent)) (leb (r .parent) (suc i)) (p .0) .1)
+    let p = both-true (ltb 0 (r .parent) && leb (r .parent) (suc i)) (mayHold (kindAt rows (r .parent - 1)) (r .kind)) e in
+    leb-true (r .parent) (suc i) (both-true (ltb 0 (r .parent)) (leb (r .parent) (suc i)) (p .0) .1)
 
 -- what a sound row is, part by part
 pub record RowIs (d x : List ℕ) (rows : List RowWords) (i : ℕ) (r : RowWords) : Type 0 where
@@ -95,13 +95,13 @@ row-parts d x rows i r e =
   where
     go : {A : Type 0} (p n v t o s w l : Bool) → p && n && v && t && o && s && w && l ≡ true → (p ≡ true → n ≡ true → v ≡ true → t ≡ true → o ≡ true → s ≡ true → w ≡ true → l ≡ true → A) → A
     go p n v t o s w l e f =
-        let a = and-true (p && n && v && t && o && s && w) l e in
-        let b = and-true (p && n && v && t && o && s) w (a .0) in
-        let c = and-true (p && n && v && t && o) s (b .0) in
-        let d = and-true (p && n && v && t) o (c .0) in
-        let e = and-true (p && n && v) t (d .0) in
-        let g = and-true (p && n) v (e .0) in
-        let h = and-true p n (g .0) in
+        let a = both-true (p && n && v && t && o && s && w) l e in
+        let b = both-true (p && n && v && t && o && s) w (a .0) in
+        let c = both-true (p && n && v && t && o) s (b .0) in
+        let d = both-true (p && n && v && t) o (c .0) in
+        let e = both-true (p && n && v) t (d .0) in
+        let g = both-true (p && n) v (e .0) in
+        let h = both-true p n (g .0) in
         f (h .0) (h .1) (g .1) (e .1) (d .1) (c .1) (b .1) (a .1)
 
 module _ (d x : List ℕ) where

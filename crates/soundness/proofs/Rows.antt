@@ -1,19 +1,17 @@
 -- Rows: their places, their texts, and the first bad one.
 -- Assumes nothing.
 use Prim.Native.Nat.{ℕ, zero, suc, _+_, _*_, _-_, _/_, _≤_, _<_}
-use mathlib.Core.Path.{_≡_, refl, sym, ap, _∙_}
-use mathlib.Core.List.{List, [], _∷_}
-use mathlib.Core.Bool.{Bool, true, false, not, _&&_}
+use mathlib.Core.Path.{_≡_, refl, sym, _∙_}
+use mathlib.Core.List.{List}
+use mathlib.Core.Bool.{Bool, true, false, not, _&&_, and-false}
 use borrow.Author.Needs.{needs}
 use borrow.Author.Tests.{ne-eqb, lt-ltb, le-ltb, le-leb, lt-leb, not-true, not-false}
-use native.Mathlib.Nat.{add-zero, div-mul-le-self}
+use native.Mathlib.Nat.{div-mul-le-self}
 use native.Mathlib.Numerals.{add-one, add-two}
 use native.Mathlib.Omega.{arith}
 use lib.Dec.{eqb, leb, ltb}
 use lib.ListN.{length, drop, getD}
-use Rattle.slices.specs.Bytes.{if}
 use Rattle.tables.specs.declared.Triple.{Triple}
-use Rattle.names.proofs.Codes.{flag-on, flag-off}
 use Rattle.document.specs.Elements.{mayHold}
 use Rattle.items.specs.Words.{RowWords, tripleAt, rowOf, rowsOf}
 use Rattle.items.specs.Sound.{kindAt, placed, goodTriple, nameUse, valueUse, tpUse, docUse, validName, validValue, anyText, inDocument, validWord, soundRow, firstBad, sound, unsound, soundness}
@@ -88,10 +86,6 @@ module _ (d x ws : List ℕ) (i : ℕ) where
 pub ruleset texts = (no-name, name-and-value, no-tp, tp-and-doc, needs)
 
 -- ---- the whole row
-
-and-false : (b : Bool) → b && false ≡ false
-and-false true = refl
-and-false false = refl
 
 -- a row's clauses, as the code takes them
 module _ (d x : List ℕ) (rows : List RowWords) (i : ℕ) (r : RowWords) where

@@ -3,10 +3,9 @@
 use Prim.Native.Nat.{ℕ}
 use mathlib.Core.Path.{_≡_, refl, sym, ap, _∙_}
 use mathlib.Core.List.{List, [], _∷_}
-use mathlib.Core.Bool.{Bool, true, false, not, _&&_}
+use mathlib.Core.Bool.{Bool, true, false, not, _&&_, and-true, and-false}
 use borrow.Author.Needs.{needs}
-use borrow.Author.Tests.{eqb-true, eqb-false, eq-eqb, ne-eqb, not-true, not-false}
-use native.Mathlib.Omega.{arith}
+use borrow.Author.Tests.{eqb-true, ne-eqb}
 use lib.Dec.{eqb}
 use lib.ListN.{length}
 use Rattle.slices.specs.Bytes.{if}
@@ -41,10 +40,6 @@ text-inside d x t n e f h g = rw (flag-on e f, g, h)
 
 pub ruleset parts = (absent-source, absent-start, absent-len, text-outside, text-inside, needs)
 
-and-always : (b : Bool) → b && true ≡ b
-and-always true = refl
-and-always false = refl
-
 -- ---- a triple where a kind may or must have one
 
 module _ (d x : List ℕ) (u : Use) (valid : List ℕ → Bool) (t : Triple) where
@@ -75,7 +70,7 @@ module _ (d x : List ℕ) (u : Use) (valid : List ℕ → Bool) (t : Triple) whe
 
   good-any : absent t ≡ false → u .may ≡ true → goodTriple d x u anyText t ≡ isText d x t
   unfolding goodTriple isText
-  good-any e m = rw (e, m) (and-always (inside d x t && wellFormed (shown d x t)))
+  good-any e m = rw (e, m) (and-true (inside d x t && wellFormed (shown d x t)))
 
 -- ---- by kind
 
@@ -172,10 +167,6 @@ pub ruleset typed-texts = (tp-absent, tp-unused, tp-text, needs)
 
 -- ---- docstrings
 
-and-false : (b : Bool) → b && false ≡ false
-and-false true = refl
-and-false false = refl
-
 and-first : (a b c : Bool) → a && b && c ≡ true → a ≡ true
 and-first true b c e = refl
 and-first false b c e = e
@@ -210,6 +201,6 @@ module _ (d x : List ℕ) (k : ℕ) (t : Triple) {a : Bool} (e : a ≡ absent t)
 
     pub doc-text : {r : Bool} → (k ≡ 6 → ⊥) → t .source ≡ 1 → r ≡ isText d x t → r ≡ goodDoc d x k t
     unfolding goodDoc
-    doc-text n q f = f ∙ sym (rw (ne-eqb k 6 n, good-any d x optional anyText t (sym e ∙ h) refl, q, and-always))
+    doc-text n q f = f ∙ sym (rw (ne-eqb k 6 n, good-any d x optional anyText t (sym e ∙ h) refl, q, and-true))
 
 pub ruleset documented = (doc-absent, doc-unused, doc-elsewhere, doc-text, needs)

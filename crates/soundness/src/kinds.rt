@@ -4,6 +4,7 @@ ghost use Rattle.document.specs.Elements.{mayHold, someSignature};
 ghost use Rattle.items.specs.Sound.{validName, validValue, validWord};
 ghost use Rattle.soundness.specs.Outcome.{mayLackName, usesValue, usesTp};
 
+// Whether a row of kind `c` may stand in a node.
 fn node_holds(c: u32) -> bool
     ensures { λ r. ⌜ r ≡ mayHold 1 c ⌝ }
 {
@@ -18,6 +19,7 @@ fn node_holds(c: u32) -> bool
     }
 }
 
+// The same in an interface.
 fn interface_holds(c: u32) -> bool
     ensures { λ r. ⌜ r ≡ mayHold 2 c ⌝ }
 {
@@ -34,7 +36,7 @@ fn interface_holds(c: u32) -> bool
     }
 }
 
-// A method or a signal.
+// The same in a method or a signal.
 fn method_holds(c: u32) -> bool
     ensures { λ r. ⌜ r ≡ mayHold 3 c ⌝ }
 {
@@ -102,6 +104,7 @@ pub fn uses_tp(kind: u32) -> bool
     }
 }
 
+// Whether a text is a name that a kind may have.
 pub fn valid_name(kind: u32, s: &[u8]) -> bool
     ensures { λ r. ⌜ r ≡ validName kind (now (s .entry)) ⌝ }
 {
@@ -124,6 +127,7 @@ fn some_signature(s: &[u8]) -> bool
     names::signature(s)
 }
 
+// Whether a text is a value or a signature that a kind may have.
 pub fn valid_value(kind: u32, s: &[u8]) -> bool
     ensures { λ r. ⌜ r ≡ validValue kind (now (s .entry)) ⌝ }
 {

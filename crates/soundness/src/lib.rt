@@ -28,6 +28,7 @@ fn triple_at(rows: &[u32], at: usize) -> Triple
     }
 }
 
+// A word as a place.
 fn wide(x: u32) -> usize
     ensures { λ r. ⌜ r ≡ x ⌝ }
 {
@@ -84,6 +85,7 @@ fn good_back<'a>(document: &'a [u8], text: &'a [u8], rows: &[u32], i: usize) -> 
     texts::good_doc(document, text, kind, triple_at(rows, base + 11))
 }
 
+// Whether row i is sound.
 fn sound_row<'a>(document: &'a [u8], text: &'a [u8], rows: &[u32], i: usize) -> bool
     requires { ⌜ i * 16 + 16 ≤ length (now rows) ⌝ }
     ensures { λ r. ⌜ RowSound (now (document .entry)) (now (text .entry)) (now (rows .entry)) i r ⌝ }

@@ -2,13 +2,11 @@
 use super::kinds;
 use tables::Triple;
 ghost use mathlib.Core.Path.{_≡_};
-ghost use mathlib.Core.Bool.{_&&_};
-ghost use Rattle.utf8.specs.WellFormed.{wellFormed};
-ghost use Rattle.tables.specs.Triple.{inside, shown};
 ghost use Rattle.items.specs.Words.{absent};
-ghost use Rattle.items.specs.Sound.{goodTriple, nameUse, valueUse, tpUse, docUse, validName, validValue, anyText};
+ghost use Rattle.items.specs.Sound.{goodTriple, nameUse, valueUse, tpUse, validName, validValue, anyText};
 ghost use Rattle.soundness.specs.Outcome.{isText, goodDoc};
 
+// Three zeros.
 fn is_absent(t: Triple) -> bool
     ensures { λ r. ⌜ r ≡ absent t ⌝ }
 {
@@ -32,6 +30,7 @@ fn is_text<'a>(document: &'a [u8], text: &'a [u8], t: Triple) -> bool
     utf8::ill_formed(s) == s.len()
 }
 
+// Words 2-4: the name that a kind must or may have.
 pub fn good_name<'a>(document: &'a [u8], text: &'a [u8], kind: u32, t: Triple) -> bool
     ensures { λ r. ⌜ r ≡ goodTriple (now (document .entry)) (now (text .entry)) (nameUse kind) (validName kind) t ⌝ }
 {
@@ -44,6 +43,7 @@ pub fn good_name<'a>(document: &'a [u8], text: &'a [u8], kind: u32, t: Triple) -
     kinds::valid_name(kind, tables::lookup(document, text, t))
 }
 
+// Words 5-7: the value or signature of the kinds that have one.
 pub fn good_value<'a>(document: &'a [u8], text: &'a [u8], kind: u32, t: Triple) -> bool
     ensures { λ r. ⌜ r ≡ goodTriple (now (document .entry)) (now (text .entry)) (valueUse kind) (validValue kind) t ⌝ }
 {
@@ -59,6 +59,7 @@ pub fn good_value<'a>(document: &'a [u8], text: &'a [u8], kind: u32, t: Triple) 
     kinds::valid_value(kind, tables::lookup(document, text, t))
 }
 
+// Words 8-10: the tp type of the kinds that may have one.
 pub fn good_tp<'a>(document: &'a [u8], text: &'a [u8], kind: u32, t: Triple) -> bool
     ensures { λ r. ⌜ r ≡ goodTriple (now (document .entry)) (now (text .entry)) (tpUse kind) anyText t ⌝ }
 {
@@ -71,7 +72,7 @@ pub fn good_tp<'a>(document: &'a [u8], text: &'a [u8], kind: u32, t: Triple) -> 
     is_text(document, text, t)
 }
 
-// A docstring is in the document.
+// Words 11-13: a docstring, which is in the document.
 pub fn good_doc<'a>(document: &'a [u8], text: &'a [u8], kind: u32, t: Triple) -> bool
     ensures { λ r. ⌜ r ≡ goodDoc (now (document .entry)) (now (text .entry)) kind t ⌝ }
 {
