@@ -6,3 +6,4 @@ pub mod Sound
 pub mod Written
 pub mod Content
 pub mod Writing
+pub mod Cases

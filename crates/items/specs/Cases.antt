@@ -1,0 +1,77 @@
+-- Worked cases: tables, each with what checking it says, or what writing one of its rows answers.
+-- Assumes nothing.
+use Prim.Native.Nat.{ℕ}
+use mathlib.Core.Path.{_≡_, refl}
+use mathlib.Core.List.{List, [], _∷_, _++_, map}
+use lib.ListN.{replicate}
+use Rattle.slices.specs.Bytes.{bytes}
+use Rattle.utf8.specs.WellFormed.{sequence, illFormed}
+use Rattle.names.specs.Names.{interfaceName, memberName}
+use Rattle.names.specs.Signature.{signature}
+use Rattle.tables.specs.Triple.{shown}
+use Rattle.references.specs.Escape.{escape}
+use Rattle.references.specs.Unescape.{Text, text, wrong}
+use Rattle.document.specs.Elements.{mayHold}
+use Rattle.items.specs.Sound.{goodTriple, soundRow, Soundness, sound, unsound, soundness}
+use Rattle.items.specs.Written.{tag, closingTag}
+use Rattle.items.specs.Content.{content}
+use Rattle.items.specs.Writing.{writing}
+
+-- n rows of a table are checked, or row i of them is asked for with some room: the text, the words, n, i, room
+pub data Asked : Type 0 where
+  checks : List ℕ → List ℕ → ℕ → Asked
+  writes : List ℕ → List ℕ → ℕ → ℕ → ℕ → Asked
+
+pub data Result : Type 0 where
+  said : Soundness → Result
+  answered : Text → Result
+
+abbrev pub document : List ℕ
+document = bytes "<node><interface name=\"a.b\"><method name=\"M\"/><x/></interface></node>"
+
+abbrev pub resultFor : Asked → Result
+resultFor (checks x ws n) = said (soundness document x ws n)
+resultFor (writes x ws n i room) = answered (writing document x ws n i room)
+
+-- a node and an interface in it; then its method
+abbrev pub front : List ℕ
+front = 1 ∷ replicate 15 0 ++ (2 ∷ 1 ∷ 1 ∷ 23 ∷ 3 ∷ replicate 11 0)
+
+abbrev pub rows : List ℕ
+rows = front ++ (3 ∷ 2 ∷ 1 ∷ 42 ∷ 1 ∷ replicate 11 0)
+
+-- an arg too, whose parent's row plus one is p: the method is 3, the arg itself 4
+abbrev pub arg : ℕ → List ℕ
+arg p = rows ++ (7 ∷ p ∷ 0 ∷ 0 ∷ 0 ∷ 2 ∷ 3 ∷ 1 ∷ replicate 6 0 ++ (2 ∷ 0 ∷ []))
+
+-- an annotation whose value is in the text
+abbrev pub annotation : List ℕ
+annotation = front ++ (6 ∷ 2 ∷ 1 ∷ 23 ∷ 3 ∷ 2 ∷ 0 ∷ 3 ∷ replicate 8 0)
+
+abbrev pub special : List ℕ
+special = bytes "<\"&s"
+
+abbrev pub cases : List (Asked × Result)
+cases =
+    (checks [] rows 3, said sound)
+    ∷ (checks [] rows 0, said sound)
+    ∷ (checks [] rows 4, said (unsound 3))
+    ∷ (checks [] rows 262145, said (unsound 262144))
+    ∷ (checks special (arg 3) 4, said sound)
+    ∷ (checks special (arg 4) 4, said (unsound 3))
+    ∷ (checks [] (arg 3) 4, said (unsound 3))
+    ∷ (checks special annotation 3, said sound)
+    ∷ (writes [] rows 3 2 18, answered (text (bytes "<method name=\"M\"/>")))
+    ∷ (writes [] rows 3 2 17, answered (wrong 21 18))
+    ∷ (writes [] rows 3 1 18, answered (wrong 20 1))
+    ∷ (writes [] rows 3 3 18, answered (wrong 20 3))
+    ∷ (writes [] [] 0 0 18, answered (wrong 20 0))
+    ∷ (writes [] rows 4 2 18, answered (wrong 19 3))
+    ∷ (writes [] rows 262145 2 18, answered (wrong 19 262144))
+    ∷ (writes special (arg 3) 4 2 64, answered (text (bytes "<method name=\"M\"><arg type=\"s\" direction=\"out\"/></method>")))
+    ∷ (writes special annotation 3 2 64, answered (text (bytes "<annotation name=\"a.b\" value=\"&lt;&quot;&amp;\"/>")))
+    ∷ []
+
+pub worked : map (λ c. resultFor (c .0)) cases ≡ map (λ c. c .1) cases
+unfolding soundness soundRow goodTriple shown mayHold illFormed sequence interfaceName memberName signature writing content tag closingTag escape
+worked = refl

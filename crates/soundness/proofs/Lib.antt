@@ -1,0 +1,5 @@
+-- Laws of the check of sound rows.
+-- Assumes nothing.
+pub mod Uses
+pub mod Triples
+pub mod Rows

@@ -1,0 +1,197 @@
+-- Rows: their places, their texts, and the first bad one.
+-- Assumes nothing.
+use Prim.Native.Nat.{ℕ, zero, suc, _+_, _*_, _-_, _/_, _≤_, _<_}
+use mathlib.Core.Path.{_≡_, refl, sym, _∙_}
+use mathlib.Core.List.{List}
+use mathlib.Core.Bool.{Bool, true, false, not, _&&_, and-false}
+use borrow.Author.Needs.{needs}
+use borrow.Author.Tests.{ne-eqb, lt-ltb, le-ltb, le-leb, lt-leb, not-true, not-false}
+use native.Mathlib.Nat.{div-mul-le-self}
+use native.Mathlib.Numerals.{add-one, add-two}
+use native.Mathlib.Omega.{arith}
+use lib.Dec.{eqb, leb, ltb}
+use lib.ListN.{length, drop, getD}
+use Rattle.tables.specs.declared.Triple.{Triple}
+use Rattle.document.specs.Elements.{mayHold}
+use Rattle.items.specs.Words.{RowWords, tripleAt, rowOf, rowsOf}
+use Rattle.items.specs.Sound.{kindAt, placed, goodTriple, nameUse, valueUse, tpUse, docUse, validName, validValue, anyText, inDocument, validWord, soundRow, firstBad, sound, unsound, soundness}
+use Rattle.items.proofs.Rows.{row-at, rows-past, row-word, row-kind, row-triple, kind-at}
+use Rattle.soundness.specs.declared.Soundness.{Soundness}
+use Rattle.soundness.specs.Outcome.{goodDoc, goodFront, goodBack, Placed, Front, Back, RowSound, Judges}
+
+pub ruleset words = (add-one, add-two, needs)
+
+-- ---- the place of a row
+
+module _ (ws : List ℕ) (i p : ℕ) (g : p ≡ getD ws (i * 16 + 1) 0) where
+  root : (r : Bool) → i ≡ 0 → r ≡ eqb (getD ws (i * 16) 0) 1 && eqb (getD ws (i * 16 + 1) 0) 0 → Placed ws i r
+  root r e h = record { is = λ n l. rw e (rw e at h) }
+
+  pub root-kind : i ≡ 0 → (getD ws (i * 16) 0 ≡ 1 → ⊥) → Placed ws i false
+  root-kind e h = root false e (rw (ne-eqb (getD ws (i * 16) 0) 1 h))
+
+  pub root-parent : i ≡ 0 → getD ws (i * 16) 0 ≡ 1 → Placed ws i (eqb p 0)
+  root-parent e h = root (eqb p 0) e (rw (h, g))
+
+  -- any other row
+  inner : (i ≡ 0 → ⊥) → (n : ℕ) → placed (rowsOf n ws) i (rowOf (drop (i * 16) ws)) ≡ ltb 0 p && leb p i && mayHold (kindAt (rowsOf n ws) (p - 1)) (getD ws (i * 16) 0)
+  inner h n = go i h
+    where
+      go : (j : ℕ) → (j ≡ 0 → ⊥) → placed (rowsOf n ws) j (rowOf (drop (i * 16) ws)) ≡ ltb 0 p && leb p j && mayHold (kindAt (rowsOf n ws) (p - 1)) (getD ws (i * 16) 0)
+      go zero h = absurd (h refl)
+      go (suc j) h = rw (row-word i 1 ws, row-kind i ws, g)
+
+  module _ (h : i ≡ 0 → ⊥) where
+    pub no-parent : p ≡ 0 → Placed ws i false
+    no-parent e = record { is = λ n l. sym (inner h n ∙ rw e) }
+
+    module _ (o : p ≡ 0 → ⊥) where
+      pub late-parent : i ≤ p - 1 → Placed ws i false
+      late-parent e = record { is = λ n l. sym (inner h n ∙ rw (lt-ltb 0 p (omega arith), lt-leb p i (omega arith))) }
+
+      pub parent-holds : {r : Bool} → p - 1 < i → r ≡ mayHold (getD ws ((p - 1) * 16) 0) (getD ws (i * 16) 0) → Placed ws i r
+      parent-holds e q = record {
+        is = λ n l. q ∙ sym (inner h n ∙ rw (lt-ltb 0 p (omega arith), le-leb p i (omega arith), kind-at n (p - 1) ws (omega arith)));
+      }
+
+pub ruleset places = (root-kind, root-parent, no-parent, late-parent, parent-holds, needs)
+
+-- ---- its texts
+
+module _ (d x ws : List ℕ) (i : ℕ) where
+  module _ {t : Triple} {b : Bool} (e : t ≡ tripleAt (i * 16 + 2) ws) (h : b ≡ goodTriple d x (nameUse (getD ws (i * 16) 0)) (validName (getD ws (i * 16) 0)) t) where
+    named : goodTriple d x (nameUse (getD (drop (i * 16) ws) 0 0)) (validName (getD (drop (i * 16) ws) 0 0)) (tripleAt 2 (drop (i * 16) ws)) ≡ b
+    named = sym (rw (row-kind i ws, row-triple i 2 ws, ← e) h)
+
+    pub no-name : not b ≡ true → Front d x ws i false
+    unfolding goodFront
+    no-name q = record { is = rw (named ∙ not-true b q) }
+
+    pub name-and-value : {s : Triple} {r : Bool} → not b ≡ false → s ≡ tripleAt (i * 16 + 5) ws → r ≡ goodTriple d x (valueUse (getD ws (i * 16) 0)) (validValue (getD ws (i * 16) 0)) s → Front d x ws i r
+    unfolding goodFront
+    name-and-value q f v = record { is = rw (named ∙ not-false b q, row-kind i ws, row-triple i 5 ws, ← f) v }
+
+  module _ {t : Triple} {b : Bool} (e : t ≡ tripleAt (i * 16 + 8) ws) (h : b ≡ goodTriple d x (tpUse (getD ws (i * 16) 0)) anyText t) where
+    typed : goodTriple d x (tpUse (getD (drop (i * 16) ws) 0 0)) anyText (tripleAt 8 (drop (i * 16) ws)) ≡ b
+    typed = sym (rw (row-kind i ws, row-triple i 8 ws, ← e) h)
+
+    pub no-tp : not b ≡ true → Back d x ws i false
+    unfolding goodBack
+    no-tp q = record { is = rw (typed ∙ not-true b q) }
+
+    pub tp-and-doc : {s : Triple} {r : Bool} → not b ≡ false → s ≡ tripleAt (i * 16 + 11) ws → r ≡ goodDoc d x (getD ws (i * 16) 0) s → Back d x ws i r
+    unfolding goodBack
+    tp-and-doc q f v = record { is = rw (typed ∙ not-false b q, row-kind i ws, row-triple i 11 ws, ← f) v }
+
+pub ruleset texts = (no-name, name-and-value, no-tp, tp-and-doc, needs)
+
+-- ---- the whole row
+
+-- a row's clauses, as the code takes them
+module _ (d x : List ℕ) (rows : List RowWords) (i : ℕ) (r : RowWords) where
+  grouped : soundRow d x rows i r ≡ placed rows i r && goodFront d x r && goodBack d x r && validWord (r .kind) (r .word) && eqb (r .last) 0
+  unfolding soundRow goodFront goodBack goodDoc
+  grouped =
+      go
+      (placed rows i r)
+      (goodTriple d x (nameUse (r .kind)) (validName (r .kind)) (r .name))
+      (goodTriple d x (valueUse (r .kind)) (validValue (r .kind)) (r .value))
+      (goodTriple d x (tpUse (r .kind)) anyText (r .tp))
+      (goodTriple d x (docUse (r .kind)) anyText (r .doc))
+      (inDocument (r .doc))
+      (validWord (r .kind) (r .word))
+      (eqb (r .last) 0)
+    where
+      go : (p n v t o s w l : Bool) → p && n && v && t && o && s && w && l ≡ p && (n && v) && (t && (o && s)) && w && l
+      go false n v t o s w l = refl
+      go true false v t o s w l = refl
+      go true true false t o s w l = refl
+      go true true true false o s w l = refl
+      go true true true true o s w l = refl
+
+module _ (d x ws : List ℕ) (i : ℕ) where
+  pub not-placed : {b : Bool} → Placed ws i b → not b ≡ true → RowSound d x ws i false
+  not-placed {b} p q = record { is = λ n l. sym (grouped d x (rowsOf n ws) i (rowOf (drop (i * 16) ws)) ∙ rw (sym (p .is n l) ∙ not-true b q)) }
+
+  pub bad-front : {b : Bool} → Front d x ws i b → not b ≡ true → RowSound d x ws i false
+  bad-front {b} p q = record { is = λ n l. sym (grouped d x (rowsOf n ws) i (rowOf (drop (i * 16) ws)) ∙ rw (sym (p .is) ∙ not-true b q, and-false)) }
+
+  pub bad-back : {b : Bool} → Back d x ws i b → not b ≡ true → RowSound d x ws i false
+  bad-back {b} p q = record { is = λ n l. sym (grouped d x (rowsOf n ws) i (rowOf (drop (i * 16) ws)) ∙ rw (sym (p .is) ∙ not-true b q, and-false)) }
+
+  module _ {w : Bool} (e : w ≡ validWord (getD ws (i * 16) 0) (getD ws (i * 16 + 14) 0)) where
+    word : validWord (getD (drop (i * 16) ws) 0 0) (getD (drop (i * 16) ws) 14 0) ≡ w
+    word = sym (rw (row-kind i ws, row-word i 14 ws) e)
+
+    pub bad-word : not w ≡ true → RowSound d x ws i false
+    bad-word q = record { is = λ n l. sym (grouped d x (rowsOf n ws) i (rowOf (drop (i * 16) ws)) ∙ rw (word ∙ not-true w q, and-false)) }
+
+    pub last-word : {a f b : Bool} → Placed ws i a → not a ≡ false → Front d x ws i f → not f ≡ false → Back d x ws i b → not b ≡ false → not w ≡ false → RowSound d x ws i (eqb (getD ws (i * 16 + 15) 0) 0)
+    last-word {a} {f} {b} p o g h k q u = record {
+      is = λ n l.
+          sym
+          (grouped d x (rowsOf n ws) i (rowOf (drop (i * 16) ws))
+          ∙ rw (sym (p .is n l) ∙ not-false a o, sym (g .is) ∙ not-false f h, sym (k .is) ∙ not-false b q, word ∙ not-false w u, row-word i 15 ws));
+    }
+
+pub ruleset whole = (not-placed, bad-front, bad-back, bad-word, last-word, needs)
+
+-- ---- the first bad row
+
+-- a loop over n rows that stands at row i: what is left of them decides
+pub record Checking (d x ws : List ℕ) (n i : ℕ) : Type 0 where
+  pub left : firstBad d x (rowsOf n ws) 0 (rowsOf n ws) ≡ firstBad d x (rowsOf n ws) i (drop i (rowsOf n ws))
+  pub inside : i ≤ n
+
+pub check-begins : (d x ws : List ℕ) (n : ℕ) → Checking d x ws n 0
+check-begins d x ws n = record { left = refl; inside = omega arith }
+
+module _ {d x ws : List ℕ} {n i : ℕ} (g : Checking d x ws n i) where
+  pub check-ends : n ≤ i → i ≡ firstBad d x (rowsOf n ws) 0 (rowsOf n ws)
+  check-ends h =
+      let e : i ≡ n = omega (arith, g .inside) in
+      sym (g .left ∙ rw (e, rows-past n ws))
+
+  module _ {b : Bool} (h : i < n) (r : RowSound d x ws i b) where
+    pub check-stops : not b ≡ true → i ≡ firstBad d x (rowsOf n ws) 0 (rowsOf n ws)
+    check-stops q = sym (g .left ∙ rw (row-at n i ws h, sym (r .is n h) ∙ not-true b q))
+
+    pub check-more : not b ≡ false → Checking d x ws n (i + 1)
+    check-more q = record { left = g .left ∙ rw (add-one, row-at n i ws h, sym (r .is n h) ∙ not-false b q); inside = omega arith }
+
+pub ruleset checks = (check-begins, check-ends, check-stops, check-more, needs)
+
+-- ---- what is said of the whole
+
+pub held-words : (n : ℕ) (ws : List ℕ) → n ≤ length ws / 16 → n * 16 ≤ length ws
+held-words n ws h = omega (arith, div-mul-le-self (length ws) 16)
+
+module _ (d x ws : List ℕ) (n : ℕ) where
+  pub too-many : 262144 < n → Judges d x ws n (Soundness.Unsound 262144)
+  unfolding soundness
+  too-many h = record { is = rw (lt-ltb 262144 n h) }
+
+  module _ (c : n ≤ 262144) where
+    pub too-few : length ws / 16 < n → Judges d x ws n (Soundness.Unsound (length ws / 16))
+    unfolding soundness
+    too-few h = record { is = rw (le-ltb 262144 n c, lt-ltb (length ws / 16) n h) }
+
+    module _ {b : ℕ} (h : n ≤ length ws / 16) (e : b ≡ firstBad d x (rowsOf n ws) 0 (rowsOf n ws)) where
+      pub one-bad : b < n → Judges d x ws n (Soundness.Unsound b)
+      unfolding soundness
+      one-bad l = record { is = rw (le-ltb 262144 n c, le-ltb (length ws / 16) n h, ← e, lt-ltb b n l) }
+
+      pub all-good : n ≤ b → Judges d x ws n Soundness.Sound
+      unfolding soundness
+      all-good l = record { is = rw (le-ltb 262144 n c, le-ltb (length ws / 16) n h, ← e, le-ltb b n l) }
+
+pub ruleset judges = (held-words, too-many, too-few, one-bad, all-good, needs)
+
+-- ---- for whoever matches on what the check says
+
+module _ {d x ws : List ℕ} {n : ℕ} {r : Soundness} (g : Judges d x ws n r) where
+  pub judged-sound : r ≡ Soundness.Sound → soundness d x ws n ≡ sound
+  judged-sound e = sym ((rw e at g) .is)
+
+  pub judged-unsound : {p : ℕ} → r ≡ Soundness.Unsound p → soundness d x ws n ≡ unsound p
+  judged-unsound e = sym ((rw e at g) .is)

@@ -1,0 +1,26 @@
+-- `soundness::first_bad` meets its contract: what is left of the rows decides.
+-- Assumes nothing.
+use Prim.Native.Nat.{_-_}
+use Rattle.soundness.proofs.Rows.{Checking, checks}
+use Rattle.soundness.proofs.first_bad.Statement.{statement}
+use Rattle.soundness.proofs.first_bad.Tie as tie
+
+abbrev Inv-loop : tie.InvT-loop
+Inv-loop document text rows n i₀ i = Checking document text rows n i
+
+abbrev μ-loop : tie.MeasureT-loop
+μ-loop document text rows n i₀ i = n - i
+
+pub first-bad-spec : {M : Type 1} → statement M
+first-bad-spec =
+    tie.close
+    (tie.spec
+    Inv-loop
+    μ-loop
+    (λ c. search checks)
+    (λ c. search checks)
+    (λ c. search checks)
+    (λ c. search checks)
+    (λ c. search checks)
+    (λ c. search checks)
+    (λ c. search checks))

@@ -1,0 +1,3 @@
+-- What the check of sound rows says.
+-- Assumes nothing.
+pub mod Outcome

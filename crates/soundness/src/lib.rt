@@ -1,0 +1,140 @@
+// Whether the rows of a lent table are sound (docs/FORMAT.md, Sound rows).
+use tables::Triple;
+ghost use mathlib.Core.Path.{_≡_};
+ghost use Prim.Native.Nat.{_+_, _*_, _≤_};
+ghost use lib.ListN.{length};
+ghost use Rattle.items.specs.Words.{tripleAt, rowsOf};
+ghost use Rattle.items.specs.Sound.{firstBad};
+ghost use Rattle.soundness.specs.Outcome.{Placed, Front, Back, RowSound, Judges};
+
+mod kinds;
+mod texts;
+
+// What a check says: the rows are sound, or the place of refusal 19.
+pub enum Soundness {
+    Sound,
+    Unsound(usize),
+}
+
+// The triple from a word on.
+fn triple_at(rows: &[u32], at: usize) -> Triple
+    requires { ⌜ «at» + 3 ≤ length (now rows) ⌝ }
+    ensures { λ r. ⌜ r ≡ tripleAt «at» (now (rows .entry)) ⌝ }
+{
+    Triple {
+        source: rows[at],
+        start: rows[at + 1],
+        len: rows[at + 2],
+    }
+}
+
+// A word as a place.
+fn wide(x: u32) -> usize
+    ensures { λ r. ⌜ r ≡ x ⌝ }
+{
+    x as usize
+}
+
+// Row 0 is a node with parent 0; any other row's parent comes before it and may hold its kind.
+fn is_placed(rows: &[u32], i: usize) -> bool
+    requires { ⌜ i * 16 + 16 ≤ length (now rows) ⌝ }
+    ensures { λ r. ⌜ Placed (now (rows .entry)) i r ⌝ }
+{
+    let base = i * 16;
+    let kind = rows[base];
+    let parent = wide(rows[base + 1]);
+    if i == 0 {
+        if kind != 1 {
+            return false;
+        }
+        return parent == 0;
+    }
+    if parent == 0 {
+        return false;
+    }
+    let above = parent - 1;
+    if i <= above {
+        return false;
+    }
+    kinds::may_hold(rows[above * 16], kind)
+}
+
+// Words 2-7 of row i: the name and the value that its kind wants.
+fn good_front<'a>(document: &'a [u8], text: &'a [u8], rows: &[u32], i: usize) -> bool
+    requires { ⌜ i * 16 + 16 ≤ length (now rows) ⌝ }
+    ensures { λ r. ⌜ Front (now (document .entry)) (now (text .entry)) (now (rows .entry)) i r ⌝ }
+{
+    let base = i * 16;
+    let kind = rows[base];
+    if !texts::good_name(document, text, kind, triple_at(rows, base + 2)) {
+        return false;
+    }
+    texts::good_value(document, text, kind, triple_at(rows, base + 5))
+}
+
+// Words 8-13 of row i: the tp type and the docstring that its kind may have.
+fn good_back<'a>(document: &'a [u8], text: &'a [u8], rows: &[u32], i: usize) -> bool
+    requires { ⌜ i * 16 + 16 ≤ length (now rows) ⌝ }
+    ensures { λ r. ⌜ Back (now (document .entry)) (now (text .entry)) (now (rows .entry)) i r ⌝ }
+{
+    let base = i * 16;
+    let kind = rows[base];
+    if !texts::good_tp(document, text, kind, triple_at(rows, base + 8)) {
+        return false;
+    }
+    texts::good_doc(document, text, kind, triple_at(rows, base + 11))
+}
+
+// Whether row i is sound.
+fn sound_row<'a>(document: &'a [u8], text: &'a [u8], rows: &[u32], i: usize) -> bool
+    requires { ⌜ i * 16 + 16 ≤ length (now rows) ⌝ }
+    ensures { λ r. ⌜ RowSound (now (document .entry)) (now (text .entry)) (now (rows .entry)) i r ⌝ }
+{
+    if !is_placed(rows, i) {
+        return false;
+    }
+    if !good_front(document, text, rows, i) {
+        return false;
+    }
+    if !good_back(document, text, rows, i) {
+        return false;
+    }
+    let base = i * 16;
+    if !kinds::valid_word(rows[base], rows[base + 14]) {
+        return false;
+    }
+    rows[base + 15] == 0
+}
+
+// The first bad row, or n.
+fn first_bad<'a>(document: &'a [u8], text: &'a [u8], rows: &[u32], n: usize) -> usize
+    requires { ⌜ n * 16 ≤ length (now rows) ⌝ }
+    ensures { λ r. ⌜ r ≡ firstBad (now (document .entry)) (now (text .entry)) (rowsOf n (now (rows .entry))) 0 (rowsOf n (now (rows .entry))) ⌝ }
+{
+    let mut i = 0;
+    while i < n {
+        if !sound_row(document, text, rows, i) {
+            return i;
+        }
+        i += 1;
+    }
+    i
+}
+
+// Whether the first `claimed` rows of a table are sound.
+pub fn check<'a>(document: &'a [u8], text: &'a [u8], rows: &[u32], claimed: usize) -> Soundness
+    ensures { λ r. ⌜ Judges (now (document .entry)) (now (text .entry)) (now (rows .entry)) claimed r ⌝ }
+{
+    if 262144 < claimed {
+        return Soundness::Unsound(262144);
+    }
+    let held = rows.len() / 16;
+    if held < claimed {
+        return Soundness::Unsound(held);
+    }
+    let bad = first_bad(document, text, rows, claimed);
+    if bad < claimed {
+        return Soundness::Unsound(bad);
+    }
+    Soundness::Sound
+}

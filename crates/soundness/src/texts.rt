@@ -1,0 +1,89 @@
+// Triples of a row: absent, or a text that its kind may have there.
+use super::kinds;
+use tables::Triple;
+ghost use mathlib.Core.Path.{_≡_};
+ghost use Rattle.items.specs.Words.{absent};
+ghost use Rattle.items.specs.Sound.{goodTriple, nameUse, valueUse, tpUse, validName, validValue, anyText};
+ghost use Rattle.soundness.specs.Outcome.{isText, goodDoc};
+
+// Three zeros.
+fn is_absent(t: Triple) -> bool
+    ensures { λ r. ⌜ r ≡ absent t ⌝ }
+{
+    if t.source != 0 {
+        return false;
+    }
+    if t.start != 0 {
+        return false;
+    }
+    t.len == 0
+}
+
+// Whether a triple leads to a part of its buffer that is UTF-8.
+fn is_text<'a>(document: &'a [u8], text: &'a [u8], t: Triple) -> bool
+    ensures { λ r. ⌜ r ≡ isText (now (document .entry)) (now (text .entry)) t ⌝ }
+{
+    if !tables::is_inside(document, text, t) {
+        return false;
+    }
+    let s = tables::lookup(document, text, t);
+    utf8::ill_formed(s) == s.len()
+}
+
+// Words 2-4: the name that a kind must or may have.
+pub fn good_name<'a>(document: &'a [u8], text: &'a [u8], kind: u32, t: Triple) -> bool
+    ensures { λ r. ⌜ r ≡ goodTriple (now (document .entry)) (now (text .entry)) (nameUse kind) (validName kind) t ⌝ }
+{
+    if is_absent(t) {
+        return kinds::may_lack_name(kind);
+    }
+    if !is_text(document, text, t) {
+        return false;
+    }
+    kinds::valid_name(kind, tables::lookup(document, text, t))
+}
+
+// Words 5-7: the value or signature of the kinds that have one.
+pub fn good_value<'a>(document: &'a [u8], text: &'a [u8], kind: u32, t: Triple) -> bool
+    ensures { λ r. ⌜ r ≡ goodTriple (now (document .entry)) (now (text .entry)) (valueUse kind) (validValue kind) t ⌝ }
+{
+    if !kinds::uses_value(kind) {
+        return is_absent(t);
+    }
+    if is_absent(t) {
+        return false;
+    }
+    if !is_text(document, text, t) {
+        return false;
+    }
+    kinds::valid_value(kind, tables::lookup(document, text, t))
+}
+
+// Words 8-10: the tp type of the kinds that may have one.
+pub fn good_tp<'a>(document: &'a [u8], text: &'a [u8], kind: u32, t: Triple) -> bool
+    ensures { λ r. ⌜ r ≡ goodTriple (now (document .entry)) (now (text .entry)) (tpUse kind) anyText t ⌝ }
+{
+    if is_absent(t) {
+        return true;
+    }
+    if !kinds::uses_tp(kind) {
+        return false;
+    }
+    is_text(document, text, t)
+}
+
+// Words 11-13: a docstring, which is in the document.
+pub fn good_doc<'a>(document: &'a [u8], text: &'a [u8], kind: u32, t: Triple) -> bool
+    ensures { λ r. ⌜ r ≡ goodDoc (now (document .entry)) (now (text .entry)) kind t ⌝ }
+{
+    if is_absent(t) {
+        return true;
+    }
+    if kind == 6 {
+        return false;
+    }
+    if t.source != 1 {
+        return false;
+    }
+    is_text(document, text, t)
+}
