@@ -2,3 +2,5 @@
 -- Assumes nothing.
 pub mod Places
 pub mod Tokens
+pub mod Folding
+pub mod Values
