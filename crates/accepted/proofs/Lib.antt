@@ -4,3 +4,4 @@ pub mod Places
 pub mod Tokens
 pub mod Folding
 pub mod Values
+pub mod Triples
