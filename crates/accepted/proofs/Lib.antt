@@ -5,3 +5,5 @@ pub mod Tokens
 pub mod Folding
 pub mod Values
 pub mod Triples
+pub mod Rows
+pub mod Accepted
