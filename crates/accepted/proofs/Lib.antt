@@ -6,4 +6,5 @@ pub mod Folding
 pub mod Values
 pub mod Triples
 pub mod Rows
+pub mod Holding
 pub mod Accepted
