@@ -7,4 +7,5 @@ pub mod Values
 pub mod Triples
 pub mod Rows
 pub mod Holding
+pub mod Entries
 pub mod Accepted
