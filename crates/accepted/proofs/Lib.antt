@@ -8,4 +8,5 @@ pub mod Triples
 pub mod Rows
 pub mod Holding
 pub mod Entries
+pub mod Docstrings
 pub mod Accepted
