@@ -9,4 +9,5 @@ pub mod Rows
 pub mod Holding
 pub mod Entries
 pub mod Docstrings
+pub mod Frames
 pub mod Accepted
