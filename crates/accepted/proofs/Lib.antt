@@ -10,4 +10,5 @@ pub mod Holding
 pub mod Entries
 pub mod Docstrings
 pub mod Frames
+pub mod Entering
 pub mod Accepted
