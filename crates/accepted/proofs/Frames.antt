@@ -38,10 +38,13 @@ placed-agree : (ks js : ℕ → ℕ) (i k p : ℕ) → ((j : ℕ) → j < i → 
 placed-agree ks js zero k p a h = h
 placed-agree ks js (suc i) k p a h = (h .0, h .1, rw (a (p - 1) (omega (arith, h .0, h .1))) at (h .2))
 
-fine-agree : (n : ℕ) (f g : ℕ → Brief) → Agree n f g → (i : ℕ) → i < n → Fine f i → Fine g i
+pub fine-agree : (n : ℕ) (f g : ℕ → Brief) → Agree n f g → (i : ℕ) → i < n → Fine f i → Fine g i
 fine-agree n f g a i l h =
     rw (← a i l)
     (placed-agree (λ j. f j .kind) (λ j. g j .kind) i (f i .kind) (f i .parent) (λ j m. ap (λ (b : Brief). b .kind) (a j (omega arith))) (h .0), h .1, h .2)
+
+pub fine-new : (g : ℕ → Brief) (n k p : ℕ) → g n .kind ≡ k → g n .parent ≡ p → Placed (λ j. g j .kind) n k p → GoodIn (tpUse k) anyText (g n .tp) → validWord k (g n .word) ≡ true → Fine g n
+fine-new g n k p c d h i j = rw (c, d) (h, i, j)
 
 -- ---- open elements, when there are n rows
 

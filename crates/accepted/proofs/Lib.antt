@@ -11,4 +11,5 @@ pub mod Entries
 pub mod Docstrings
 pub mod Frames
 pub mod Entering
+pub mod States
 pub mod Accepted
