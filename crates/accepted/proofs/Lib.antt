@@ -12,4 +12,5 @@ pub mod Docstrings
 pub mod Frames
 pub mod Entering
 pub mod States
+pub mod Soundness
 pub mod Accepted

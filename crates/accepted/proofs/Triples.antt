@@ -71,6 +71,46 @@ unfolding rowWords
 row-words n r rest =
     rw (triple-words n (r .name), triple-words (n + length (textOf (r .name))) (r .value), triple-words (n + length (textOf (r .name)) + length (textOf (r .value))) (r .tp), doc-words (r .doc))
 
+-- ---- where a text stands
+
+-- in x, after n bytes
+pub record Within (x : List ℕ) (n : ℕ) (s : List ℕ) : Type 0 where
+  pub before : List ℕ
+  pub rest : List ℕ
+  pub long : length before ≡ n
+  pub is : x ≡ before ++ (s ++ rest)
+
+-- of two texts, the first and the second
+pub within-first : {x : List ℕ} {n : ℕ} (a b : List ℕ) → Within x n (a ++ b) → Within x n a
+within-first a b w = record { before = w .before; rest = b ++ w .rest; long = w .long; is = w .is ∙ ap (λ (k : List ℕ). w .before ++ k) (append-assoc a b (w .rest)) }
+
+pub within-more : {x : List ℕ} {n : ℕ} (a b : List ℕ) → Within x n (a ++ b) → Within x (n + length a) b
+within-more a b w = record {
+  before = w .before ++ a;
+  rest = w .rest;
+  long = length-append (w .before) a ∙ ap (λ (m : ℕ). m + length a) (w .long);
+  is = w .is ∙ regroup (w .before) a b (w .rest);
+}
+  where
+    regroup : (a b c d : List ℕ) → a ++ ((b ++ c) ++ d) ≡ (a ++ b) ++ (c ++ d)
+    regroup a b c d = simp append-assoc
+
+-- the texts of a row
+module _ {x : List ℕ} {n : ℕ} (r : Row Shown) (w : Within x n (rowText r)) where
+  front : Within x n (textOf (r .name) ++ textOf (r .value))
+  front = within-first (textOf (r .name) ++ textOf (r .value)) (textOf (r .tp)) w
+
+  pub name-within : Within x n (textOf (r .name))
+  name-within = within-first (textOf (r .name)) (textOf (r .value)) front
+
+  pub value-within : Within x (n + length (textOf (r .name))) (textOf (r .value))
+  value-within = within-more (textOf (r .name)) (textOf (r .value)) front
+
+  pub tp-within : Within x (n + length (textOf (r .name)) + length (textOf (r .value))) (textOf (r .tp))
+  tp-within =
+      let e : n + length (textOf (r .name) ++ textOf (r .value)) ≡ n + length (textOf (r .name)) + length (textOf (r .value)) = omega (arith, length-append (textOf (r .name)) (textOf (r .value))) in
+      rw e at (within-more (textOf (r .name) ++ textOf (r .value)) (textOf (r .tp)) w)
+
 -- ---- what a triple leads to
 
 pub record Leads (document x : List ℕ) (t : Triple) (s : List ℕ) : Type 0 where
@@ -89,65 +129,41 @@ module _ (document x : List ℕ) where
       let w : inside document x t ≡ true = rw (le-leb (at + n) (length document) h) in
       record { there = refl; within = w; shows = shown-within document x t w ∙ e }
 
-  leads-text : (n : ℕ) (b s r : List ℕ) → length b ≡ n → x ≡ b ++ (s ++ r) → Leads document x (record { source = 2; start = n; len = length s }) s
-  leads-text n b s r e f =
+  leads-text : (n : ℕ) (s : List ℕ) → Within x n s → Leads document x (record { source = 2; start = n; len = length s }) s
+  leads-text n s v =
       let t : Triple = record { source = 2; start = n; len = length s } in
-      let l : length x ≡ length b + (length s + length r) = ap length f ∙ rw (length-append, length-append) in
-      let w : inside document x t ≡ true = rw (le-leb (n + length s) (length x) (omega arith)) in
-      let q : drop n x ≡ s ++ r = ap (λ (k : List ℕ). drop n k) f ∙ drop-at b (s ++ r) n e in
-      record { there = refl; within = w; shows = shown-within document x t w ∙ rw q (take-at s r (length s) refl) }
+      let l : length x ≡ length (v .before) + (length s + length (v .rest)) = ap length (v .is) ∙ rw (length-append (v .before) (s ++ v .rest), length-append s (v .rest)) in
+      let w : inside document x t ≡ true = rw (le-leb (n + length s) (length x) (omega (arith, v .long))) in
+      let q : drop n x ≡ s ++ v .rest = ap (λ (k : List ℕ). drop n k) (v .is) ∙ drop-at (v .before) (s ++ v .rest) n (v .long) in
+      record { there = refl; within = w; shows = shown-within document x t w ∙ rw q (take-at s (v .rest) (length s) refl) }
 
-  -- b is the text before it, and r what follows it
-  pub leads-value : (n : ℕ) (s : Shown) (b r : List ℕ) → Held document s → length b ≡ n → x ≡ b ++ (textOf (some s) ++ r) → Leads document x (tripleOf n (some s)) (s .value)
-  leads-value n s b r h e f = go (all plain (s .attr .raw)) refl f
+  pub leads-value : (n : ℕ) (s : Shown) → Held document s → Within x n (textOf (some s)) → Leads document x (tripleOf n (some s)) (s .value)
+  leads-value n s h w = go (all plain (s .attr .raw)) refl w
     where
       shows-itself : all plain (s .attr .raw) ≡ true → s .attr .raw ≡ s .value
       shows-itself p =
           let q : text (s .attr .raw) ≡ text (s .value) = sym (unescape-plain (s .attr .raw) p) ∙ h .shows in
           cc
 
-      go : (c : Bool) → all plain (s .attr .raw) ≡ c → x ≡ b ++ (if c [] (s .value) ++ r) → Leads document x (if c (record { source = 1; start = s .attr .valued; len = length (s .attr .raw) }) (record { source = 2; start = n; len = length (s .value) })) (s .value)
-      go true p f = leads-document (s .attr .valued) (length (s .attr .raw)) (s .value) (omega (arith, h .stands .closed .inside)) (h .stands .raw ∙ shows-itself p)
-      go false p f = leads-text n b (s .value) r e f
+      go : (c : Bool) → all plain (s .attr .raw) ≡ c → Within x n (if c [] (s .value)) → Leads document x (if c (record { source = 1; start = s .attr .valued; len = length (s .attr .raw) }) (record { source = 2; start = n; len = length (s .value) })) (s .value)
+      go true p w = leads-document (s .attr .valued) (length (s .attr .raw)) (s .value) (omega (arith, h .stands .closed .inside)) (h .stands .raw ∙ shows-itself p)
+      go false p w = leads-text n (s .value) w
 
   -- ---- what is shown
 
-  shown-value : (n : ℕ) (o : Option Shown) (b r : List ℕ) → HeldIn document o → length b ≡ n → x ≡ b ++ (textOf o ++ r) → shownBy document x (tripleOf n o) ≡ over textShown o
-  shown-value n none b r h e f = refl
-  shown-value n (some s) b r h e f = let l = leads-value n s b r h e f in rw (l .there, l .shows)
+  shown-value : (n : ℕ) (o : Option Shown) → HeldIn document o → Within x n (textOf o) → shownBy document x (tripleOf n o) ≡ over textShown o
+  shown-value n none h w = refl
+  shown-value n (some s) h w = let l = leads-value n s h w in rw (l .there, l .shows)
 
   shown-doc : (o : Option Doc) → docstringBy (docOf o) ≡ o
   shown-doc none = refl
   shown-doc (some d) = refl
 
-  -- where the text of each of a row's values stands
-  pub record Laid (n : ℕ) (r : Row Shown) : Type 0 where
-    pub before : List ℕ
-    pub rest : List ℕ
-    pub long : length before ≡ n
-    pub is : x ≡ before ++ (rowText r ++ rest)
-
-  module _ {n : ℕ} {r : Row Shown} (l : Laid n r) where
-    pub name-laid : x ≡ l .before ++ (textOf (r .name) ++ (textOf (r .value) ++ (textOf (r .tp) ++ l .rest)))
-    name-laid = l .is ∙ simp append-assoc
-
-    pub value-laid : x ≡ (l .before ++ textOf (r .name)) ++ (textOf (r .value) ++ (textOf (r .tp) ++ l .rest))
-    value-laid = l .is ∙ simp append-assoc
-
-    pub tp-laid : x ≡ (l .before ++ textOf (r .name) ++ textOf (r .value)) ++ (textOf (r .tp) ++ l .rest)
-    tp-laid = l .is ∙ simp append-assoc
-
-    pub value-long : length (l .before ++ textOf (r .name)) ≡ n + length (textOf (r .name))
-    value-long = rw length-append (omega (arith, l .long))
-
-    pub tp-long : length (l .before ++ textOf (r .name) ++ textOf (r .value)) ≡ n + length (textOf (r .name)) + length (textOf (r .value))
-    tp-long = rw (length-append, length-append) (omega (arith, l .long))
-
-    pub row-shown : RowHeld document r → viewed document x (wordsOf n r) ≡ viewRow textShown r
-    row-shown h =
-        rw (
-          shown-value n (r .name) (l .before) _ (h .0) (l .long) name-laid,
-          shown-value (n + length (textOf (r .name))) (r .value) (l .before ++ textOf (r .name)) _ (h .1) value-long value-laid,
-          shown-value (n + length (textOf (r .name)) + length (textOf (r .value))) (r .tp) (l .before ++ textOf (r .name) ++ textOf (r .value)) _ (h .2) tp-long tp-laid,
-          shown-doc (r .doc),
-        )
+  pub row-shown : {n : ℕ} (r : Row Shown) → RowHeld document r → Within x n (rowText r) → viewed document x (wordsOf n r) ≡ viewRow textShown r
+  row-shown {n} r h w =
+      rw (
+        shown-value n (r .name) (h .0) (name-within r w),
+        shown-value (n + length (textOf (r .name))) (r .value) (h .1) (value-within r w),
+        shown-value (n + length (textOf (r .name)) + length (textOf (r .value))) (r .tp) (h .2) (tp-within r w),
+        shown-doc (r .doc),
+      )
