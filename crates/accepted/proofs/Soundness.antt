@@ -6,7 +6,7 @@ use mathlib.Core.List.{List, [], _∷_, _++_}
 use mathlib.Core.Option.{Option, none, some}
 use mathlib.Core.Bool.{Bool, true, false, not, _&&_}
 use borrow.Author.Tests.{lt-ltb, le-ltb, le-leb, eq-eqb}
-use native.Mathlib.Nat.{add-zero}
+use native.Mathlib.Nat.{zero-add, add-zero}
 use native.Mathlib.Omega.{arith}
 use lib.Dec.{eqb}
 use lib.ListN.{length, take, drop, length-append}
@@ -15,7 +15,7 @@ use Rattle.tables.specs.Triple.{inside, shown}
 use Rattle.tables.specs.declared.Triple.{Triple}
 use Rattle.references.proofs.Formed.{unescape-formed}
 use Rattle.document.specs.Tags.{Shown}
-use Rattle.document.specs.Rows.{Doc, Row, textOf, rowText, wordsFrom}
+use Rattle.document.specs.Rows.{Doc, Row, textOf, rowText, wordsFrom, texts}
 use Rattle.rows.proofs.Words.{length-wordsFrom}
 use Rattle.items.specs.Words.{RowWords, absent, rowsOf}
 use Rattle.items.specs.Sound.{kindAt, placed, Use, nameUse, valueUse, tpUse, docUse, validName, validValue, anyText, validWord, goodTriple, inDocument, soundRow, firstBad, Soundness, sound, unsound, judged, soundness}
@@ -85,3 +85,28 @@ module _ (doc x : List ℕ) (formed : illFormed doc ≡ length doc) where
         (doc-source (r .doc))
         (b .2)
         refl
+
+  -- ---- all rows
+
+  module _ (rs : List (Row Shown)) (h : Holds doc formed [] rs) where
+    -- the rows from row i on
+    none-bad : (n i : ℕ) (ss : List (Row Shown)) → i + length ss ≡ length rs → ((j : ℕ) → rowAt rs (i + j) ≡ rowAt ss j) → RowsHeld doc ss → DocsIn doc ss → Within x n (texts ss) → firstBad doc x (rowsFrom 0 rs) i (rowsFrom n ss) ≡ length rs
+    unfolding rowAt
+    none-bad n i [] e a v d w = omega arith
+    none-bad n i (r ∷ ss) e a v d w =
+        let s : soundRow doc x (rowsFrom 0 rs) i (wordsOf n r) ≡ true =
+            row-sound (rowsFrom 0 rs) (rowAt rs) (kind-at 0 rs) n i r (rw add-zero at (a 0)) (h .fine i (omega arith)) (h .frames i (omega arith)) (v .0) (d .0) (within-first (rowText r) (texts ss) w) in
+        rw s
+        (none-bad (n + length (rowText r)) (suc i) ss (omega arith) (λ j. let q : suc i + j ≡ i + suc j = omega arith in rw q (a (suc j))) (v .1) (d .1) (within-more (rowText r) (texts ss) w))
+
+    pub words-sound : (z : List ℕ) → length rs ≤ 262144 → RowsHeld doc rs → Within x 0 (texts rs) → soundness doc x (wordsFrom 0 rs ++ z) (length rs) ≡ sound
+    unfolding soundness
+    words-sound z m v w =
+        let l : length (wordsFrom 0 rs ++ z) ≡ length rs * 16 + length z = length-append (wordsFrom 0 rs) z ∙ rw (length-wordsFrom 0 rs) in
+        rw (
+          le-ltb 262144 (length rs) m,
+          le-ltb (length (wordsFrom 0 rs ++ z) / 16) (length rs) (omega arith),
+          rows-words 0 rs z,
+          none-bad 0 0 rs (zero-add (length rs)) (λ j. rw zero-add) v (h .docs) w,
+          le-ltb (length rs) (length rs) (omega arith),
+        )
