@@ -1,7 +1,7 @@
 -- Of a document that is accepted: the rows that the reader leaves show what it read, and they are sound, whatever stands
 -- after them in the buffers lent.
 -- Assumes nothing.
-use Prim.Native.Nat.{ℕ, _-_, _/_, _≤_}
+use Prim.Native.Nat.{ℕ, _-_, _/_}
 use mathlib.Core.Path.{_≡_, refl}
 use mathlib.Core.List.{List, [], _++_, map}
 use mathlib.Core.Bool.{Bool, true, false, _||_}
@@ -17,7 +17,7 @@ use Rattle.items.specs.Words.{rowsShown}
 use Rattle.items.specs.View.{viewRow, textShown}
 use Rattle.items.specs.Sound.{sound, soundness}
 use Rattle.bounds.proofs.Whole.{room}
-use Rattle.accepted.proofs.Folding.{Accepts, meaning-accepts}
+use Rattle.accepted.proofs.Folding.{meaning-accepts}
 use Rattle.accepted.proofs.Values.{accepts-held}
 use Rattle.accepted.proofs.Triples.{Within}
 use Rattle.accepted.proofs.Rows.{rows-words, rows-show}

@@ -1,7 +1,7 @@
 -- A docstring that is kept lies in the document, trimmed, and is UTF-8; no annotation has one.
 -- Assumes nothing.
-use Prim.Native.Nat.{ℕ, zero, suc, _+_, _-_, _≤_, _<_}
-use mathlib.Core.Path.{_≡_, refl, ap, sym, _∙_}
+use Prim.Native.Nat.{ℕ, zero, suc, _+_, _-_, _≤_}
+use mathlib.Core.Path.{_≡_, ap, sym, _∙_}
 use mathlib.Core.List.{List, [], _∷_, _++_}
 use mathlib.Core.Option.{Option, none, some}
 use mathlib.Core.Bool.{false}
@@ -90,5 +90,5 @@ module _ (doc : List ℕ) (h : illFormed doc ≡ length doc) where
         let o = trim-order content content-formed in
         let k : length content ≤ length doc - s = omega (arith, ap length (take-append-drop (lt - s) (drop s doc)), length-append content (drop (lt - s) (drop s doc)), length-drop s doc) in
         let e : take (trimEnd content - trimStart content) (drop (trimStart content) content) ≡ take (trimEnd content - trimStart content) (drop (s + trimStart content) doc) =
-            part-first (drop s doc) (lt - s) (trimStart content) (trimEnd content - trimStart content) (omega (arith, o)) ∙ rw (drop-drop (trimStart content) s doc) in
+        part-first (drop s doc) (lt - s) (trimStart content) (trimEnd content - trimStart content) (omega (arith, o)) ∙ rw (drop-drop (trimStart content) s doc) in
         record { inside = omega (arith, o, a .inside); formed = rw e at (trim-formed content content-formed) }

@@ -1,6 +1,6 @@
 -- A row more, with its open element.
 -- Assumes nothing.
-use Prim.Native.Nat.{ℕ, zero, suc, _+_, _-_, _≤_, _<_}
+use Prim.Native.Nat.{ℕ, zero, suc, _-_, _<_}
 use mathlib.Core.Path.{_≡_, refl, ap, sym, _∙_}
 use mathlib.Core.List.{List, [], _∷_}
 use mathlib.Core.Bool.{Bool, true, false, not, _||_}
@@ -11,7 +11,7 @@ use Rattle.slices.specs.Bytes.{if, bytes}
 use Rattle.utf8.proofs.Sequences.{below}
 use Rattle.document.specs.Tokens.{Tag}
 use Rattle.document.specs.Elements.{among, mayHold, attr}
-use Rattle.document.specs.Reading.{Definition, Purpose, Frame, element, definition, passing, parentOf, tagReason, complete, notedIn, noted, partOf, frameOf}
+use Rattle.document.specs.Reading.{Frame, element, definition, passing, parentOf, tagReason, complete, notedIn, noted, frameOf}
 use Rattle.accepted.proofs.Holding.{never, kinds, definitions, parts, held-kind, part-parent}
 use Rattle.accepted.proofs.Entries.{Brief, Complete, due}
 use Rattle.accepted.proofs.Frames.{Placed, Agree, Frames, frames-agree, frames-more}
@@ -64,14 +64,15 @@ module _ (doc : List ℕ) (n : ℕ) (f g : ℕ → Brief) (a : Agree n f g) (k :
     frames-part [] b q c h = never (rw (b .1) at q)
     frames-part (element y m r ∷ fs) b q c h = never (sym (h .2) ∙ part-parent y k b q)
     frames-part (definition d ∷ fs) b q c h =
-        let j = frames-agree doc n f g (definition d ∷ fs) a h in
-        (omega (arith, h .0),
-        j .1,
-        j .2,
-        (λ w i l m.
-        let v = broken-parts (d .parts .broken) (complete k t) w in
-        below i n (λ x. j .3 (v .0) i l x) (λ x. let y : n ≡ i = omega arith in rw (← y) (c (v .1)))),
-        j .4)
+        let j = frames-agree doc n f g (definition d ∷ fs) a h in (
+          omega (arith, h .0),
+          j .1,
+          j .2,
+          (λ w i l m.
+              let v = broken-parts (d .parts .broken) (complete k t) w in
+              below i n (λ x. j .3 (v .0) i l x) (λ x. let y : n ≡ i = omega arith in rw (← y) (c (v .1)))),
+          j .4,
+        )
     frames-part (passing p ns ∷ fs) b q c h = absurd b
 
     pub frames-entered : (fs : List Frame) → Begins n k fs → (due k t ≡ true → Complete (g n)) → Frames doc n f fs → Frames doc (suc n) g (frameOf k t n ∷ noted k t fs)

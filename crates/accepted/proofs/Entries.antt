@@ -7,16 +7,16 @@ use mathlib.Core.Option.{Option, none, some}
 use mathlib.Core.Bool.{Bool, true, false, not, _&&_}
 use lib.Dec.{eqb, leb, ltb}
 use Rattle.slices.specs.Bytes.{if, bytes, same}
-use Rattle.slices.proofs.Runs.{both}
 use Rattle.names.specs.Names.{interfaceName, memberName, propertyName}
 use Rattle.names.specs.Signature.{signature}
+use Rattle.names.proofs.Names.{and-both}
 use Rattle.document.specs.Tags.{Shown, tpType}
 use Rattle.document.specs.Tokens.{Tag}
 use Rattle.document.specs.Rows.{Row}
 use Rattle.document.specs.Elements.{attr, among, accessOf, directionOf, someSignature, Opened, opens, refuses, kept, row, required, namedRow, propertyRow, annotationRow, directed, argRow, opensAs}
 use Rattle.document.specs.Reading.{tagReason, typeReason, isThere, isSome, complete}
 use Rattle.document.specs.Outcome.{whole}
-use Rattle.items.specs.Sound.{Use, unused, optional, nameUse, valueUse, tpUse, validName, validValue, anyText, validWord}
+use Rattle.items.specs.Sound.{Use, optional, nameUse, valueUse, tpUse, validName, validValue, anyText, validWord}
 use Rattle.items.specs.Sound as items
 use Rattle.bounds.proofs.Branches.{either}
 use Rattle.accepted.proofs.Holding.{never, kinds, definitions, parts, among-each}
@@ -74,11 +74,6 @@ there (some s) e = (refl, refl)
 some-there : (v : List ℕ → Bool) (o : Option Shown) → isSome v o ≡ true → GoodIn items.required v (kept whole o)
 some-there v none e = never e
 some-there v (some s) e = (refl, e)
-
--- a test that passes, taken apart
-and-both : (a b : Bool) → (a && b) ≡ true → (a ≡ true) × (b ≡ true)
-and-both true b e = (refl, e)
-and-both false b e = never e
 
 type-good : (o : Option Shown) → eqb (typeReason o) 0 ≡ true → GoodIn items.required someSignature (kept whole o)
 type-good none e = never e

@@ -1,23 +1,20 @@
 -- Open elements and the rows so far: every row but those of an open definition is sound; and a new row keeps that.
 -- Assumes nothing.
-use Prim.Native.Nat.{ℕ, zero, suc, _+_, _-_, _≤_, _<_}
-use mathlib.Core.Path.{_≡_, refl, ap, sym, _∙_}
+use Prim.Native.Nat.{ℕ, zero, suc, _-_, _≤_, _<_}
+use mathlib.Core.Path.{_≡_, refl, ap}
 use mathlib.Core.List.{List, [], _∷_}
-use mathlib.Core.Bool.{Bool, true, false, not, _||_}
+use mathlib.Core.Bool.{Bool, true, false}
 use borrow.Author.Tests.{eqb-true, eqb-false}
 use native.Mathlib.Omega.{arith}
 use lib.Dec.{eqb}
-use Rattle.slices.specs.Bytes.{if, bytes}
+use Rattle.slices.specs.Bytes.{if}
 use Rattle.utf8.proofs.Sequences.{below}
-use Rattle.document.specs.Tags.{Shown}
-use Rattle.document.specs.Tokens.{Tag}
-use Rattle.document.specs.Rows.{Row}
-use Rattle.document.specs.Elements.{among, mayHold, attr}
-use Rattle.document.specs.Reading.{Definition, Purpose, ignored, captures, Frame, element, definition, passing, parentOf, tagReason, partsReason, reasonOf, complete, notedIn, noted, partOf, frameOf}
+use Rattle.document.specs.Elements.{among, mayHold}
+use Rattle.document.specs.Reading.{Definition, Purpose, ignored, captures, Frame, element, definition, passing, partsReason, reasonOf}
 use Rattle.items.specs.Sound.{tpUse, anyText, validWord}
 use Rattle.accepted.proofs.Tokens.{After}
-use Rattle.accepted.proofs.Holding.{never, definitions, parts, part-parent}
-use Rattle.accepted.proofs.Entries.{GoodIn, Brief, brief, Complete, due, Entry}
+use Rattle.accepted.proofs.Holding.{definitions, parts}
+use Rattle.accepted.proofs.Entries.{GoodIn, Brief, Complete}
 
 -- ---- rows by their numbers
 
@@ -72,12 +69,13 @@ module _ (doc : List ℕ) where
   pub frames-agree : (n : ℕ) (f g : ℕ → Brief) (fs : List Frame) → Agree n f g → Frames n f fs → Frames n g fs
   frames-agree n f g [] a h = λ i l. rw (← a i l) (h i l)
   frames-agree n f g (element k m r ∷ fs) a h = (h .0, rw (← a r (h .0)) (h .1), h .2, frames-agree n f g fs a (h .3))
-  frames-agree n f g (definition d ∷ fs) a h =
-      (h .0,
-      rw (← a (d .row) (h .0)) (h .1),
-      (λ e. rw (← a (d .row) (h .0)) (h .2 e)),
-      (λ e i l m. rw (← a i m) (h .3 e i l m)),
-      frames-agree (d .row) f g fs (λ i l. a i (omega (arith, h .0))) (h .4))
+  frames-agree n f g (definition d ∷ fs) a h = (
+    h .0,
+    rw (← a (d .row) (h .0)) (h .1),
+    (λ e. rw (← a (d .row) (h .0)) (h .2 e)),
+    (λ e i l m. rw (← a i m) (h .3 e i l m)),
+    frames-agree (d .row) f g fs (λ i l. a i (omega (arith, h .0))) (h .4),
+  )
   frames-agree n f g (passing p ns ∷ fs) a h = (aims-agree n f g p a (h .0), frames-agree n f g fs a (h .1))
 
   aims-more : (n m : ℕ) (f : ℕ → Brief) (p : Purpose) → n ≤ m → Aims n f p → Aims m f p

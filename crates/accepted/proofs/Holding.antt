@@ -7,8 +7,8 @@ use mathlib.Core.Bool.{Bool, true, false}
 use borrow.Author.Tests.{eqb-true}
 use native.Mathlib.Omega.{arith}
 use lib.Dec.{eqb}
-use Rattle.slices.specs.Bytes.{if}
-use Rattle.slices.proofs.Runs.{by-byte}
+use Rattle.slices.specs.Bytes.{if, all}
+use Rattle.slices.proofs.Runs.{both, by-byte}
 use Rattle.document.specs.Elements.{among, heldBy, mayHold}
 
 pub never : {A : Type 0} → false ≡ true → A
@@ -37,34 +37,35 @@ among-each P k (x ∷ xs) e h = go (eqb k x) refl e (λ f. among-each P k xs f (
     go true f e i = subst P (sym (eqb-true k x f)) (h .0)
     go false f e i = i e
 
-module _ (P : ℕ → ℕ → Type 0) (h : Each (λ p. Each (P p) (heldBy p)) (1 ∷ 2 ∷ 3 ∷ 5 ∷ 4 ∷ 7 ∷ 9 ∷ 11 ∷ 13 ∷ [])) where
-  held-each : (p c : ℕ) → among c (heldBy p) ≡ true → P p c
-  held-each p c =
-      by-byte Q p 1 (λ e. among-each (P 1) c (heldBy 1) e (h .0))
-      (λ a. by-byte Q p 2 (λ e. among-each (P 2) c (heldBy 2) e (h .1 .0))
-      (λ b. by-byte Q p 3 (λ e. among-each (P 3) c (heldBy 3) e (h .1 .1 .0))
-      (λ d. by-byte Q p 5 (λ e. among-each (P 5) c (heldBy 5) e (h .1 .1 .1 .0))
-      (λ f. by-byte Q p 4 (λ e. among-each (P 4) c (heldBy 4) e (h .1 .1 .1 .1 .0))
-      (λ g. by-byte Q p 7 (λ e. among-each (P 7) c (heldBy 7) e (h .1 .1 .1 .1 .1 .0))
-      (λ i. by-byte Q p 9 (λ e. among-each (P 9) c (heldBy 9) e (h .1 .1 .1 .1 .1 .1 .0))
-      (λ j. by-byte Q p 11 (λ e. among-each (P 11) c (heldBy 11) e (h .1 .1 .1 .1 .1 .1 .1 .0))
-      (λ k. by-byte Q p 13 (λ e. among-each (P 13) c (heldBy 13) e (h .1 .1 .1 .1 .1 .1 .1 .1 .0))
-      (λ l e. never (rw (a, b, d, f, g, i, j, k, l) at e)))))))))) 
+among-all : (q : ℕ → Bool) (k : ℕ) (xs : List ℕ) → all q xs ≡ true → among k xs ≡ true → q k ≡ true
+among-all q k xs h e = among-each (λ x. q x ≡ true) k xs e (go xs h)
+  where
+    go : (xs : List ℕ) → all q xs ≡ true → Each (λ x. q x ≡ true) xs
+    go [] h = tt
+    go (x ∷ xs) h = let t = both (q x) (all q xs) h in (t .0, go xs (t .1))
+
+-- what holds of all that the elements may hold that hold any
+module _ (q : ℕ → ℕ → Bool) where
+  abbrev All : ℕ → Type 0
+  All p = all (q p) (heldBy p) ≡ true
+
+  held-all : All 1 → All 2 → All 3 → All 4 → All 5 → All 7 → All 9 → All 11 → All 13 → (p c : ℕ) → mayHold p c ≡ true → q p c ≡ true
+  unfolding mayHold
+  held-all h i j k l m n o x p c e = among-all (q p) c (heldBy p) every e
     where
-      Q : ℕ → Type 0
-      Q q = among c (heldBy q) ≡ true → P q c
+      every : All p
+      every =
+          by-byte All p 1 h
+          (λ a. by-byte All p 2 i
+          (λ b. by-byte All p 3 j
+          (λ c. by-byte All p 4 k
+          (λ d. by-byte All p 5 l
+          (λ e. by-byte All p 7 m
+          (λ f. by-byte All p 9 n
+          (λ g. by-byte All p 11 o (λ h. by-byte All p 13 x (λ i. rw (a, b, c, d, e, f, g, h, i))))))))))
 
 pub held-kind : (p c : ℕ) → mayHold p c ≡ true → among c kinds ≡ true
-unfolding mayHold
-held-kind p c e =
-    held-each (λ p c. among c kinds ≡ true)
-    ((refl, (refl, (refl, (refl, (refl, (refl, tt)))))), ((refl, (refl, (refl, (refl, (refl, (refl, (refl, (refl, tt)))))))), ((refl, (refl, tt)), ((refl, (refl, tt)), ((refl, tt), ((refl, tt), ((refl, tt), ((refl, tt), ((refl, tt), tt)))))))))
-    p c e
+held-kind = held-all (λ p c. among c kinds) refl refl refl refl refl refl refl refl refl
 
 pub part-parent : (p c : ℕ) → mayHold p c ≡ true → among c parts ≡ true → among p definitions ≡ true
-unfolding mayHold
-part-parent p c e =
-    let n : false ≡ true → false ≡ true = λ f. f in
-    held-each (λ p c. among c parts ≡ true → among p definitions ≡ true)
-    ((n, (n, (n, (n, (n, (n, tt)))))), ((n, (n, (n, (n, (n, (n, (n, (n, tt)))))))), ((n, (n, tt)), ((n, (n, tt)), ((n, tt), ((n, tt), (((λ f. refl), tt), (((λ f. refl), tt), (((λ f. refl), tt), tt)))))))))
-    p c e
+part-parent p c e f = rw f at (held-all (λ p c. if (among c parts) (among p definitions) true) refl refl refl refl refl refl refl refl refl p c e)

@@ -1,31 +1,30 @@
 -- The words of rows that are sound are sound rows.
 -- Assumes nothing.
-use Prim.Native.Nat.{ℕ, zero, suc, _+_, _-_, _/_, _*_, _≤_, _<_}
-use mathlib.Core.Path.{_≡_, refl, ap, sym, _∙_}
+use Prim.Native.Nat.{ℕ, zero, suc, _+_, _-_, _/_, _*_, _≤_}
+use mathlib.Core.Path.{_≡_, refl, _∙_}
 use mathlib.Core.List.{List, [], _∷_, _++_}
 use mathlib.Core.Option.{Option, none, some}
-use mathlib.Core.Bool.{Bool, true, false, not, _&&_}
+use mathlib.Core.Bool.{Bool, true, not, _&&_}
 use borrow.Author.Tests.{lt-ltb, le-ltb, le-leb, eq-eqb}
 use native.Mathlib.Nat.{zero-add, add-zero}
 use native.Mathlib.Omega.{arith}
 use lib.Dec.{eqb}
 use lib.ListN.{length, take, drop, length-append}
-use Rattle.utf8.specs.WellFormed.{illFormed, wellFormed}
-use Rattle.tables.specs.Triple.{inside, shown}
+use Rattle.utf8.specs.WellFormed.{illFormed}
+use Rattle.tables.specs.Triple.{inside}
 use Rattle.tables.specs.declared.Triple.{Triple}
 use Rattle.references.proofs.Formed.{unescape-formed}
 use Rattle.document.specs.Tags.{Shown}
 use Rattle.document.specs.Rows.{Doc, Row, textOf, rowText, wordsFrom, texts}
 use Rattle.rows.proofs.Words.{length-wordsFrom}
-use Rattle.items.specs.Words.{RowWords, absent, rowsOf}
-use Rattle.items.specs.Sound.{kindAt, placed, Use, nameUse, valueUse, tpUse, docUse, validName, validValue, anyText, validWord, goodTriple, inDocument, soundRow, firstBad, Soundness, sound, unsound, judged, soundness}
+use Rattle.items.specs.Words.{RowWords}
+use Rattle.items.specs.Sound.{kindAt, placed, Use, nameUse, valueUse, tpUse, docUse, validName, validValue, anyText, validWord, goodTriple, inDocument, soundRow, firstBad, sound, soundness}
 use Rattle.bounds.proofs.Branches.{either}
-use Rattle.accepted.proofs.Tokens.{Held}
 use Rattle.accepted.proofs.Values.{HeldIn, RowHeld, RowsHeld}
 use Rattle.accepted.proofs.Triples.{tripleOf, docOf, wordsOf, Within, within-first, within-more, name-within, value-within, tp-within, Leads, leads-document, leads-value}
 use Rattle.accepted.proofs.Rows.{rowsFrom, rows-words}
 use Rattle.accepted.proofs.Entries.{GoodIn, Brief, brief, Complete}
-use Rattle.accepted.proofs.Docstrings.{GoodDoc, DocIn, DocsIn, raw-formed}
+use Rattle.accepted.proofs.Docstrings.{DocIn, DocsIn, raw-formed}
 use Rattle.accepted.proofs.Frames.{Placed, Fine}
 use Rattle.accepted.proofs.States.{rowAt, Holds}
 
@@ -95,7 +94,7 @@ module _ (doc x : List ℕ) (formed : illFormed doc ≡ length doc) where
     none-bad n i [] e a v d w = omega arith
     none-bad n i (r ∷ ss) e a v d w =
         let s : soundRow doc x (rowsFrom 0 rs) i (wordsOf n r) ≡ true =
-            row-sound (rowsFrom 0 rs) (rowAt rs) (kind-at 0 rs) n i r (rw add-zero at (a 0)) (h .fine i (omega arith)) (h .frames i (omega arith)) (v .0) (d .0) (within-first (rowText r) (texts ss) w) in
+        row-sound (rowsFrom 0 rs) (rowAt rs) (kind-at 0 rs) n i r (rw add-zero at (a 0)) (h .fine i (omega arith)) (h .frames i (omega arith)) (v .0) (d .0) (within-first (rowText r) (texts ss) w) in
         rw s
         (none-bad (n + length (rowText r)) (suc i) ss (omega arith) (λ j. let q : suc i + j ≡ i + suc j = omega arith in rw q (a (suc j))) (v .1) (d .1) (within-more (rowText r) (texts ss) w))
 

@@ -1,6 +1,6 @@
 -- The rows of a state are sound, but for those of an open definition: every step keeps that.
 -- Assumes nothing.
-use Prim.Native.Nat.{ℕ, zero, suc, _+_, _-_, _≤_, _<_}
+use Prim.Native.Nat.{ℕ, zero, suc, _+_, _-_, _<_}
 use mathlib.Core.Path.{_≡_, refl, ap, sym, _∙_}
 use mathlib.Core.List.{List, [], _∷_, _++_}
 use mathlib.Core.Option.{none}
@@ -22,11 +22,11 @@ use Rattle.document.specs.Reading.{Definition, Purpose, ignored, captures, Fram
 use Rattle.document.specs.Outcome.{whole}
 use Rattle.rows.proofs.Words.{length-documented}
 use Rattle.bounds.proofs.Branches.{either}
-use Rattle.accepted.proofs.Tokens.{After, Before, Starts, Comes}
+use Rattle.accepted.proofs.Tokens.{Before, Starts, Comes}
 use Rattle.accepted.proofs.Folding.{run-kept, Accepts}
 use Rattle.accepted.proofs.Entries.{Brief, brief, Entry, Opens, start-opens}
 use Rattle.accepted.proofs.Docstrings.{DocsIn, docs-more, docs-first, docs-documented, content-good}
-use Rattle.accepted.proofs.Frames.{Placed, Fine, Agree, fine-agree, fine-new, Frames, frames-agree, frames-judged}
+use Rattle.accepted.proofs.Frames.{Fine, Agree, fine-agree, fine-new, Frames, frames-agree, frames-judged}
 use Rattle.accepted.proofs.Entering.{Begins, begins-kind, placed-new, frames-entered}
 
 -- ---- row i of some rows

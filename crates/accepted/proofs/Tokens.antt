@@ -2,15 +2,15 @@
 -- their texts; a start tag ends with `>`, and a closing tag begins with `<`.
 -- Assumes nothing.
 use Prim.Native.Nat.{ℕ, zero, suc, _+_, _-_, _≤_, _<_}
-use mathlib.Core.Path.{_≡_, refl, sym, ap, _∙_}
+use mathlib.Core.Path.{_≡_, refl}
 use mathlib.Core.List.{List, [], _∷_}
-use mathlib.Core.Bool.{Bool, true, false, not, _||_}
+use mathlib.Core.Bool.{Bool, true, false, _||_}
 use borrow.Author.Tests.{eqb-true, not-false}
 use native.Mathlib.Omega.{arith}
 use lib.Dec.{eqb}
 use lib.ListN.{length, take, drop, getD}
 use lib.Seq.{drop-drop}
-use Rattle.slices.specs.Bytes.{if, other, span, past, empty}
+use Rattle.slices.specs.Bytes.{other, span, past, empty}
 use Rattle.slices.proofs.Runs.{Stops}
 use Rattle.scan.specs.Classes.{white, nameByte}
 use Rattle.scan.specs.Ignorable.{quote, markup, further, ignorableFrom, ignorable}
@@ -19,7 +19,7 @@ use Rattle.scan.specs.declared.Scan.the-variants.{Fault, At}
 use Rattle.scan.specs.declared.Markup.{Markup}
 use Rattle.scan.specs.declared.Markup.the-variants as markups
 use Rattle.references.specs.Unescape.{Text, text, wrong, unescape}
-use Rattle.document.specs.Tags.{Attr, Found, absent, found, closeQuote, openQuote, equals, named, spaced, attribute, Gathered, gathered, tooMany, with, another, noMore, gather, Shown, Checked, good, also, member, check}
+use Rattle.document.specs.Tags.{Attr, Found, absent, found, closeQuote, openQuote, equals, spaced, attribute, Gathered, gathered, tooMany, with, another, noMore, gather, Shown, Checked, good, also, member, check}
 use Rattle.document.specs.Tags as tags
 use Rattle.document.specs.Tokens.{Tag, Token, start, close, fault, end, Next, more, last, slashEnd, tagEnd, withShown, withAttrs, opening, closeEnd, closing, tag, tagOrEnd, pastIgnorable, next, joined, tokensFrom, tokens}
 use Rattle.bounds.proofs.Branches.{either}
@@ -100,13 +100,14 @@ module _ (doc : List ℕ) where
       go t (b ∷ r) f s =
           let w = byte-left doc (suc p + length (span (other q) l)) b r f in
           let c = quote-small q t in
-          let d : b ≡ q = eqb-true b q (not-false (eqb b q) s) in
-          (record {
-            raw = span-left doc (other q) (suc p) l m;
-            opened = after-byte p q l e c;
-            closed = record { inside = w .0; byte = omega (arith, w .1) };
-          },
-          next-left doc (suc p + length (span (other q) l)) b r f)
+          let d : b ≡ q = eqb-true b q (not-false (eqb b q) s) in (
+            record {
+              raw = span-left doc (other q) (suc p) l m;
+              opened = after-byte p q l e c;
+              closed = record { inside = w .0; byte = omega (arith, w .1) };
+            },
+            next-left doc (suc p + length (span (other q) l)) b r f,
+          )
 
   equals-finds : (at : ℕ) (n l : List ℕ) (p : ℕ) → drop p doc ≡ l → Finds (equals at n l p)
   equals-finds at n [] p e = tt

@@ -1,7 +1,6 @@
 -- The values that rows keep stand in the document: every step keeps that.
 -- Assumes nothing.
 use Prim.Native.Nat.{ℕ, zero, suc, _-_}
-use mathlib.Core.Path.{_≡_, refl}
 use mathlib.Core.List.{List, [], _∷_, _++_}
 use mathlib.Core.Option.{Option, none, some}
 use mathlib.Core.Bool.{Bool, not, _&&_}
@@ -15,7 +14,7 @@ use Rattle.document.specs.Tags.{Shown, lookup, isTpType, tpType}
 use Rattle.document.specs.Tokens.{Tag, Token, start, close, fault, end}
 use Rattle.document.specs.Rows.{Doc, Row, Tables, documented}
 use Rattle.document.specs.Elements.{attr, kindOf, mayHold, among, accessOf, directionOf, Opened, opens, refuses, kept, row, required, namedRow, propertyRow, annotationRow, directed, argRow, opensAs}
-use Rattle.document.specs.Reading.{Definition, Purpose, ignored, captures, Frame, element, definition, passing, State, begun, reading, accepted, refused, parentOf, nameOf, reasonOf, noted, frameOf, withRow, withWarning, closed, judged, passed, shut, tooDeep, entered, opened, begins, unsupported, docstringIn, child, inner, started, turn, step}
+use Rattle.document.specs.Reading.{Definition, Purpose, ignored, captures, Frame, element, definition, passing, State, begun, reading, accepted, refused, parentOf, nameOf, reasonOf, noted, frameOf, withRow, withWarning, closed, judged, passed, shut, tooDeep, entered, opened, begins, unsupported, docstringIn, child, started, turn, step}
 use Rattle.document.specs.Outcome.{whole}
 use Rattle.bounds.proofs.Branches.{either}
 use Rattle.accepted.proofs.Tokens.{Held, AllHeld, Starts, Comes}
