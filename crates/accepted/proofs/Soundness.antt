@@ -1,0 +1,111 @@
+-- The words of rows that are sound are sound rows.
+-- Assumes nothing.
+use Prim.Native.Nat.{ℕ, zero, suc, _+_, _-_, _/_, _*_, _≤_}
+use mathlib.Core.Path.{_≡_, refl, _∙_}
+use mathlib.Core.List.{List, [], _∷_, _++_}
+use mathlib.Core.Option.{Option, none, some}
+use mathlib.Core.Bool.{Bool, true, not, _&&_}
+use borrow.Author.Tests.{lt-ltb, le-ltb, le-leb, eq-eqb}
+use native.Mathlib.Nat.{zero-add, add-zero}
+use native.Mathlib.Omega.{arith}
+use lib.Dec.{eqb}
+use lib.ListN.{length, take, drop, length-append}
+use Rattle.utf8.specs.WellFormed.{illFormed}
+use Rattle.tables.specs.Triple.{inside}
+use Rattle.tables.specs.declared.Triple.{Triple}
+use Rattle.references.proofs.Formed.{unescape-formed}
+use Rattle.document.specs.Tags.{Shown}
+use Rattle.document.specs.Rows.{Doc, Row, textOf, rowText, wordsFrom, texts}
+use Rattle.rows.proofs.Words.{length-wordsFrom}
+use Rattle.items.specs.Words.{RowWords}
+use Rattle.items.specs.Sound.{kindAt, placed, Use, nameUse, valueUse, tpUse, docUse, validName, validValue, anyText, validWord, goodTriple, inDocument, soundRow, firstBad, sound, soundness}
+use Rattle.bounds.proofs.Branches.{either}
+use Rattle.accepted.proofs.Values.{HeldIn, RowHeld, RowsHeld}
+use Rattle.accepted.proofs.Triples.{tripleOf, docOf, wordsOf, Within, within-first, within-more, name-within, value-within, tp-within, Leads, leads-document, leads-value}
+use Rattle.accepted.proofs.Rows.{rowsFrom, rows-words}
+use Rattle.accepted.proofs.Entries.{GoodIn, Brief, brief, Complete}
+use Rattle.accepted.proofs.Docstrings.{DocIn, DocsIn, raw-formed}
+use Rattle.accepted.proofs.Frames.{Placed, Fine}
+use Rattle.accepted.proofs.States.{rowAt, Holds}
+
+-- ---- places
+
+kind-at : (n : ℕ) (rs : List (Row Shown)) (j : ℕ) → kindAt (rowsFrom n rs) j ≡ rowAt rs j .kind
+unfolding rowAt
+kind-at n [] j = refl
+kind-at n (r ∷ rs) zero = refl
+kind-at n (r ∷ rs) (suc j) = kind-at (n + length (rowText r)) rs j
+
+placed-true : (rows : List RowWords) (ks : ℕ → ℕ) → ((j : ℕ) → kindAt rows j ≡ ks j) → (i : ℕ) (w : RowWords) → Placed ks i (w .kind) (w .parent) → placed rows i w ≡ true
+placed-true rows ks e zero w h = rw (eq-eqb (w .kind) 1 (h .0), eq-eqb (w .parent) 0 (h .1))
+placed-true rows ks e (suc i) w h = rw (lt-ltb 0 (w .parent) (h .0), le-leb (w .parent) (suc i) (h .1), e (w .parent - 1), h .2)
+
+-- ---- triples
+
+module _ (doc x : List ℕ) (formed : illFormed doc ≡ length doc) where
+  good-there : (u : Use) (valid : List ℕ → Bool) (t : Triple) (s : List ℕ) → Leads doc x t s → illFormed s ≡ length s → u .may ≡ true → valid s ≡ true → goodTriple doc x u valid t ≡ true
+  unfolding goodTriple
+  good-there u valid t s l f m v = rw (l .there, m, l .within, l .shows, eq-eqb (illFormed s) (length s) f, v)
+
+  good-value : (u : Use) (valid : List ℕ → Bool) (n : ℕ) (o : Option Shown) → HeldIn doc o → GoodIn u valid o → Within x n (textOf o) → goodTriple doc x u valid (tripleOf n o) ≡ true
+  unfolding goodTriple
+  good-value u valid n none h g w = g
+  good-value u valid n (some s) h g w =
+      good-there u valid (tripleOf n (some s)) (s .value) (leads-value doc x n s h w) (unescape-formed (s .attr .raw) (s .value) (raw-formed doc formed s h) (h .shows)) (g .0) (g .1)
+
+  good-doc : (k : ℕ) (o : Option Doc) → DocIn doc k o → goodTriple doc x (docUse k) anyText (docOf o) ≡ true
+  unfolding goodTriple
+  good-doc k none h = either (λ (u : Use). not (u .must) ≡ true) (eqb k 6) (λ c. refl) (λ c. refl)
+  good-doc k (some d) h =
+      good-there (docUse k) anyText (docOf (some d)) (take (d .len) (drop (d .start) doc)) (leads-document doc x (d .start) (d .len) _ (h .1 .inside) refl) (h .1 .formed) (rw (h .0)) refl
+
+  doc-source : (o : Option Doc) → inDocument (docOf o) ≡ true
+  doc-source none = refl
+  doc-source (some d) = refl
+
+  -- ---- a row
+
+  eight : (a b c d e f g h : Bool) → a ≡ true → b ≡ true → c ≡ true → d ≡ true → e ≡ true → f ≡ true → g ≡ true → h ≡ true → (a && b && c && d && e && f && g && h) ≡ true
+  eight a b c d e f g h i j k l m n o p = rw (i, j, k, l, m, n, o, p)
+
+  module _ (rows : List RowWords) (f : ℕ → Brief) (kinds : (j : ℕ) → kindAt rows j ≡ f j .kind) where
+    row-sound : (n i : ℕ) (r : Row Shown) → f i ≡ brief r → Fine f i → Complete (f i) → RowHeld doc r → DocIn doc (r .kind) (r .doc) → Within x n (rowText r) → soundRow doc x rows i (wordsOf n r) ≡ true
+    unfolding soundRow
+    row-sound n i r e a c h d w =
+        let k = r .kind in
+        let b : Placed (λ j. f j .kind) i k (r .parent) × GoodIn (tpUse k) anyText (r .tp) × (validWord k (r .word) ≡ true) = rw e at a in
+        let v : GoodIn (nameUse k) (validName k) (r .name) × GoodIn (valueUse k) (validValue k) (r .value) = rw e at c in
+        eight _ _ _ _ _ _ _ _
+        (placed-true rows (λ j. f j .kind) kinds i (wordsOf n r) (b .0))
+        (good-value (nameUse k) (validName k) n (r .name) (h .0) (v .0) (name-within r w))
+        (good-value (valueUse k) (validValue k) _ (r .value) (h .1) (v .1) (value-within r w))
+        (good-value (tpUse k) anyText _ (r .tp) (h .2) (b .1) (tp-within r w))
+        (good-doc k (r .doc) d)
+        (doc-source (r .doc))
+        (b .2)
+        refl
+
+  -- ---- all rows
+
+  module _ (rs : List (Row Shown)) (h : Holds doc formed [] rs) where
+    -- the rows from row i on
+    none-bad : (n i : ℕ) (ss : List (Row Shown)) → i + length ss ≡ length rs → ((j : ℕ) → rowAt rs (i + j) ≡ rowAt ss j) → RowsHeld doc ss → DocsIn doc ss → Within x n (texts ss) → firstBad doc x (rowsFrom 0 rs) i (rowsFrom n ss) ≡ length rs
+    unfolding rowAt
+    none-bad n i [] e a v d w = omega arith
+    none-bad n i (r ∷ ss) e a v d w =
+        let s : soundRow doc x (rowsFrom 0 rs) i (wordsOf n r) ≡ true =
+        row-sound (rowsFrom 0 rs) (rowAt rs) (kind-at 0 rs) n i r (rw add-zero at (a 0)) (h .fine i (omega arith)) (h .frames i (omega arith)) (v .0) (d .0) (within-first (rowText r) (texts ss) w) in
+        rw s
+        (none-bad (n + length (rowText r)) (suc i) ss (omega arith) (λ j. let q : suc i + j ≡ i + suc j = omega arith in rw q (a (suc j))) (v .1) (d .1) (within-more (rowText r) (texts ss) w))
+
+    pub words-sound : (z : List ℕ) → length rs ≤ 262144 → RowsHeld doc rs → Within x 0 (texts rs) → soundness doc x (wordsFrom 0 rs ++ z) (length rs) ≡ sound
+    unfolding soundness
+    words-sound z m v w =
+        let l : length (wordsFrom 0 rs ++ z) ≡ length rs * 16 + length z = length-append (wordsFrom 0 rs) z ∙ rw (length-wordsFrom 0 rs) in
+        rw (
+          le-ltb 262144 (length rs) m,
+          le-ltb (length (wordsFrom 0 rs ++ z) / 16) (length rs) (omega arith),
+          rows-words 0 rs z,
+          none-bad 0 0 rs (zero-add (length rs)) (λ j. rw zero-add) v (h .docs) w,
+          le-ltb (length rs) (length rs) (omega arith),
+        )
