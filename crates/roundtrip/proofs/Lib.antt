@@ -1,2 +1,3 @@
 -- Laws of written bytes and of reading them.
 -- Assumes nothing.
+pub mod Tags
