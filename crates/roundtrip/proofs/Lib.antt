@@ -3,3 +3,4 @@
 pub mod Tags
 pub mod Held
 pub mod Elements
+pub mod Items
