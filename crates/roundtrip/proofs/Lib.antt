@@ -4,3 +4,4 @@ pub mod Tags
 pub mod Held
 pub mod Elements
 pub mod Items
+pub mod Content
