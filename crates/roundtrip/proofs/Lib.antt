@@ -5,3 +5,4 @@ pub mod Held
 pub mod Elements
 pub mod Items
 pub mod Content
+pub mod Equal
