@@ -6,3 +6,4 @@ pub mod Elements
 pub mod Items
 pub mod Content
 pub mod Equal
+pub mod SoundRows
