@@ -7,3 +7,4 @@ pub mod Items
 pub mod Content
 pub mod Equal
 pub mod SoundRows
+pub mod Texts

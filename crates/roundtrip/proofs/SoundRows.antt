@@ -211,3 +211,35 @@ content-good document text ws n i c e h =
     let t = rowsShown document text ws n in
     let all : AllFine t = all-fine document text (rowsOf n ws) 0 (rowsOf n ws) (each-sound document text ws n e) in
     first-good t all i (drop i t) (fine-drop i t all) c h
+
+-- ---- there is such a row
+
+module _ (v : RowWords → Row) (same-kind : (r : RowWords) → v r .kind ≡ r .kind) where
+  row-there : (ks : List ℕ) → among 0 ks ≡ false → (rs : List RowWords) (i : ℕ) → among (kindAt rs i) ks ≡ true → (r : Row) × (rest : List Row) × (drop i (map v rs) ≡ r ∷ rest) × (among (r .kind) ks ≡ true)
+  row-there ks z [] i h = absurd (no-row (sym z ∙ h))
+    where
+      no-row : false ≡ true → ⊥
+      no-row e = let y : _≡_ {A = ℕ} 0 1 = cc in omega arith
+  row-there ks z (r ∷ rs) zero h = (v r, map v rs, refl, rw (same-kind r) h)
+  row-there ks z (r ∷ rs) (suc i) h = row-there ks z rs i h
+
+there : (t : List Row) (i : ℕ) (r : Row) → among (r .kind) (3 ∷ 5 ∷ 6 ∷ []) ≡ true → (c : Item) × (itemOf t i r ≡ some c) × (mayHold 2 (kind c) ≡ true)
+there t i r = go (eqb (r .kind) 3) (eqb (r .kind) 5) (eqb (r .kind) 6)
+  where
+    last : Option Item
+    last = if (eqb (r .kind) 7) (some (argument (argOf t i r))) none
+
+    go : (x y z : Bool) → if x true (if y true (if z true false)) ≡ true → (c : Item) × (if x (some (method (memberOf t i r))) (if y (some (signal (memberOf t i r))) (if z (some (annotated (annotationOf r))) last)) ≡ some c) × (mayHold 2 (kind c) ≡ true)
+    go true y z h = (method (memberOf t i r), refl, unfold mayHold in refl)
+    go false true z h = (signal (memberOf t i r), refl, unfold mayHold in refl)
+    go false false true h = (annotated (annotationOf r), refl, unfold mayHold in refl)
+    go false false false h = let z : _≡_ {A = ℕ} 0 1 = cc in absurd (omega arith)
+
+-- a row of kind 3, 5 or 6 has content that may stand in an interface
+pub content-there : (document text ws : List ℕ) (n i : ℕ) → among (kindAt (rowsOf n ws) i) (3 ∷ 5 ∷ 6 ∷ []) ≡ true → (c : Item) × (contentAt document text ws n i ≡ some c) × (mayHold 2 (kind c) ≡ true)
+unfolding content
+content-there document text ws n i h =
+    let t = rowsShown document text ws n in
+    let r = row-there (viewed document text) (λ r. refl) (3 ∷ 5 ∷ 6 ∷ []) refl (rowsOf n ws) i h in
+    let x = there t i (r .0) (r .3) in
+    (x .0, ap (firstItem t i) (r .2) ∙ x .1, x .2)
