@@ -8,3 +8,4 @@ pub mod Content
 pub mod Equal
 pub mod SoundRows
 pub mod Texts
+pub mod Keeping
