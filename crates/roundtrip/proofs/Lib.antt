@@ -9,3 +9,4 @@ pub mod Equal
 pub mod SoundRows
 pub mod Texts
 pub mod Keeping
+pub mod Room
