@@ -1,0 +1,2 @@
+-- No definitions: those of reading and of sound rows are in document and items.
+-- Assumes nothing.
