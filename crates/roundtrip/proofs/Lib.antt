@@ -10,3 +10,4 @@ pub mod SoundRows
 pub mod Texts
 pub mod Keeping
 pub mod Room
+pub mod Whole
