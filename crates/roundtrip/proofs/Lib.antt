@@ -11,3 +11,5 @@ pub mod Texts
 pub mod Keeping
 pub mod Room
 pub mod Whole
+pub mod Entries
+pub mod Theorems
