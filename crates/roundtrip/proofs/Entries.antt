@@ -2,20 +2,18 @@
 -- Assumes nothing.
 use Prim.Native.Nat.{ℕ, _+_, _-_}
 use native.Mathlib.Omega.{arith}
-use mathlib.Core.Path.{_≡_, refl, ap, subst, _∙_, sym}
-use mathlib.Core.List.{List, [], _∷_, _++_, map, append-nil}
+use mathlib.Core.Path.{_≡_, refl, ap, _∙_}
+use mathlib.Core.List.{List, [], _∷_, _++_, append-nil}
 use mathlib.Core.Option.{Option, none, some}
 use mathlib.Core.Bool.{Bool, true, false, _||_}
 use lib.Dec.{ltb}
 use lib.ListN.{length, take, replicate}
 use lib.Seq.{take-at}
 use Rattle.slices.specs.Bytes.{if}
-use Rattle.names.specs.Names.{interfaceName}
 use Rattle.references.specs.Unescape.{Text, text, wrong}
 use Rattle.references.specs.Entries.{answerOf, leftOf}
 use Rattle.references.specs.declared.Answer.the-variants.{Done}
-use Rattle.document.specs.Rows.{Tables, wordsFrom, texts}
-use Rattle.document.specs.Reading.{accepted}
+use Rattle.document.specs.Rows.{wordsFrom, texts}
 use Rattle.document.specs.Whole.{Room, verdictOf, filled}
 use Rattle.document.specs.declared.Verdict.{Verdict}
 use Rattle.document.specs.declared.Verdict.the-variants.{Accepted}
@@ -23,11 +21,10 @@ use Rattle.accepted.proofs.Accepted.{words-shown}
 use Rattle.items.specs.Words.{rowsShown}
 use Rattle.items.specs.Sound.{Soundness, sound, unsound, soundness}
 use Rattle.items.specs.Written.{Item, written}
-use Rattle.items.specs.Content as shown
 use Rattle.items.specs.Content.{content, contentAt}
 use Rattle.items.specs.Writing.{itemWritten, checked, writing}
 use Rattle.roundtrip.specs.Items.{rows, nodeRow, interfaceRow, values, referenced}
-use Rattle.roundtrip.specs.Statement.{around, ReadsAs}
+use Rattle.roundtrip.specs.Statement.{ReadsAs}
 use Rattle.roundtrip.specs.Entries.{Wrote, lent, Parsed, Returns}
 use Rattle.roundtrip.proofs.Content.{table-back}
 use Rattle.roundtrip.proofs.Whole.{Answers}

@@ -2,7 +2,7 @@
 -- Assumes nothing.
 use Prim.Native.Nat.{ℕ, suc, _+_, _≤_}
 use native.Mathlib.Omega.{arith}
-use mathlib.Core.Path.{_≡_, refl, sym, ap, _∙_}
+use mathlib.Core.Path.{_≡_, refl, ap, _∙_}
 use mathlib.Core.List.{List, [], _∷_, _++_, map, map-append, append-assoc, append-nil}
 use mathlib.Core.Option.{Option, none, some}
 use mathlib.Core.Bool.{Bool, true, false}
@@ -18,7 +18,7 @@ use Rattle.items.specs.Content as shown
 use Rattle.items.specs.Written.{Pair, Annotation, Arg, Direction, no-direction, inward, outward, Member, Item, annotated, argument, method, signal, named, argPairs, writtenAnnotation, writtenArg, writtenMember, written}
 use Rattle.roundtrip.specs.Items.{code, bareRow, annotationRow, annotationRows, argRow, argRows, argsRows, memberRows, rows}
 use Rattle.roundtrip.proofs.Tags.{Keys, tagAt}
-use Rattle.roundtrip.proofs.Held.{held, Row, State, marked, inside}
+use Rattle.roundtrip.proofs.Held.{held, Row, marked, inside}
 use Rattle.roundtrip.proofs.Elements.{Element, Children, childless, child, entered, Opens, an-element}
 
 abbrev annotationPairs : Annotation → List Pair

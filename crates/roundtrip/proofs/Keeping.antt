@@ -1,8 +1,8 @@
 -- What a reader keeps of an attribute changes nothing else: a view of its state is the state of the reader that keeps the view.
 -- Assumes nothing.
 use Prim.Native.Nat.{ℕ, zero, suc}
-use mathlib.Core.Path.{_≡_, refl, ap, _∙_, sym}
-use mathlib.Core.List.{List, [], _∷_, _++_, map, map-append}
+use mathlib.Core.Path.{_≡_, refl, ap, _∙_}
+use mathlib.Core.List.{List, [], _∷_, map, map-append}
 use mathlib.Core.Option.{Option, none, some}
 use mathlib.Core.Bool.{Bool, true, false, not, _&&_}
 use lib.Dec.{eqb, leb, ltb}
@@ -15,7 +15,7 @@ use Rattle.document.specs.Tags.{Shown, tpType}
 use Rattle.document.specs.Tokens.{Tag, Token, start, close, fault, end, tokens}
 use Rattle.document.specs.Rows.{Doc, Row, Tables, documented}
 use Rattle.document.specs.Elements.{kindOf, mayHold, among, accessOf, directionOf, attr, Opened, opens, refuses, kept, row, required, valid, namedRow, propertyRow, annotationRow, directed, argRow, opensAs}
-use Rattle.document.specs.Reading.{Definition, Purpose, ignored, captures, Frame, element, definition, passing, State, begun, reading, accepted, refused, nameOf, parentOf, reasonOf, noted, frameOf, withRow, closed, judged, captured, passed, innerClosed, shut, tooDeep, entered, opened, begins, unsupported, docstringIn, child, inner, started, turn, root, inside, step, fold, run}
+use Rattle.document.specs.Reading.{Definition, Purpose, ignored, captures, Frame, element, definition, passing, State, begun, reading, accepted, refused, nameOf, parentOf, reasonOf, noted, frameOf, withRow, closed, judged, captured, passed, shut, tooDeep, entered, opened, begins, unsupported, docstringIn, child, started, turn, root, inside, step, fold, run}
 use Rattle.items.specs.View.{over, viewRow, viewTables, view}
 
 -- a function on both ways of a test

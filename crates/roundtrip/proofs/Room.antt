@@ -1,8 +1,8 @@
 -- How many bytes of text the rows of a written item take.
 -- Assumes nothing.
-use Prim.Native.Nat.{ℕ, suc, _+_, _≤_}
+use Prim.Native.Nat.{ℕ, suc, _+_}
 use native.Mathlib.Omega.{arith}
-use mathlib.Core.Path.{_≡_, refl, ap, sym, _∙_}
+use mathlib.Core.Path.{_≡_, refl}
 use mathlib.Core.List.{List, [], _∷_, _++_, map}
 use mathlib.Core.Option.{Option, none, some}
 use mathlib.Core.Bool.{Bool, true, false}
@@ -11,7 +11,7 @@ use lib.ListN.{length, length-append}
 use Rattle.slices.specs.Bytes.{if, all, same}
 use Rattle.slices.proofs.Runs.{by-byte, same-short}
 use Rattle.scan.specs.Classes.{escapable}
-use Rattle.references.specs.Escape.{escaped, escape}
+use Rattle.references.specs.Escape.{escape}
 use Rattle.references.specs.Unescape.{plain}
 use Rattle.references.proofs.Escapes.{by-escape, escape-least}
 use Rattle.document.specs.Tags.{Shown}
@@ -20,7 +20,7 @@ use Rattle.document.specs.Rows.{textOf, rowText, texts}
 use Rattle.items.specs.View.{over, viewRow}
 use Rattle.items.specs.Written.{Annotation, Arg, Member, Item, annotated, argument, method, signal}
 use Rattle.items.specs.Content as shown
-use Rattle.roundtrip.specs.Items.{annotationRows, argRow, argRows, argsRows, memberRows, rows, nodeRow, interfaceRow, noteValues, nameValues, argValues, argsValues, memberValues, values, referenced}
+use Rattle.roundtrip.specs.Items.{annotationRows, argRows, argsRows, memberRows, rows, nodeRow, interfaceRow, noteValues, nameValues, argValues, argsValues, memberValues, values, referenced}
 use Rattle.roundtrip.proofs.Held.{Held, held, mark, Row, marked}
 use Rattle.roundtrip.proofs.Elements.{same-self}
 

@@ -18,9 +18,9 @@ use Rattle.names.proofs.Names.{and-both}
 use Rattle.tables.specs.Triple as triples
 use Rattle.tables.specs.declared.Triple.{Triple}
 use Rattle.document.specs.Elements.{among, mayHold}
-use Rattle.items.specs.Words.{RowWords, absent, rowOf, rowsOf, shownBy, viewed, rowsShown}
+use Rattle.items.specs.Words.{RowWords, absent, rowsOf, shownBy, viewed, rowsShown}
 use Rattle.items.specs.Sound.{Use, nameUse, valueUse, tpUse, docUse, validName, validValue, validWord, anyText, inDocument, placed, kindAt, goodTriple, soundRow, firstBad, judged, sound, unsound, soundness}
-use Rattle.items.specs.Written.{Annotation, Arg, Item, annotated, argument, method, signal}
+use Rattle.items.specs.Written.{Arg, Item, annotated, argument, method, signal}
 use Rattle.items.specs.Content.{Row, present, childOf, annotationOf, annotations, argOf, args, memberOf, itemOf, firstItem, content, contentAt}
 use Rattle.roundtrip.specs.Items.{noteValues, nameValues, argValues, argsValues, memberValues, values}
 use Rattle.roundtrip.proofs.Items.{Signed, Good, kind}

@@ -1,6 +1,6 @@
 -- What is written is well-formed UTF-8 if its texts are.
 -- Assumes nothing.
-use Prim.Native.Nat.{ℕ, _<_}
+use Prim.Native.Nat.{ℕ}
 use mathlib.Core.Path.{_≡_, refl}
 use mathlib.Core.List.{List, [], _∷_, _++_, map}
 use mathlib.Core.Option.{Option, none, some}
@@ -12,7 +12,7 @@ use Rattle.slices.proofs.Runs.{both}
 use Rattle.utf8.proofs.Texts.{Whole, none-whole, whole, formed, whole-append, whole-char, ascii-char}
 use Rattle.references.specs.Escape.{escape}
 use Rattle.references.proofs.Formed.{escape-formed}
-use Rattle.items.specs.Written.{Pair, pair, pairs, ending, tag, closingTag, concat, element, Annotation, Direction, no-direction, inward, outward, Arg, Member, Item, annotated, argument, method, signal, named, optional, directions, argPairs, writtenAnnotation, writtenArg, writtenMember, written}
+use Rattle.items.specs.Written.{Pair, pairs, ending, tag, closingTag, concat, element, Annotation, Direction, no-direction, inward, outward, Arg, Member, Item, annotated, argument, method, signal, named, directions, argPairs, writtenAnnotation, writtenArg, writtenMember, written}
 use Rattle.roundtrip.specs.Items.{noteValues, nameValues, argValues, argsValues, memberValues, values}
 use Rattle.roundtrip.proofs.SoundRows.{Formed, AllFormed}
 

@@ -1,19 +1,11 @@
 -- The theorems.
 -- Assumes nothing.
-use Prim.Native.Nat.{ℕ}
 use mathlib.Core.Path.{_≡_, subst, sym, _∙_}
-use mathlib.Core.List.{List}
 use mathlib.Core.Option.{some}
-use mathlib.Core.Bool.{true}
-use Rattle.names.specs.Names.{interfaceName}
-use Rattle.document.specs.Elements.{mayHold}
-use Rattle.document.specs.declared.Verdict.{Verdict}
-use Rattle.items.specs.Written.{Item, written}
-use Rattle.roundtrip.specs.Statement.{around, Fits, ReadBack, BytesTell}
+use Rattle.roundtrip.specs.Statement.{around, ReadBack, BytesTell}
 use Rattle.roundtrip.specs.Entries.{lent, Parsed, Returns, EntriesAgree}
-use Rattle.roundtrip.proofs.Items.{Good, kind}
 use Rattle.roundtrip.proofs.Equal.{told}
-use Rattle.roundtrip.proofs.SoundRows.{AllFormed, content-good, content-there}
+use Rattle.roundtrip.proofs.SoundRows.{content-good, content-there}
 use Rattle.roundtrip.proofs.Whole.{answers}
 use Rattle.roundtrip.proofs.Entries.{reads-as, returns, leaves}
 
@@ -33,8 +25,7 @@ entries-agree document text ws n i m out w k =
     let t = content-there document text ws n i k in
     let g = content-good document text ws n i (t .0) (l .is-sound) (t .1) in
     let q : some (l .item) ≡ some (t .0) = sym (l .is-item) ∙ t .1 in
-    let same : l .item ≡ t .0 = cc in
-    (
+    let same : l .item ≡ t .0 = cc in (
       t .0,
       t .1,
       λ name rows′ warnings text′ r h f p.

@@ -1,6 +1,6 @@
 -- A written item in a document of its own is read as its rows, if the document is short enough and the room is there.
 -- Assumes nothing.
-use Prim.Native.Nat.{ℕ, _+_, _/_, _≤_}
+use Prim.Native.Nat.{ℕ, _+_, _/_}
 use native.Mathlib.Omega.{arith}
 use mathlib.Core.Path.{_≡_, refl, ap, _∙_, sym}
 use mathlib.Core.List.{List, [], _∷_, _++_, map, append-assoc, append-nil}
@@ -27,7 +27,6 @@ use Rattle.document.specs.Reading.{begun, accepted, begins, step, run}
 use Rattle.document.specs.Whole.{Room, meaning, read}
 use Rattle.items.specs.View.{over, viewRow, viewTables, view, textShown}
 use Rattle.items.specs.Written.{Item, named, tag, closingTag, element, written}
-use Rattle.items.specs.Content as shown
 use Rattle.roundtrip.specs.Items.{rows, nodeRow, interfaceRow, values, referenced}
 use Rattle.roundtrip.specs.Statement.{around, Fits}
 use Rattle.roundtrip.proofs.Tags.{tagAt}
