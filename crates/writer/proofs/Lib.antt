@@ -2,3 +2,4 @@
 -- Assumes nothing.
 pub mod Again
 pub mod Held
+pub mod Called
