@@ -15,7 +15,7 @@ use base.Fml.{Lft, GName, Fml, ftrue, fsep}
 use prog.Wp.{Heap}
 use ghost.Atoms.{Atoms, sem}
 use contract.Lifetimes.{Within}
-use types.Kit.{Given, ‵, _$_, _∵_, !, qed, move, use1, fjoin, updating, now as at-once, by, done}
+use types.Kit.{Given, ‵, _$_, _∵_, !, qed, move, fjoin, updating, now as at-once, by, done}
 use denote.Laws.{Is}
 use denote.Plain.{uint-makes}
 use denote.Builtin.{u8, usize}
@@ -26,7 +26,6 @@ use denote.Exit.{no}
 use denote.Signature.{Slot, plain, namedLft}
 use denote.Signature.Struct.{makes}
 use denote.Triple.Walked.{Stay, stay-dropped, Goes}
-use Rattle.writer.specs.declared.Writer.{Writer}
 use Rattle.writer.proofs.Writer as T
 
 module _ (n : ℕ) (ok : Within n 0) where

@@ -18,7 +18,7 @@ pub struct Writer<'a> {
 pub fn new<'a>(buf: &'a mut [u8], len: usize) -> Writer<'a>
     ensures { λ r. ⌜ (r .buf ≡ buf .entry) × (r .len ≡ len) ⌝ }
 {
-    Writer { buf: buf, len: len }
+    Writer { buf, len }
 }
 
 // Puts bytes as they are.
@@ -28,7 +28,7 @@ pub fn put<'a>(w: Writer<'a>, s: &[u8]) -> Writer<'a>
 {
     let n = w.len;
     let len = references::put::put_bytes(&mut *w.buf, n, s);
-    Writer { buf: w.buf, len: len }
+    Writer { buf: w.buf, len }
 }
 
 // Puts the escaped bytes of a value.
@@ -38,12 +38,10 @@ pub fn put_escaped<'a>(w: Writer<'a>, value: &[u8], classes: &[u8; 256]) -> Writ
 {
     let n = w.len;
     let len = references::put_escaped(value, classes, &mut *w.buf, n);
-    Writer { buf: w.buf, len: len }
+    Writer { buf: w.buf, len }
 }
 
-// From a buffer to a writer and back: these contracts say nothing of a writer, so whoever calls them needs no walk by hand.
-
-// Puts bytes as they are.
+// Puts bytes as they are. This contract and the next say nothing of a writer: whoever calls them needs no walk by hand.
 pub fn put_text(out: &mut [u8], n: usize, s: &[u8]) -> usize
     requires { ⌜ n + length (now s) < 2 ^ 62 ⌝ }
     ensures { λ r. ⌜ Puts (now (s .entry)) n (now (out .entry)) (now (out .exit)) r ⌝ }
@@ -53,7 +51,13 @@ pub fn put_text(out: &mut [u8], n: usize, s: &[u8]) -> usize
 }
 
 // Puts bytes as they are, then the escaped bytes of a value.
-pub fn put_value(out: &mut [u8], n: usize, before: &[u8], value: &[u8], classes: &[u8; 256]) -> usize
+pub fn put_value(
+    out: &mut [u8],
+    n: usize,
+    before: &[u8],
+    value: &[u8],
+    classes: &[u8; 256],
+) -> usize
     requires { ⌜ Classes (now classes) × (n + length (now before) + 6 * length (now value) < 2 ^ 62) ⌝ }
     ensures { λ r. ⌜ Puts (now (before .entry) ++ escape (now (value .entry))) n (now (out .entry)) (now (out .exit)) r ⌝ }
 {
