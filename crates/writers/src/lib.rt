@@ -3,7 +3,7 @@ ghost use Prim.Native.Nat.{_+_, _*_, _≤_, _<_, _^_};
 ghost use lib.ListN.{length};
 ghost use Rattle.scan.specs.Classes.{Classes};
 ghost use Rattle.writers.specs.Rows.{RowHeld};
-ghost use Rattle.writers.specs.Writes.{ShownAt, Puttable, ShownPut, AnnotationPut, IfAnnotationPut, Scannable, AnnotationsPut, ArgNamePut, DirectionPut, ArgTagPut, ArgPut};
+ghost use Rattle.writers.specs.Writes.{ShownAt, Puttable, ShownPut, AnnotationPut, IfAnnotationPut, Scannable, AnnotationsPut, ArgNamePut, DirectionPut, ArgTagPut, ArgPut, ArgsScannable, Turn, IfArgPut, ArgsPut, MemberTagPut, MemberEndPut, MemberScannable, ChildrenPut, MemberPut};
 use tables::Triple;
 
 mod children;
@@ -183,4 +183,124 @@ fn put_arg<'a>(
         return writer::put_text(out, noted, b"</arg>");
     }
     writer::put_text(out, tagged, b"/>")
+}
+
+// Row i as an arg, if it is one of row p less one.
+fn put_if_arg<'a>(
+    document: &'a [u8],
+    text: &'a [u8],
+    rows: &[u32],
+    count: usize,
+    p: usize,
+    ordered: bool,
+    i: usize,
+    classes: &[u8; 256],
+    out: &mut [u8],
+    n: usize,
+) -> usize
+    requires { ⌜ Turn (now document) (now text) (now rows) count p ordered i (now classes) n ⌝ }
+    ensures { λ r. ⌜ IfArgPut (now (document .entry)) (now (text .entry)) (now (rows .entry)) count p i n (now (out .entry)) (now (out .exit)) r ⌝ }
+{
+    if children::is_child(rows, i, 7, p) {
+        let to = children::last_child(rows, count, i, p, ordered);
+        return put_arg(document, text, rows, i, to, classes, out, n);
+    }
+    n
+}
+
+// The args of row p less one.
+fn put_args<'a>(
+    document: &'a [u8],
+    text: &'a [u8],
+    rows: &[u32],
+    count: usize,
+    p: usize,
+    ordered: bool,
+    classes: &[u8; 256],
+    out: &mut [u8],
+    n: usize,
+) -> usize
+    requires { ⌜ ArgsScannable (now document) (now text) (now rows) count p ordered (now classes) n ⌝ }
+    ensures { λ r. ⌜ ArgsPut (now (document .entry)) (now (text .entry)) (now (rows .entry)) count p n (now (out .entry)) (now (out .exit)) r ⌝ }
+{
+    let mut m = n;
+    let mut k = p;
+    while k < count {
+        m = put_if_arg(document, text, rows, count, p, ordered, k, classes, out, m);
+        k += 1;
+    }
+    m
+}
+
+// The start tag of a method or a signal, up to the end of its name.
+fn put_member_tag<'a>(
+    document: &'a [u8],
+    text: &'a [u8],
+    rows: &[u32],
+    i: usize,
+    kind: u32,
+    classes: &[u8; 256],
+    out: &mut [u8],
+) -> usize
+    requires { ⌜ RowHeld (now document) (now text) (now rows) i ⌝ ∗ ⌜ Classes (now classes) ⌝ }
+    ensures { λ r. ⌜ MemberTagPut (now (document .entry)) (now (text .entry)) (now (rows .entry)) i kind (now (out .entry)) (now (out .exit)) r ⌝ }
+{
+    if kind == 3 {
+        return put_shown(document, text, rows, i, 2, b"<method name=\"", classes, out, 0);
+    }
+    put_shown(document, text, rows, i, 2, b"<signal name=\"", classes, out, 0)
+}
+
+// The closing tag of a method or a signal.
+fn put_member_end(kind: u32, out: &mut [u8], n: usize) -> usize
+    requires { ⌜ n + 16 < 2 ^ 62 ⌝ }
+    ensures { λ r. ⌜ MemberEndPut kind n (now (out .entry)) (now (out .exit)) r ⌝ }
+{
+    if kind == 3 {
+        return writer::put_text(out, n, b"</method>");
+    }
+    writer::put_text(out, n, b"</signal>")
+}
+
+// The children of row i: args before annotations.
+fn put_children<'a>(
+    document: &'a [u8],
+    text: &'a [u8],
+    rows: &[u32],
+    count: usize,
+    i: usize,
+    classes: &[u8; 256],
+    out: &mut [u8],
+    n: usize,
+) -> usize
+    requires { ⌜ MemberScannable (now document) (now text) (now rows) count i (now classes) ⌝ ∗ ⌜ n < 6291500 ⌝ }
+    ensures { λ r. ⌜ ChildrenPut (now (document .entry)) (now (text .entry)) (now (rows .entry)) count i n (now (out .entry)) (now (out .exit)) r ⌝ }
+{
+    let p = i + 1;
+    let ordered = children::is_ordered(rows, count, i);
+    let argued = put_args(document, text, rows, count, p, ordered, classes, out, n);
+    put_annotations(document, text, rows, p, p, count, classes, out, argued)
+}
+
+// Row i as a method or a signal.
+fn put_member<'a>(
+    document: &'a [u8],
+    text: &'a [u8],
+    rows: &[u32],
+    count: usize,
+    i: usize,
+    kind: u32,
+    classes: &[u8; 256],
+    out: &mut [u8],
+) -> usize
+    requires { ⌜ MemberScannable (now document) (now text) (now rows) count i (now classes) ⌝ }
+    ensures { λ r. ⌜ MemberPut (now (document .entry)) (now (text .entry)) (now (rows .entry)) count i kind (now (out .entry)) (now (out .exit)) r ⌝ }
+{
+    let tagged = put_member_tag(document, text, rows, i, kind, classes, out);
+    if children::has_children(rows, i + 1, count) {
+        let opened = writer::put_text(out, tagged, b"\">");
+        let inside = put_children(document, text, rows, count, i, classes, out, opened);
+        return put_member_end(kind, out, inside);
+    }
+    writer::put_text(out, tagged, b"\"/>")
 }
