@@ -4,3 +4,4 @@ pub mod Scans
 pub mod Texts
 pub mod Args
 pub mod Members
+pub mod Entry

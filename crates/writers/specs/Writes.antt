@@ -13,9 +13,10 @@ use Rattle.tables.specs.Triple.{shown}
 use Rattle.scan.specs.Classes.{Classes}
 use Rattle.references.specs.Escape.{escape}
 use Rattle.references.specs.Outcome.{Puts}
+use Rattle.document.specs.Elements.{among}
 use Rattle.items.specs.Words.{tripleAt, shownBy, rowOf, rowsShown}
-use Rattle.items.specs.Written.{Annotation, Arg, Member, pairs, named, optional, directions, argPairs, closingTag, concat, writtenAnnotation, writtenArg, writtenMember}
-use Rattle.items.specs.Content.{Row, present, direction, annotationOf, annotations, argOf, args, memberOf}
+use Rattle.items.specs.Written.{Annotation, Arg, Member, pairs, named, optional, directions, argPairs, closingTag, concat, writtenAnnotation, writtenArg, writtenMember, Item, written}
+use Rattle.items.specs.Content.{Row, present, direction, annotationOf, annotations, argOf, args, memberOf, contentAt}
 use Rattle.writers.specs.Rows.{wordAt, isChild, rowAt, rowsIn, Held, RowHeld, Last, Orders}
 
 -- what the triple from word k on of row i shows
@@ -152,3 +153,13 @@ pub record ChildrenPut (d x ws : List ℕ) (m i n : ℕ) (t t′ : List ℕ) (r 
 
 pub record MemberPut (d x ws : List ℕ) (m i kind : ℕ) (t t′ : List ℕ) (r : ℕ) : Type 0 where
   pub puts : Puts (writtenMember (tagOf kind) (memberOf (rowsShown d x ws m) i (rowAt d x ws i))) 0 t t′ r
+
+-- whether rows of a kind are written: 3, 5, 6 and 7 are
+pub record Writable (kind : ℕ) (r : Bool) : Type 0 where
+  pub is : r ≡ among kind (3 ∷ 5 ∷ 6 ∷ 7 ∷ [])
+
+-- row i of the first m rows
+pub record ItemPut (d x ws : List ℕ) (m i : ℕ) (t t′ : List ℕ) (r : ℕ) : Type 0 where
+  pub item : Item
+  pub is : contentAt d x ws m i ≡ some item
+  pub puts : Puts (written item) 0 t t′ r
