@@ -26,7 +26,7 @@ abbrev pub answerWords : Answer → List ℕ
 answerWords (answer.Refused n p) = n ∷ p ∷ 0 ∷ []
 answerWords (answer.Done n) = 0 ∷ 0 ∷ n ∷ []
 
--- of a document that was read
+-- of a document that was read; the number is 0 for those accepted alone, since every other number is more than 0 (crate bounds)
 abbrev pub readWords : State Shown → List ℕ
 readWords s = verdictWords (verdictOf s)
 

@@ -7,6 +7,7 @@ ghost use lib.ListN.{length};
 ghost use Rattle.tables.specs.declared.Triple.{Triple};
 ghost use Rattle.references.specs.Entries.{escaping, unescaping, leftOf};
 ghost use Rattle.document.specs.Whole.{read, rowsLeft, warningsLeft, textLeft};
+ghost use Rattle.items.specs.Writing.{writing};
 ghost use Rattle.reader.specs.Entry.{room};
 ghost use Rattle.capi.specs.Words.{verdictWords, answerWords, partWords, bit, readWords, textWords, lookupWords};
 
@@ -85,6 +86,31 @@ pub extern "C" fn introspection_unescape(value: &[u8], output: &mut [u8], answer
     ensures output { λ _. ⌜ now (output .exit) ≡ leftOf (length (now (output .entry))) (unescaping (now (value .entry)) (length (now (output .entry)))) ⌝ }
 {
     let a = references::unescape(value, output);
+    *answer = answer_words(a);
+}
+
+// Writes the item of a row.
+#[no_mangle]
+pub extern "C" fn introspection_write<'a>(
+    document: &'a [u8],
+    text: &'a [u8],
+    rows: &[u32],
+    claimed: u64,
+    row: u64,
+    output: &mut [u8],
+    answer: &mut [u64; 3],
+)
+    ensures answer { λ _. ⌜ now (answer .exit) ≡ textWords (writing (now (document .entry)) (now (text .entry)) (now (rows .entry)) claimed row (length (now (output .entry)))) ⌝ }
+    ensures output { λ _. ⌜ now (output .exit) ≡ leftOf (length (now (output .entry))) (writing (now (document .entry)) (now (text .entry)) (now (rows .entry)) claimed row (length (now (output .entry)))) ⌝ }
+{
+    let a = writers::write(
+        document,
+        text,
+        rows,
+        claimed as usize,
+        row as usize,
+        output,
+    );
     *answer = answer_words(a);
 }
 
