@@ -130,7 +130,7 @@ static int shows(const struct reading *r, size_t i, size_t k, const char *expect
     const uint8_t *from;
     introspection_lookup(r->document, r->document_length, r->text, r->text_length, word(r, i, k), word(r, i, k + 1),
                          word(r, i, k + 2), a);
-    from = a[1] == INTROSPECTION_DOCUMENT ? r->document : r->text;
+    from = a[1] == INTROSPECTION_SOURCE_DOCUMENT ? r->document : r->text;
     return a[0] == 1 && same(from + a[2], (size_t)a[3], expected);
 }
 
@@ -170,6 +170,12 @@ static const char hinge[] =
     "  </interface>\n"
     "</node>\n";
 
+/* Whether row i is of a kind, in the row of its parent. */
+static int stands(const struct reading *r, size_t i, uint32_t kind, uint32_t parent)
+{
+    return word(r, i, INTROSPECTION_WORD_KIND) == kind && word(r, i, INTROSPECTION_WORD_PARENT) == parent + 1;
+}
+
 static void the_hinge(void)
 {
     struct reading r = read_all(hinge);
@@ -179,31 +185,41 @@ static void the_hinge(void)
     CHECK(r.answer[4] == 1);
     CHECK(rest_clean(&r));
     /* the enum is left out whole, with its warning */
-    CHECK(r.warnings[0] == INTROSPECTION_INCOMPLETE_ENUMVALUE);
+    CHECK(r.warnings[0] == INTROSPECTION_REASON_INCOMPLETE_ENUMVALUE);
     CHECK(r.warnings[1] == place_of(hinge, "<tp:enum "));
     CHECK(r.warnings[2] == place_of(hinge, "tp:enum "));
     CHECK(r.warnings[3] == strlen("tp:enum"));
     /* the rest is there */
-    CHECK(word(&r, 0, INTROSPECTION_KIND) == INTROSPECTION_NODE && word(&r, 0, INTROSPECTION_PARENT) == 0);
-    CHECK(shows(&r, 0, INTROSPECTION_NAME, "/hinge"));
-    CHECK(word(&r, 1, INTROSPECTION_KIND) == INTROSPECTION_STRUCT && shows(&r, 1, INTROSPECTION_NAME, "Range"));
-    CHECK(word(&r, 2, INTROSPECTION_KIND) == INTROSPECTION_MEMBER && shows(&r, 2, INTROSPECTION_VALUE, "d"));
-    CHECK(word(&r, 3, INTROSPECTION_KIND) == INTROSPECTION_INTERFACE && word(&r, 3, INTROSPECTION_PARENT) == 1);
-    CHECK(shows(&r, 3, INTROSPECTION_NAME, "org.example.Hinge"));
-    CHECK(word(&r, 4, INTROSPECTION_KIND) == INTROSPECTION_METHOD && word(&r, 4, INTROSPECTION_PARENT) == 4);
-    CHECK(shows(&r, 4, INTROSPECTION_NAME, "SetAngle") && shows(&r, 4, INTROSPECTION_DOCSTRING, "Turns the hinge."));
-    CHECK(word(&r, 5, INTROSPECTION_KIND) == INTROSPECTION_ARG && word(&r, 5, INTROSPECTION_PARENT) == 5);
-    CHECK(shows(&r, 5, INTROSPECTION_VALUE, "d") && shows(&r, 5, INTROSPECTION_TP_TYPE, "Angle"));
-    CHECK(word(&r, 5, INTROSPECTION_DIRECTION) == INTROSPECTION_IN);
-    CHECK(word(&r, 6, INTROSPECTION_KIND) == INTROSPECTION_ANNOTATION);
-    CHECK(word(&r, 6, INTROSPECTION_VALUE) == INTROSPECTION_TEXT && shows(&r, 6, INTROSPECTION_VALUE, "turn <now>"));
-    CHECK(word(&r, 7, INTROSPECTION_KIND) == INTROSPECTION_ARG && is_absent(&r, 7, INTROSPECTION_NAME));
-    CHECK(word(&r, 7, INTROSPECTION_DIRECTION) == INTROSPECTION_OUT);
-    CHECK(word(&r, 8, INTROSPECTION_PARENT) == 8 && shows(&r, 8, INTROSPECTION_VALUE, ""));
-    CHECK(word(&r, 9, INTROSPECTION_KIND) == INTROSPECTION_PROPERTY);
-    CHECK(word(&r, 9, INTROSPECTION_ACCESS) == INTROSPECTION_READ);
-    CHECK(word(&r, 10, INTROSPECTION_KIND) == INTROSPECTION_SIGNAL && shows(&r, 10, INTROSPECTION_NAME, "Moved"));
-    CHECK(word(&r, 11, INTROSPECTION_KIND) == INTROSPECTION_ARG && word(&r, 11, INTROSPECTION_PARENT) == 11);
+    CHECK(word(&r, 0, INTROSPECTION_WORD_KIND) == INTROSPECTION_KIND_NODE);
+    CHECK(word(&r, 0, INTROSPECTION_WORD_PARENT) == 0);
+    CHECK(shows(&r, 0, INTROSPECTION_WORD_NAME, "/hinge"));
+    CHECK(stands(&r, 1, INTROSPECTION_KIND_STRUCT, 0));
+    CHECK(shows(&r, 1, INTROSPECTION_WORD_NAME, "Range"));
+    CHECK(stands(&r, 2, INTROSPECTION_KIND_MEMBER, 1));
+    CHECK(shows(&r, 2, INTROSPECTION_WORD_VALUE, "d"));
+    CHECK(stands(&r, 3, INTROSPECTION_KIND_INTERFACE, 0));
+    CHECK(shows(&r, 3, INTROSPECTION_WORD_NAME, "org.example.Hinge"));
+    CHECK(stands(&r, 4, INTROSPECTION_KIND_METHOD, 3));
+    CHECK(shows(&r, 4, INTROSPECTION_WORD_NAME, "SetAngle"));
+    CHECK(shows(&r, 4, INTROSPECTION_WORD_DOCSTRING, "Turns the hinge."));
+    CHECK(stands(&r, 5, INTROSPECTION_KIND_ARG, 4));
+    CHECK(shows(&r, 5, INTROSPECTION_WORD_VALUE, "d"));
+    CHECK(shows(&r, 5, INTROSPECTION_WORD_TP_TYPE, "Angle"));
+    CHECK(word(&r, 5, INTROSPECTION_WORD_DIRECTION) == INTROSPECTION_DIRECTION_IN);
+    CHECK(stands(&r, 6, INTROSPECTION_KIND_ANNOTATION, 4));
+    CHECK(word(&r, 6, INTROSPECTION_WORD_VALUE) == INTROSPECTION_SOURCE_TEXT);
+    CHECK(shows(&r, 6, INTROSPECTION_WORD_VALUE, "turn <now>"));
+    CHECK(stands(&r, 7, INTROSPECTION_KIND_ARG, 4));
+    CHECK(is_absent(&r, 7, INTROSPECTION_WORD_NAME));
+    CHECK(word(&r, 7, INTROSPECTION_WORD_DIRECTION) == INTROSPECTION_DIRECTION_OUT);
+    CHECK(stands(&r, 8, INTROSPECTION_KIND_ANNOTATION, 7));
+    CHECK(shows(&r, 8, INTROSPECTION_WORD_VALUE, ""));
+    CHECK(stands(&r, 9, INTROSPECTION_KIND_PROPERTY, 3));
+    CHECK(word(&r, 9, INTROSPECTION_WORD_ACCESS) == INTROSPECTION_ACCESS_READ);
+    CHECK(stands(&r, 10, INTROSPECTION_KIND_SIGNAL, 3));
+    CHECK(shows(&r, 10, INTROSPECTION_WORD_NAME, "Moved"));
+    CHECK(stands(&r, 11, INTROSPECTION_KIND_ARG, 10));
+    CHECK(word(&r, 11, INTROSPECTION_WORD_DIRECTION) == INTROSPECTION_DIRECTION_NONE);
     end_reading(&r);
 }
 
@@ -297,7 +313,7 @@ static void room(void)
     r = read_with(d, n, 32, 4, 2);
     CHECK(answers(&r, INTROSPECTION_ACCEPTED, 0));
     CHECK(r.answer[2] == 2 && r.answer[3] == 2 && r.answer[4] == 1);
-    CHECK(same(r.text, 2, "<>") && r.warnings[0] == INTROSPECTION_UNSUPPORTED_ELEMENT);
+    CHECK(same(r.text, 2, "<>") && r.warnings[0] == INTROSPECTION_REASON_UNSUPPORTED_ELEMENT);
     end_reading(&r);
     r = read_with(d, n, 32 + 15, 4 + 3, 9);
     CHECK(answers(&r, INTROSPECTION_ACCEPTED, 0) && rest_clean(&r));
@@ -448,7 +464,7 @@ static void writing(void)
     WRITES(UINT64_MAX, 4, 99, INTROSPECTION_UNSOUND_ROWS, INTROSPECTION_MAX_ROWS, "");
     WRITES(r.rows_length / 16 + 1, 4, 99, INTROSPECTION_UNSOUND_ROWS, r.rows_length / 16, "");
     WRITES(13, 4, 99, INTROSPECTION_UNSOUND_ROWS, 12, "");
-    r.rows[5 * INTROSPECTION_ROW_WORDS + INTROSPECTION_PARENT] = 6;
+    r.rows[5 * INTROSPECTION_ROW_WORDS + INTROSPECTION_WORD_PARENT] = 6;
     WRITES(12, 4, 99, INTROSPECTION_UNSOUND_ROWS, 5, "");
     end_reading(&r);
 }

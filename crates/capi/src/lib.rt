@@ -43,12 +43,7 @@ fn bit(yes: bool) -> u64
 fn part_words(yes: bool, t: Triple) -> [u64; 4]
     ensures { λ r. ⌜ r ≡ partWords yes t ⌝ }
 {
-    [
-        bit(yes),
-        t.source as u64,
-        t.start as u64,
-        t.len as u64,
-    ]
+    [bit(yes), t.source as u64, t.start as u64, t.len as u64]
 }
 
 // Reads a document into the tables lent.
@@ -103,14 +98,7 @@ pub extern "C" fn introspection_write<'a>(
     ensures answer { λ _. ⌜ now (answer .exit) ≡ textWords (writing (now (document .entry)) (now (text .entry)) (now (rows .entry)) claimed row (length (now (output .entry)))) ⌝ }
     ensures output { λ _. ⌜ now (output .exit) ≡ leftOf (length (now (output .entry))) (writing (now (document .entry)) (now (text .entry)) (now (rows .entry)) claimed row (length (now (output .entry)))) ⌝ }
 {
-    let a = writers::write(
-        document,
-        text,
-        rows,
-        claimed as usize,
-        row as usize,
-        output,
-    );
+    let a = writers::write(document, text, rows, claimed as usize, row as usize, output);
     *answer = answer_words(a);
 }
 
