@@ -22,7 +22,7 @@ use Rattle.items.specs.Words.{RowWords, rowOf, rowsOf, tripleAt, viewed, rowsSh
 use Rattle.items.specs.Written.{Annotation, Arg, Member, Pair, pair, pairs, named, tag, closingTag, concat, element, writtenAnnotation, writtenArg, writtenMember}
 use Rattle.items.specs.Content.{Row, childOf, annotations, argOf, args, memberOf}
 use Rattle.writers.specs.Rows.{wordAt, wordsIn, rowAt, rowsIn, isChild, anyChild, Child, SomeChildren, Held, RowHeld, Last, InOrder, Ordered, Orders, ChildOf}
-use Rattle.writers.specs.Writes.{Puttable, ShownPut, Scannable, annotationsIn, AnnotationsPut, ArgPut, ifArg, IfArgPut, ArgsScannable, Turn, argsIn, ArgsPut, tagOf, MemberTagPut, MemberEndPut, MemberScannable, ChildrenPut, MemberPut}
+use Rattle.writers.specs.Writes.{Puttable, ShownPut, Scannable, annotationsIn, AnnotationsPut, ArgPut, ifArg, IfArgPut, Room, ArgsScannable, Turn, argsIn, NotesScannable, Inside, tagOf, MemberTagPut, MemberEndPut, MemberScannable, ChildrenPut, MemberPut}
 use Rattle.writers.proofs.Scans.{last-all}
 use Rattle.writers.proofs.Texts.{puts-as, present-shown, shown-one}
 use Rattle.writers.proofs.Args.{Clear, later-clear, no-child, before-clear, shown-parts, own-annotations, any-annotation, element-bare, element-full, empty-map}
@@ -106,17 +106,16 @@ pub record Arguing (d x ws : List ℕ) (m p n : ℕ) (t₀ t : List ℕ) (k l : 
   pub within : k ≤ m
   pub same : length t ≡ length t₀
 
-pub argue-begins : {d x ws t cl : List ℕ} {m p n : ℕ} {o : Bool} → ArgsScannable d x ws m p o cl n → Arguing d x ws m p n t t p n
+pub argue-begins : {d x ws t cl : List ℕ} {m p n : ℕ} {o : Bool} → ArgsScannable d x ws m p o cl → Arguing d x ws m p n t t p n
 argue-begins g = record { done = []; left = refl; puts = puts-none; most = omega arith; onward = omega arith; within = g .onward; same = refl }
 
 module _ {d x ws t₀ t : List ℕ} {m p n k l : ℕ} (g : Arguing d x ws m p n t₀ t k l) where
-  pub argue-ends : m ≤ k → ArgsPut d x ws m p n t₀ t l
-  argue-ends h =
+  pub argue-ends : {cl : List ℕ} {o : Bool} → ArgsScannable d x ws m p o cl → m ≤ k → Inside (argsIn d x ws m p p) n t₀ t l
+  argue-ends w h =
       let z = no-arg d x ws m p k (omega (arith, h)) in
-      let f : k ≡ m = omega (arith, h, g .within) in
       record {
         puts = puts-as (sym (append-nil (g .done)) ∙ ap (_++_ (g .done)) (sym z) ∙ g .left) (g .puts);
-        most = rw (sym f) (g .most);
+        most = omega (arith, g .most, g .within, w .held .few);
       }
 
   module _ (h : k < m) where
@@ -138,8 +137,8 @@ module _ {d x ws t₀ t : List ℕ} {m p n k l : ℕ} (g : Arguing d x ws m p n 
           same = s ∙ g .same;
         }
 
-    pub argue-turn : {cl : List ℕ} {o : Bool} → ArgsScannable d x ws m p o cl n → Turn d x ws m p o k cl l
-    argue-turn w = record {
+    pub argue-turn : {cl : List ℕ} {o : Bool} → ArgsScannable d x ws m p o cl → Room n 2305843009213693952 → Turn d x ws m p o k cl l
+    argue-turn w s = record {
       document = w .document;
       text = w .text;
       held = w .held;
@@ -147,7 +146,7 @@ module _ {d x ws t₀ t : List ℕ} {m p n k l : ℕ} (g : Arguing d x ws m p n 
       within = h;
       orders = w .orders;
       classes = w .classes;
-      room = omega (arith, h, g .most, g .onward, w .room);
+      room = omega (arith, h, g .most, g .onward, w .held .few, s .fits);
     }
 
 pub ruleset argues = (argue-begins, argue-ends, argue-more, argue-turn, needs)
@@ -182,40 +181,53 @@ end-room n h = omega (arith, h)
 pub ruleset tags = (tag-method, tag-signal, end-method, end-signal, method-name, signal-name, end-room, needs)
 
 -- what the calls for the children need, and what they come to
-module _ {d x ws cl : List ℕ} {m i p n : ℕ} (h : MemberScannable d x ws m i cl) (e : p ≡ i + 1) where
-  pub member-args : {o : Bool} → n < 6291500 → Ordered ws m i o → ArgsScannable d x ws m p o cl n
-  member-args {o} s c = record {
+module _ {d x ws cl : List ℕ} {m i p : ℕ} (h : MemberScannable d x ws m i cl) (e : p ≡ i + 1) where
+  pub member-args : {o : Bool} → Ordered ws m i o → ArgsScannable d x ws m p o cl
+  member-args {o} c = record {
     document = h .document;
     text = h .text;
     held = h .held;
     onward = omega (arith, e, h .within);
     orders = record { some = omega (arith, e); order = λ f k g. ordered f k (omega (arith, e, g)) };
     classes = h .classes;
-    room = omega (arith, e, s, h .held .few);
   }
     where
       ordered : o ≡ true → (k : ℕ) → i ≡ k → InOrder ws m k
       ordered f k z = subst (InOrder ws m) z (c .is f)
 
-  module _ {t t₁ : List ℕ} {l : ℕ} (s : n < 6291500) (q : ArgsPut d x ws m p n t t₁ l) where
-    pub member-notes : Scannable d x ws p m cl l
-    member-notes = record {
-      document = h .document;
-      text = h .text;
-      onward = omega (arith, e, h .within);
-      few = h .held .few;
-      held = h .held .held;
-      classes = h .classes;
-      room = omega (arith, e, s, q .most, h .held .few);
-    }
+  pub member-notes : NotesScannable d x ws m p cl
+  member-notes = record { document = h .document; text = h .text; held = h .held; onward = omega (arith, e, h .within); classes = h .classes }
 
-  pub children-put : {t t₁ t₂ : List ℕ} {l r : ℕ} → ArgsPut d x ws m p n t t₁ l → AnnotationsPut d x ws p p m l t₁ t₂ r → ChildrenPut d x ws m i n t t₂ r
+  pub children-put : {t t₁ t₂ : List ℕ} {n l r : ℕ} → Inside (argsIn d x ws m p p) n t t₁ l → Inside (annotationsIn d x ws p p m) l t₁ t₂ r → ChildrenPut d x ws m i n t t₂ r
   children-put q w =
       let f : p ≡ suc i = omega (arith, e) in
       record {
         puts = puts-as (ap (λ k. argsIn d x ws m k k ++ annotationsIn d x ws k k m) f) (puts-then (q .puts) (w .puts));
-        most = omega (arith, e, q .most, w .most, h .held .few);
+        most = omega (arith, q .most, w .most);
       }
+
+pub first-inside : {n : ℕ} → n < 6291500 → Room n 2305843009213693952
+first-inside s = record { fits = omega (arith, s) }
+
+pub next-inside : {b t t₁ : List ℕ} {n l : ℕ} → n < 6291500 → Inside b n t t₁ l → Room l 2305843009213693952
+next-inside s q = record { fits = omega (arith, s, q .most) }
+
+module _ {d x ws cl : List ℕ} {m p n : ℕ} (h : NotesScannable d x ws m p cl) where
+  pub notes-scan : Room n 2305843009213693952 → Scannable d x ws p m cl n
+  notes-scan s = record {
+    document = h .document;
+    text = h .text;
+    onward = h .onward;
+    few = h .held .few;
+    held = h .held .held;
+    classes = h .classes;
+    room = omega (arith, h .held .few, s .fits);
+  }
+
+  pub notes-inside : {t t′ : List ℕ} {r : ℕ} → AnnotationsPut d x ws p p m n t t′ r → Inside (annotationsIn d x ws p p m) n t t′ r
+  notes-inside q = record { puts = q .puts; most = omega (arith, q .most, h .held .few) }
+
+pub ruleset notes = (notes-scan, notes-inside, needs)
 
 pub member-held : {d x ws cl : List ℕ} {m i : ℕ} → MemberScannable d x ws m i cl → Held ws m
 member-held h = h .held
@@ -223,7 +235,7 @@ member-held h = h .held
 pub member-within : {d x ws cl : List ℕ} {m i : ℕ} → MemberScannable d x ws m i cl → i < m
 member-within h = h .within
 
-pub ruleset inner = (member-args, member-notes, children-put, member-held, member-within, needs)
+pub ruleset inner = (member-args, member-notes, children-put, first-inside, next-inside, member-held, member-within, needs)
 
 -- the args of row i are those among the rows after it
 args-append : (t : List Row) (p i : ℕ) (l r : List Row) → args t p i (l ++ r) ≡ args t p i l ++ args t p (i + length l) r

@@ -15,7 +15,7 @@ use Rattle.references.specs.Escape.{escape}
 use Rattle.references.specs.Outcome.{Puts}
 use Rattle.document.specs.Elements.{among}
 use Rattle.items.specs.Words.{tripleAt, shownBy, rowOf, rowsShown}
-use Rattle.items.specs.Written.{Annotation, Arg, Member, pairs, named, optional, directions, argPairs, closingTag, concat, writtenAnnotation, writtenArg, writtenMember, Item, written}
+use Rattle.items.specs.Written.{Annotation, Arg, Member, Pair, pairs, named, optional, directions, argPairs, closingTag, concat, writtenAnnotation, writtenArg, writtenMember, Item, written}
 use Rattle.items.specs.Content.{Row, present, direction, annotationOf, annotations, argOf, args, memberOf, contentAt}
 use Rattle.writers.specs.Rows.{wordAt, isChild, rowAt, rowsIn, Held, RowHeld, Last, Orders}
 
@@ -72,20 +72,33 @@ pub record AnnotationsPut (d x ws : List ℕ) (p from to n : ℕ) (t t′ : List
   pub most : r ≤ n + (to - from) * 16777216
 
 -- the name of the arg in row i
-abbrev pub nameAt : List ℕ → List ℕ → List ℕ → ℕ → Option (List ℕ)
+unfoldable pub nameAt : List ℕ → List ℕ → List ℕ → ℕ → Option (List ℕ)
 nameAt d x ws i = shownBy d x (tripleAt 2 (drop (i * 16) ws))
 
-pub record ArgNamePut (d x ws : List ℕ) (i n : ℕ) (t t′ : List ℕ) (r : ℕ) : Type 0 where
-  pub puts : Puts (bytes "<arg" ++ pairs (optional (nameAt d x ws i))) n t t′ r
-  pub most : r ≤ n + 6291480
+-- its type and its direction, as attributes
+unfoldable pub typeAt : List ℕ → List ℕ → List ℕ → ℕ → List Pair
+typeAt d x ws i = record { key = bytes "type"; value = shown d x (tripleAt 5 (drop (i * 16) ws)) } ∷ []
+
+unfoldable pub directionAt : List ℕ → ℕ → List Pair
+directionAt ws i = directions (direction (wordAt ws i 14))
+
+-- there is room to count so many more
+pub record Room (n more : ℕ) : Type 0 where
+  pub fits : n + more < 2 ^ 62
+
+-- attributes put
+pub record PairsPut (ps : List Pair) (n : ℕ) (t t′ : List ℕ) (r : ℕ) : Type 0 where
+  pub puts : Puts (pairs ps) n t t′ r
+  pub most : r ≤ n + 6291472
 
 pub record DirectionPut (ws : List ℕ) (i n : ℕ) (t t′ : List ℕ) (r : ℕ) : Type 0 where
-  pub puts : Puts (34 ∷ pairs (directions (direction (wordAt ws i 14)))) n t t′ r
-  pub most : r ≤ n + 17
+  pub puts : Puts (pairs (directionAt ws i)) n t t′ r
+  pub most : r ≤ n + 16
 
+-- the start tag of the arg in row i, up to its end
 pub record ArgTagPut (d x ws : List ℕ) (i n : ℕ) (t t′ : List ℕ) (r : ℕ) : Type 0 where
-  pub puts : Puts (bytes "<arg" ++ pairs (argPairs (nameAt d x ws i) (shown d x (tripleAt 5 (drop (i * 16) ws))) (direction (wordAt ws i 14)))) n t t′ r
-  pub most : r ≤ n + 12583000
+  pub puts : Puts (bytes "<arg" ++ pairs (optional (nameAt d x ws i) ++ (typeAt d x ws i ++ directionAt ws i))) n t t′ r
+  pub most : r ≤ n + 16777200
 
 -- row i as an arg of the first m rows, if none from row `to` on is a child of it
 pub record ArgPut (d x ws : List ℕ) (i to n : ℕ) (t t′ : List ℕ) (r : ℕ) : Type 0 where
@@ -100,15 +113,14 @@ pub record IfArgPut (d x ws : List ℕ) (m p i n : ℕ) (t t′ : List ℕ) (r :
   pub puts : Puts (ifArg d x ws m p i) n t t′ r
   pub most : r ≤ n + 4398046511104
 
--- what putting the args of row p less one needs: m rows are held, and there is room for the count
-pub record ArgsScannable (d x ws : List ℕ) (m p : ℕ) (ordered : Bool) (cl : List ℕ) (n : ℕ) : Type 0 where
+-- what putting the args of row p less one needs: m rows are held
+pub record ArgsScannable (d x ws : List ℕ) (m p : ℕ) (ordered : Bool) (cl : List ℕ) : Type 0 where
   pub document : length d ≤ 1048576
   pub text : length x ≤ 1048576
   pub held : Held ws m
   pub onward : p ≤ m
   pub orders : Orders ws m p ordered
   pub classes : Classes cl
-  pub room : n + (m - p) * 4398046511104 + 16 < 2 ^ 62
 
 -- and what putting one of them needs
 pub record Turn (d x ws : List ℕ) (m p : ℕ) (ordered : Bool) (i : ℕ) (cl : List ℕ) (n : ℕ) : Type 0 where
@@ -125,9 +137,18 @@ pub record Turn (d x ws : List ℕ) (m p : ℕ) (ordered : Bool) (i : ℕ) (cl :
 unfoldable pub argsIn : List ℕ → List ℕ → List ℕ → ℕ → ℕ → ℕ → List ℕ
 argsIn d x ws m p i = concat (map writtenArg (args (rowsShown d x ws m) p i (rowsIn d x ws i (m - i))))
 
-pub record ArgsPut (d x ws : List ℕ) (m p n : ℕ) (t t′ : List ℕ) (r : ℕ) : Type 0 where
-  pub puts : Puts (argsIn d x ws m p p) n t t′ r
-  pub most : r ≤ n + (m - p) * 4398046511104
+-- what putting the annotations of row p less one needs
+pub record NotesScannable (d x ws : List ℕ) (m p : ℕ) (cl : List ℕ) : Type 0 where
+  pub document : length d ≤ 1048576
+  pub text : length x ≤ 1048576
+  pub held : Held ws m
+  pub onward : p ≤ m
+  pub classes : Classes cl
+
+-- children of one kind put
+pub record Inside (b : List ℕ) (n : ℕ) (t t′ : List ℕ) (r : ℕ) : Type 0 where
+  pub puts : Puts b n t t′ r
+  pub most : r ≤ n + 1152921504606846976
 
 abbrev pub tagOf : ℕ → List ℕ
 tagOf kind = if (eqb kind 3) (bytes "method") (bytes "signal")
@@ -149,7 +170,7 @@ pub record MemberScannable (d x ws : List ℕ) (m i : ℕ) (cl : List ℕ) : Typ
 
 pub record ChildrenPut (d x ws : List ℕ) (m i n : ℕ) (t t′ : List ℕ) (r : ℕ) : Type 0 where
   pub puts : Puts (argsIn d x ws m (suc i) (suc i) ++ annotationsIn d x ws (suc i) (suc i) m) n t t′ r
-  pub most : r ≤ n + 1152925902653358080
+  pub most : r ≤ n + 2305843009213693952
 
 pub record MemberPut (d x ws : List ℕ) (m i kind : ℕ) (t t′ : List ℕ) (r : ℕ) : Type 0 where
   pub puts : Puts (writtenMember (tagOf kind) (memberOf (rowsShown d x ws m) i (rowAt d x ws i))) 0 t t′ r

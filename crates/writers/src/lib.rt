@@ -5,9 +5,10 @@ ghost use mathlib.Core.Bool.{true};
 ghost use lib.ListN.{length};
 ghost use Rattle.scan.specs.Classes.{Classes};
 ghost use Rattle.references.specs.Entries.{answerOf, leftOf};
+ghost use Rattle.items.specs.Written.{optional};
 ghost use Rattle.items.specs.Writing.{writing};
 ghost use Rattle.writers.specs.Rows.{Word, RowHeld};
-ghost use Rattle.writers.specs.Writes.{ShownAt, Puttable, ShownPut, AnnotationPut, IfAnnotationPut, Scannable, AnnotationsPut, ArgNamePut, DirectionPut, ArgTagPut, ArgPut, ArgsScannable, Turn, IfArgPut, ArgsPut, MemberTagPut, MemberEndPut, MemberScannable, ChildrenPut, MemberPut, Writable, ItemPut};
+ghost use Rattle.writers.specs.Writes.{ShownAt, Puttable, ShownPut, AnnotationPut, IfAnnotationPut, Scannable, AnnotationsPut, Room, PairsPut, nameAt, typeAt, DirectionPut, ArgTagPut, ArgPut, ArgsScannable, Turn, IfArgPut, Inside, argsIn, NotesScannable, annotationsIn, MemberTagPut, MemberEndPut, MemberScannable, ChildrenPut, MemberPut, Writable, ItemPut};
 ghost use Rattle.writers.specs.Entry.{Admitted, WritesSound};
 use references::Answer;
 use soundness::Soundness;
@@ -129,7 +130,7 @@ fn put_annotations<'a>(
     m
 }
 
-// `<arg`, and its name if it has one.
+// The name of the arg in row i, if it has one.
 fn put_arg_name<'a>(
     document: &'a [u8],
     text: &'a [u8],
@@ -139,29 +140,46 @@ fn put_arg_name<'a>(
     out: &mut [u8],
     n: usize,
 ) -> usize
-    requires { ⌜ RowHeld (now document) (now text) (now rows) i ⌝ ∗ ⌜ Classes (now classes) ⌝ ∗ ⌜ n + 16777216 < 2 ^ 62 ⌝ }
-    ensures { λ r. ⌜ ArgNamePut (now (document .entry)) (now (text .entry)) (now (rows .entry)) i n (now (out .entry)) (now (out .exit)) r ⌝ }
+    requires { ⌜ RowHeld (now document) (now text) (now rows) i ⌝ ∗ ⌜ Classes (now classes) ⌝ ∗ ⌜ Room n 8388608 ⌝ }
+    ensures { λ r. ⌜ PairsPut (optional (nameAt (now (document .entry)) (now (text .entry)) (now (rows .entry)) i)) n (now (out .entry)) (now (out .exit)) r ⌝ }
 {
     if children::is_absent(rows, i, 2) {
-        return writer::put_text(out, n, b"<arg");
+        return n;
     }
-    let named = put_shown(document, text, rows, i, 2, b"<arg name=\"", classes, out, n);
+    let named = put_shown(document, text, rows, i, 2, b" name=\"", classes, out, n);
     writer::put_text(out, named, b"\"")
 }
 
-// The end of the type's value, and the direction if there is one.
+// The type of the arg in row i.
+fn put_arg_type<'a>(
+    document: &'a [u8],
+    text: &'a [u8],
+    rows: &[u32],
+    i: usize,
+    classes: &[u8; 256],
+    out: &mut [u8],
+    n: usize,
+) -> usize
+    requires { ⌜ RowHeld (now document) (now text) (now rows) i ⌝ ∗ ⌜ Classes (now classes) ⌝ ∗ ⌜ Room n 8388608 ⌝ }
+    ensures { λ r. ⌜ PairsPut (typeAt (now (document .entry)) (now (text .entry)) (now (rows .entry)) i) n (now (out .entry)) (now (out .exit)) r ⌝ }
+{
+    let typed = put_shown(document, text, rows, i, 5, b" type=\"", classes, out, n);
+    writer::put_text(out, typed, b"\"")
+}
+
+// The direction of the arg in row i, if it has one.
 fn put_direction(rows: &[u32], i: usize, out: &mut [u8], n: usize) -> usize
-    requires { ⌜ i < 262144 ⌝ ∗ ⌜ i * 16 + 16 ≤ length (now rows) ⌝ ∗ ⌜ n + 32 < 2 ^ 62 ⌝ }
+    requires { ⌜ i < 262144 ⌝ ∗ ⌜ i * 16 + 16 ≤ length (now rows) ⌝ ∗ ⌜ Room n 32 ⌝ }
     ensures { λ r. ⌜ DirectionPut (now (rows .entry)) i n (now (out .entry)) (now (out .exit)) r ⌝ }
 {
     let direction = children::word_at(rows, i, 14);
     if direction == 0 {
-        return writer::put_text(out, n, b"\"");
+        return n;
     }
     if direction == 1 {
-        return writer::put_text(out, n, b"\" direction=\"in\"");
+        return writer::put_text(out, n, b" direction=\"in\"");
     }
-    writer::put_text(out, n, b"\" direction=\"out\"")
+    writer::put_text(out, n, b" direction=\"out\"")
 }
 
 // The start tag of an arg, up to its end.
@@ -174,11 +192,12 @@ fn put_arg_tag<'a>(
     out: &mut [u8],
     n: usize,
 ) -> usize
-    requires { ⌜ RowHeld (now document) (now text) (now rows) i ⌝ ∗ ⌜ Classes (now classes) ⌝ ∗ ⌜ n + 16777216 < 2 ^ 62 ⌝ }
+    requires { ⌜ RowHeld (now document) (now text) (now rows) i ⌝ ∗ ⌜ Classes (now classes) ⌝ ∗ ⌜ Room n 16777216 ⌝ }
     ensures { λ r. ⌜ ArgTagPut (now (document .entry)) (now (text .entry)) (now (rows .entry)) i n (now (out .entry)) (now (out .exit)) r ⌝ }
 {
-    let named = put_arg_name(document, text, rows, i, classes, out, n);
-    let typed = put_shown(document, text, rows, i, 5, b" type=\"", classes, out, named);
+    let tagged = writer::put_text(out, n, b"<arg");
+    let named = put_arg_name(document, text, rows, i, classes, out, tagged);
+    let typed = put_arg_type(document, text, rows, i, classes, out, named);
     put_direction(rows, i, out, typed)
 }
 
@@ -241,8 +260,8 @@ fn put_args<'a>(
     out: &mut [u8],
     n: usize,
 ) -> usize
-    requires { ⌜ ArgsScannable (now document) (now text) (now rows) count p ordered (now classes) n ⌝ }
-    ensures { λ r. ⌜ ArgsPut (now (document .entry)) (now (text .entry)) (now (rows .entry)) count p n (now (out .entry)) (now (out .exit)) r ⌝ }
+    requires { ⌜ ArgsScannable (now document) (now text) (now rows) count p ordered (now classes) ⌝ ∗ ⌜ Room n 2305843009213693952 ⌝ }
+    ensures { λ r. ⌜ Inside (argsIn (now (document .entry)) (now (text .entry)) (now (rows .entry)) count p p) n (now (out .entry)) (now (out .exit)) r ⌝ }
 {
     let mut m = n;
     let mut k = p;
@@ -251,6 +270,23 @@ fn put_args<'a>(
         k += 1;
     }
     m
+}
+
+// The annotations of row p less one.
+fn put_notes<'a>(
+    document: &'a [u8],
+    text: &'a [u8],
+    rows: &[u32],
+    count: usize,
+    p: usize,
+    classes: &[u8; 256],
+    out: &mut [u8],
+    n: usize,
+) -> usize
+    requires { ⌜ NotesScannable (now document) (now text) (now rows) count p (now classes) ⌝ ∗ ⌜ Room n 2305843009213693952 ⌝ }
+    ensures { λ r. ⌜ Inside (annotationsIn (now (document .entry)) (now (text .entry)) (now (rows .entry)) p p count) n (now (out .entry)) (now (out .exit)) r ⌝ }
+{
+    put_annotations(document, text, rows, p, p, count, classes, out, n)
 }
 
 // The start tag of a method or a signal, up to the end of its name.
@@ -320,7 +356,7 @@ fn put_children<'a>(
     let p = i + 1;
     let ordered = children::is_ordered(rows, count, i);
     let argued = put_args(document, text, rows, count, p, ordered, classes, out, n);
-    put_annotations(document, text, rows, p, p, count, classes, out, argued)
+    put_notes(document, text, rows, count, p, classes, out, argued)
 }
 
 // Row i as a method or a signal.
