@@ -20,9 +20,10 @@ fn main() {
         ));
     }
 
+    let package = PathBuf::from(env::var_os("CARGO_MANIFEST_DIR").unwrap_or_default());
     let folder = match env::var_os("INTROSPECTION_LIB_DIR") {
-        Some(folder) => PathBuf::from(folder),
-        None => PathBuf::from(env!("CARGO_MANIFEST_DIR")).join("../../target/staticlib"),
+        Some(folder) => package.join(folder),
+        None => package.join("../../target/staticlib"),
     };
     let archive = folder.join("libcapi.a");
     println!("cargo:rerun-if-changed={}", archive.display());

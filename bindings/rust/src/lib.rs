@@ -51,6 +51,10 @@ mod text;
 #[cfg(test)]
 mod tests;
 
+#[cfg(doctest)]
+#[doc = include_str!("../README.md")]
+struct Readme;
+
 use std::fmt;
 use std::str;
 
@@ -70,6 +74,7 @@ pub const LIMIT: usize = 1 << 20;
 /// What it lends is `Copy` and lives as long as the borrow of the document. Two documents, or two
 /// items, are equal if they have the same content in the same order, wherever in the input it
 /// stands.
+#[derive(Clone)]
 pub struct Document<'a> {
     input: &'a str,
     text: String,
