@@ -149,7 +149,6 @@ module _ (d x ws : List ℕ) (i to : ℕ) where
 
 module _ {d x ws : List ℕ} {i to p : ℕ} {b : Bool} (e : p ≡ i + 1) (o : i < to) (c : SomeChild ws 6 p p to b) where
   module _ {t t₁ : List ℕ} {n m : ℕ} (q : ArgTagPut d x ws i n t t₁ m) where
-
     pub arg-bare : {t₂ : List ℕ} {r : ℕ} → b ≡ false → Puts (bytes "/>") m t₁ t₂ r → ArgPut d x ws i to n t t₂ r
     arg-bare f s = record {
       puts = λ k h l. puts-as (bare-bytes d x ws i to e c f ∙ ap writtenArg (arg-is d x ws i to k h l)) (puts-then (q .puts) s);

@@ -13,10 +13,11 @@ use Rattle.tables.specs.Triple.{shown}
 use Rattle.scan.specs.Classes.{Classes}
 use Rattle.references.specs.Escape.{escape}
 use Rattle.references.specs.Outcome.{Puts}
+use Rattle.document.specs.Elements.{among}
 use Rattle.items.specs.Words.{tripleAt, shownBy, rowOf, rowsShown}
-use Rattle.items.specs.Written.{Annotation, Arg, Member, pairs, named, optional, directions, argPairs, concat, writtenAnnotation, writtenArg, writtenMember}
-use Rattle.items.specs.Content.{Row, present, direction, annotationOf, annotations, argOf, args, memberOf}
-use Rattle.writers.specs.Rows.{wordAt, isChild, rowAt, rowsIn, Held, RowHeld, Last}
+use Rattle.items.specs.Written.{Annotation, Arg, Member, pairs, named, optional, directions, argPairs, closingTag, concat, writtenAnnotation, writtenArg, writtenMember, Item, written}
+use Rattle.items.specs.Content.{Row, present, direction, annotationOf, annotations, argOf, args, memberOf, contentAt}
+use Rattle.writers.specs.Rows.{wordAt, isChild, rowAt, rowsIn, Held, RowHeld, Last, Orders}
 
 -- what the triple from word k on of row i shows
 pub record ShownAt (d x ws : List ℕ) (i k : ℕ) (s : List ℕ) : Type 0 where
@@ -90,3 +91,75 @@ pub record ArgTagPut (d x ws : List ℕ) (i n : ℕ) (t t′ : List ℕ) (r : �
 pub record ArgPut (d x ws : List ℕ) (i to n : ℕ) (t t′ : List ℕ) (r : ℕ) : Type 0 where
   pub puts : (m : ℕ) → Held ws m → Last ws m i to → Puts (writtenArg (argOf (rowsShown d x ws m) i (rowAt d x ws i))) n t t′ r
   pub most : r ≤ n + (to - i) * 16777216
+
+-- row i of the first m rows as an arg, if it is one of row p less one
+unfoldable pub ifArg : List ℕ → List ℕ → List ℕ → ℕ → ℕ → ℕ → List ℕ
+ifArg d x ws m p i = if (isChild 7 p (rowOf (drop (i * 16) ws))) (writtenArg (argOf (rowsShown d x ws m) i (rowAt d x ws i))) []
+
+pub record IfArgPut (d x ws : List ℕ) (m p i n : ℕ) (t t′ : List ℕ) (r : ℕ) : Type 0 where
+  pub puts : Puts (ifArg d x ws m p i) n t t′ r
+  pub most : r ≤ n + 4398046511104
+
+-- what putting the args of row p less one needs: m rows are held, and there is room for the count
+pub record ArgsScannable (d x ws : List ℕ) (m p : ℕ) (ordered : Bool) (cl : List ℕ) (n : ℕ) : Type 0 where
+  pub document : length d ≤ 1048576
+  pub text : length x ≤ 1048576
+  pub held : Held ws m
+  pub onward : p ≤ m
+  pub orders : Orders ws m p ordered
+  pub classes : Classes cl
+  pub room : n + (m - p) * 4398046511104 + 16 < 2 ^ 62
+
+-- and what putting one of them needs
+pub record Turn (d x ws : List ℕ) (m p : ℕ) (ordered : Bool) (i : ℕ) (cl : List ℕ) (n : ℕ) : Type 0 where
+  pub document : length d ≤ 1048576
+  pub text : length x ≤ 1048576
+  pub held : Held ws m
+  pub after : p ≤ i
+  pub within : i < m
+  pub orders : Orders ws m p ordered
+  pub classes : Classes cl
+  pub room : n + 4398046511104 + 16 < 2 ^ 62
+
+-- the args of row p less one among the first m rows, from row i on
+unfoldable pub argsIn : List ℕ → List ℕ → List ℕ → ℕ → ℕ → ℕ → List ℕ
+argsIn d x ws m p i = concat (map writtenArg (args (rowsShown d x ws m) p i (rowsIn d x ws i (m - i))))
+
+pub record ArgsPut (d x ws : List ℕ) (m p n : ℕ) (t t′ : List ℕ) (r : ℕ) : Type 0 where
+  pub puts : Puts (argsIn d x ws m p p) n t t′ r
+  pub most : r ≤ n + (m - p) * 4398046511104
+
+abbrev pub tagOf : ℕ → List ℕ
+tagOf kind = if (eqb kind 3) (bytes "method") (bytes "signal")
+
+pub record MemberTagPut (d x ws : List ℕ) (i kind : ℕ) (t t′ : List ℕ) (r : ℕ) : Type 0 where
+  pub puts : Puts (60 ∷ tagOf kind ++ (bytes " name=\"" ++ escape (shown d x (tripleAt 2 (drop (i * 16) ws))))) 0 t t′ r
+  pub most : r ≤ 6291480
+
+pub record MemberEndPut (kind n : ℕ) (t t′ : List ℕ) (r : ℕ) : Type 0 where
+  pub puts : Puts (closingTag (tagOf kind)) n t t′ r
+
+-- what putting row i with its children needs
+pub record MemberScannable (d x ws : List ℕ) (m i : ℕ) (cl : List ℕ) : Type 0 where
+  pub document : length d ≤ 1048576
+  pub text : length x ≤ 1048576
+  pub held : Held ws m
+  pub within : i < m
+  pub classes : Classes cl
+
+pub record ChildrenPut (d x ws : List ℕ) (m i n : ℕ) (t t′ : List ℕ) (r : ℕ) : Type 0 where
+  pub puts : Puts (argsIn d x ws m (suc i) (suc i) ++ annotationsIn d x ws (suc i) (suc i) m) n t t′ r
+  pub most : r ≤ n + 1152925902653358080
+
+pub record MemberPut (d x ws : List ℕ) (m i kind : ℕ) (t t′ : List ℕ) (r : ℕ) : Type 0 where
+  pub puts : Puts (writtenMember (tagOf kind) (memberOf (rowsShown d x ws m) i (rowAt d x ws i))) 0 t t′ r
+
+-- whether rows of a kind are written: 3, 5, 6 and 7 are
+pub record Writable (kind : ℕ) (r : Bool) : Type 0 where
+  pub is : r ≡ among kind (3 ∷ 5 ∷ 6 ∷ 7 ∷ [])
+
+-- row i of the first m rows
+pub record ItemPut (d x ws : List ℕ) (m i : ℕ) (t t′ : List ℕ) (r : ℕ) : Type 0 where
+  pub item : Item
+  pub is : contentAt d x ws m i ≡ some item
+  pub puts : Puts (written item) 0 t t′ r
