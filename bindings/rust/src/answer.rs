@@ -1,0 +1,299 @@
+//! Refusals and warnings.
+
+use std::error;
+use std::fmt;
+
+use crate::Document;
+
+/// Why a document or a value was refused. The discriminants are the numbers of docs/FORMAT.md.
+#[derive(Clone, Copy, Debug, PartialEq, Eq, Hash)]
+#[repr(u32)]
+pub enum ErrorKind {
+    /// Not UTF-8. Place: the first ill-formed sequence.
+    NotUtf8 = 1,
+    /// More than 1,048,576 bytes. Place: 1,048,576.
+    TooLong = 2,
+    /// No root element. Place: the length.
+    NoRoot = 3,
+    /// MalformedMarkup markup. Place: docs/FORMAT.md, Answers.
+    MalformedMarkup = 4,
+    /// An element that is not closed. Place: the length.
+    UnclosedElement = 5,
+    /// A closing tag of another element than the one that is open. Place: after the closing tag.
+    CrossedClose = 6,
+    /// More than 1,024 open nodes, or open elements in what is skipped. Place: after the start tag.
+    TooDeep = 7,
+    /// An attribute that its tag has already. Place: its name.
+    DuplicateAttribute = 8,
+    /// A reference without `;`. Place: its `&`.
+    UnterminatedReference = 9,
+    /// An entity that is not one of the five. Place: its `&`.
+    UnknownEntity = 10,
+    /// A character reference that names no character of XML. Place: its `&`.
+    BadCharacterReference = 11,
+    /// An attribute that the element needs is missing. Place: the element name.
+    AttributeMissing = 12,
+    /// Not an interface, member or property name. Place: the element name.
+    BadName = 13,
+    /// Not a signature. Place: the element name.
+    BadSignature = 14,
+    /// An access that is not read, write or readwrite. Place: after the start tag.
+    BadAccess = 15,
+    /// A direction that is not in or out. Place: after the start tag.
+    BadDirection = 16,
+    /// More than 256 attributes in a tag. Place: the 257th name.
+    TooManyAttributes = 17,
+    /// No room in a lent table. This crate lends enough, so no caller sees it.
+    NoRoom = 18,
+    /// Rows that are not sound. What the reader leaves is, so no caller sees it.
+    UnsoundRows = 19,
+    /// A row that cannot be written. Only the types that can be have a writer.
+    NotWritable = 20,
+    /// An output that is too short. This crate lends enough, so no caller sees it.
+    OutputShort = 21,
+}
+
+use ErrorKind::*;
+
+const KINDS: [ErrorKind; 21] = [
+    NotUtf8,
+    TooLong,
+    NoRoot,
+    MalformedMarkup,
+    UnclosedElement,
+    CrossedClose,
+    TooDeep,
+    DuplicateAttribute,
+    UnterminatedReference,
+    UnknownEntity,
+    BadCharacterReference,
+    AttributeMissing,
+    BadName,
+    BadSignature,
+    BadAccess,
+    BadDirection,
+    TooManyAttributes,
+    NoRoom,
+    UnsoundRows,
+    NotWritable,
+    OutputShort,
+];
+
+impl ErrorKind {
+    /// The number, 1 to 21.
+    pub fn number(self) -> u32 {
+        self as u32
+    }
+
+    /// A few words.
+    pub fn message(self) -> &'static str {
+        match self {
+            NotUtf8 => "not UTF-8",
+            TooLong => "more than 1048576 bytes",
+            NoRoot => "no root element",
+            MalformedMarkup => "malformed markup",
+            UnclosedElement => "an element is not closed",
+            CrossedClose => "the closing tag is of another element",
+            TooDeep => "elements are nested too deeply",
+            DuplicateAttribute => "duplicate attribute",
+            UnterminatedReference => "unterminated reference",
+            UnknownEntity => "unknown entity",
+            BadCharacterReference => "bad character reference",
+            AttributeMissing => "a required attribute is missing",
+            BadName => "not a valid name",
+            BadSignature => "not a valid signature",
+            BadAccess => "access is not read, write or readwrite",
+            BadDirection => "direction is not in or out",
+            TooManyAttributes => "more than 256 attributes",
+            NoRoom => "no room in a table",
+            UnsoundRows => "unsound rows",
+            NotWritable => "not a writable row",
+            OutputShort => "the output is too short",
+        }
+    }
+}
+
+/// A refusal: what is wrong, and where.
+///
+/// ```
+/// use introspection::{Document, ErrorKind};
+///
+/// let error = Document::parse(b"<node><interface/></node>").unwrap_err();
+/// assert_eq!(error.kind(), ErrorKind::AttributeMissing);
+/// assert_eq!(error.number(), 12);
+/// assert_eq!(error.place(), 7);
+/// assert_eq!(error.to_string(), "a required attribute is missing (12, at byte 7)");
+/// ```
+#[derive(Clone, Copy, Debug, PartialEq, Eq, Hash)]
+pub struct Error {
+    kind: ErrorKind,
+    place: usize,
+}
+
+impl Error {
+    /// What is wrong.
+    pub fn kind(&self) -> ErrorKind {
+        self.kind
+    }
+
+    /// Its number in docs/FORMAT.md, 1 to 21.
+    pub fn number(&self) -> u32 {
+        self.kind.number()
+    }
+
+    /// Where: bytes from the start of the document or of the value. It is at most their length.
+    pub fn place(&self) -> usize {
+        self.place
+    }
+
+    /// The answer's first two words: number 0 is no refusal.
+    pub(crate) fn unless_accepted(number: usize, place: usize) -> Result<(), Self> {
+        match number.checked_sub(1) {
+            None => Ok(()),
+            Some(index) => Err(Self {
+                kind: KINDS[index],
+                place,
+            }),
+        }
+    }
+}
+
+impl fmt::Display for Error {
+    fn fmt(&self, f: &mut fmt::Formatter<'_>) -> fmt::Result {
+        let message = self.kind.message();
+        write!(f, "{message} ({}, at byte {})", self.number(), self.place)
+    }
+}
+
+impl error::Error for Error {}
+
+/// Why an element was left out. The discriminants are the reasons of docs/FORMAT.md.
+#[derive(Clone, Copy, Debug, PartialEq, Eq, Hash)]
+#[repr(u32)]
+pub enum Reason {
+    /// An element that its parent does not hold.
+    UnsupportedElement = 1,
+    /// A type definition without a name.
+    NoName = 2,
+    /// A type definition without a type.
+    NoType = 3,
+    /// A type definition whose type is no signature, or the empty one.
+    BadSignature = 4,
+    /// An enum with a value that lacks its suffix or its value.
+    IncompleteEnumvalue = 5,
+    /// A struct or mapping with a member that lacks its name or a type.
+    IncompleteMember = 6,
+    /// A struct without members.
+    NoMembers = 7,
+    /// A mapping that has not exactly two members.
+    NotTwoMembers = 8,
+    /// A mapping whose key is not of a basic type.
+    KeyNotBasic = 9,
+}
+
+const REASONS: [Reason; 9] = [
+    Reason::UnsupportedElement,
+    Reason::NoName,
+    Reason::NoType,
+    Reason::BadSignature,
+    Reason::IncompleteEnumvalue,
+    Reason::IncompleteMember,
+    Reason::NoMembers,
+    Reason::NotTwoMembers,
+    Reason::KeyNotBasic,
+];
+
+impl Reason {
+    /// The number, 1 to 9.
+    pub fn number(self) -> u32 {
+        self as u32
+    }
+
+    /// A few words.
+    pub fn message(self) -> &'static str {
+        match self {
+            Reason::UnsupportedElement => "unsupported here",
+            Reason::NoName => "no name",
+            Reason::NoType => "no type",
+            Reason::BadSignature => "not a valid signature",
+            Reason::IncompleteEnumvalue => "a value lacks its suffix or its value",
+            Reason::IncompleteMember => "a member lacks its name or its type",
+            Reason::NoMembers => "no members",
+            Reason::NotTwoMembers => "not exactly two members",
+            Reason::KeyNotBasic => "the key is not of a basic type",
+        }
+    }
+}
+
+/// An element that was left out, whole: why, and where it stands.
+///
+/// ```
+/// use introspection::{Document, Reason};
+///
+/// let document = Document::parse(b"<node><tp:enum name='E' type='u'><tp:enumvalue suffix='A'/></tp:enum></node>")?;
+/// let warning = document.warnings().next().unwrap();
+/// assert_eq!(warning.reason(), Reason::IncompleteEnumvalue);
+/// assert_eq!(warning.number(), 5);
+/// assert_eq!(warning.place(), 6);
+/// assert_eq!(warning.element(), "tp:enum");
+/// assert_eq!(
+///     warning.to_string(),
+///     "<tp:enum> left out: a value lacks its suffix or its value (5, at byte 6)"
+/// );
+/// # Ok::<(), introspection::Error>(())
+/// ```
+#[derive(Clone, Copy, Debug, PartialEq, Eq, Hash)]
+pub struct Warning<'d> {
+    reason: Reason,
+    place: usize,
+    element: &'d str,
+}
+
+impl<'d> Warning<'d> {
+    pub(crate) fn new(document: &'d Document<'_>, words: [u32; 4]) -> Self {
+        let [reason, place, start, len] = words.map(|word| word as usize);
+        Self {
+            reason: REASONS[reason - 1],
+            place,
+            element: &document.input[start..start + len],
+        }
+    }
+
+    /// Why it was left out.
+    pub fn reason(&self) -> Reason {
+        self.reason
+    }
+
+    /// The reason's number in docs/FORMAT.md, 1 to 9.
+    pub fn number(&self) -> u32 {
+        self.reason.number()
+    }
+
+    /// Where its `<` stands: bytes from the start of the document.
+    pub fn place(&self) -> usize {
+        self.place
+    }
+
+    /// The name of the element.
+    pub fn element(&self) -> &'d str {
+        self.element
+    }
+}
+
+impl fmt::Display for Warning<'_> {
+    fn fmt(&self, f: &mut fmt::Formatter<'_>) -> fmt::Result {
+        let Self {
+            reason,
+            place,
+            element,
+        } = self;
+        let message = reason.message();
+        let number = reason.number();
+        write!(
+            f,
+            "<{element}> left out: {message} ({number}, at byte {place})"
+        )
+    }
+}
+
+impl error::Error for Warning<'_> {}

@@ -1,0 +1,205 @@
+//! The functions of the archive, each behind a safe one. All `unsafe` of the crate is here.
+//!
+//! What holds for every call below:
+//! - A slice goes over as its pointer and its number of elements, so all of it may be read, and
+//!   written where it is `&mut`; an empty one has a pointer that is not null and is not used.
+//! - `&mut` borrows are exclusive, so no two of the buffers that are written overlap, nor one of
+//!   them and one that is read. The functions keep no pointer after they return.
+//! - The functions are proved for every input: they have no precondition, stay inside what is lent,
+//!   end, and leave each buffer filled with words or bytes. They do not unwind.
+
+use crate::answer::Error;
+
+extern "C" {
+    fn introspection_read(
+        document: *const u8,
+        document_len: usize,
+        rows: *mut u32,
+        rows_len: usize,
+        warnings: *mut u32,
+        warnings_len: usize,
+        text: *mut u8,
+        text_len: usize,
+        answer: *mut u64,
+    );
+
+    fn introspection_escape(
+        value: *const u8,
+        value_len: usize,
+        output: *mut u8,
+        output_len: usize,
+        answer: *mut u64,
+    );
+
+    fn introspection_unescape(
+        value: *const u8,
+        value_len: usize,
+        output: *mut u8,
+        output_len: usize,
+        answer: *mut u64,
+    );
+
+    fn introspection_write(
+        document: *const u8,
+        document_len: usize,
+        text: *const u8,
+        text_len: usize,
+        rows: *const u32,
+        rows_len: usize,
+        claimed: u64,
+        row: u64,
+        output: *mut u8,
+        output_len: usize,
+        answer: *mut u64,
+    );
+
+    #[cfg(test)]
+    fn introspection_lookup(
+        document: *const u8,
+        document_len: usize,
+        text: *const u8,
+        text_len: usize,
+        source: u32,
+        start: u32,
+        len: u32,
+        answer: *mut u64,
+    );
+}
+
+/// How much of each table a document uses.
+pub(crate) struct Counts {
+    pub(crate) rows: usize,
+    pub(crate) text: usize,
+    pub(crate) warnings: usize,
+}
+
+/// Reads a document into the tables lent.
+pub(crate) fn read(
+    document: &[u8],
+    rows: &mut [[u32; 16]],
+    warnings: &mut [[u32; 4]],
+    text: &mut [u8],
+) -> Result<Counts, Error> {
+    let rows = rows.as_flattened_mut();
+    let warnings = warnings.as_flattened_mut();
+    let mut answer = [0; 5];
+    // SAFETY: the four slices are as the head of this file says; `answer` has the 5 words that this
+    // function writes.
+    unsafe {
+        introspection_read(
+            document.as_ptr(),
+            document.len(),
+            rows.as_mut_ptr(),
+            rows.len(),
+            warnings.as_mut_ptr(),
+            warnings.len(),
+            text.as_mut_ptr(),
+            text.len(),
+            answer.as_mut_ptr(),
+        );
+    }
+    let [number, place, rows, text, warnings] = answer.map(size);
+    Error::unless_accepted(number, place)?;
+    Ok(Counts {
+        rows,
+        text,
+        warnings,
+    })
+}
+
+/// Escapes a value, and gives the bytes written.
+pub(crate) fn escape(value: &[u8], output: &mut [u8]) -> Result<usize, Error> {
+    let mut answer = [0; 3];
+    // SAFETY: the two slices are as the head of this file says; `answer` has the 3 words that this
+    // function writes.
+    unsafe {
+        introspection_escape(
+            value.as_ptr(),
+            value.len(),
+            output.as_mut_ptr(),
+            output.len(),
+            answer.as_mut_ptr(),
+        );
+    }
+    written(answer)
+}
+
+/// Unescapes a value, and gives the bytes written.
+pub(crate) fn unescape(value: &[u8], output: &mut [u8]) -> Result<usize, Error> {
+    let mut answer = [0; 3];
+    // SAFETY: the two slices are as the head of this file says; `answer` has the 3 words that this
+    // function writes.
+    unsafe {
+        introspection_unescape(
+            value.as_ptr(),
+            value.len(),
+            output.as_mut_ptr(),
+            output.len(),
+            answer.as_mut_ptr(),
+        );
+    }
+    written(answer)
+}
+
+/// Writes the item of a row, and gives the bytes written. All rows lent are claimed.
+pub(crate) fn write(
+    document: &[u8],
+    text: &[u8],
+    rows: &[[u32; 16]],
+    row: usize,
+    output: &mut [u8],
+) -> Result<usize, Error> {
+    let words = rows.as_flattened();
+    let mut answer = [0; 3];
+    // SAFETY: the four slices are as the head of this file says, three of them only read; the two
+    // numbers may be any; `answer` has the 3 words that this function writes.
+    unsafe {
+        introspection_write(
+            document.as_ptr(),
+            document.len(),
+            text.as_ptr(),
+            text.len(),
+            words.as_ptr(),
+            words.len(),
+            rows.len() as u64,
+            row as u64,
+            output.as_mut_ptr(),
+            output.len(),
+            answer.as_mut_ptr(),
+        );
+    }
+    written(answer)
+}
+
+/// The part that a triple leads to: whether it lies inside its buffer, source, start and length.
+#[cfg(test)]
+pub(crate) fn lookup(document: &[u8], text: &[u8], triple: [u32; 3]) -> (bool, [usize; 3]) {
+    let mut answer = [0; 4];
+    // SAFETY: the two slices are as the head of this file says, and only read; the three numbers may
+    // be any; `answer` has the 4 words that this function writes.
+    unsafe {
+        introspection_lookup(
+            document.as_ptr(),
+            document.len(),
+            text.as_ptr(),
+            text.len(),
+            triple[0],
+            triple[1],
+            triple[2],
+            answer.as_mut_ptr(),
+        );
+    }
+    let [inside, part @ ..] = answer.map(size);
+    (inside == 1, part)
+}
+
+fn written(answer: [u64; 3]) -> Result<usize, Error> {
+    let [number, place, written] = answer.map(size);
+    Error::unless_accepted(number, place)?;
+    Ok(written)
+}
+
+// The archive is for x86-64 (build.rs), where the two types have the same range.
+fn size(word: u64) -> usize {
+    word as usize
+}

@@ -1,0 +1,230 @@
+//! A safe API over the proved reader and writers of D-Bus introspection XML.
+//!
+//! [`Document::parse`] reads a document, and lends what it holds in the words of the crate zbus_xml:
+//! nodes, interfaces, methods, signals, properties, arguments, annotations, docstrings and
+//! [type definitions](telepathy). Every name and value is a `&str` into the document, or into one
+//! text buffer where it was written with references; nothing is copied.
+//!
+//! The rule: a definition that cannot be read whole is left out whole, with a [`Warning`] at its
+//! place; a fault in the markup, or in what a member of an interface needs, refuses the document
+//! with an [`Error`] at its place.
+//!
+//! ```
+//! use introspection::{ArgDirection, Document};
+//!
+//! let xml = br#"<node name="/lamp">
+//!   <interface name="org.example.Lamp">
+//!     <method name="Dim"><arg name="percent" type="y" direction="in"/></method>
+//!     <property name="Label" type="s" access="readwrite"/>
+//!   </interface>
+//! </node>"#;
+//!
+//! let document = Document::parse(xml)?;
+//! assert_eq!(document.root().name(), Some("/lamp"));
+//! assert_eq!(document.warnings().count(), 0);
+//!
+//! let lamp = document.root().interfaces().next().unwrap();
+//! let dim = lamp.methods().next().unwrap();
+//! let percent = dim.args().next().unwrap();
+//! assert_eq!(lamp.name(), "org.example.Lamp");
+//! assert_eq!(percent.ty(), "y");
+//! assert_eq!(percent.direction(), Some(ArgDirection::In));
+//! assert_eq!(
+//!     dim.to_xml(),
+//!     r#"<method name="Dim"><arg name="percent" type="y" direction="in"/></method>"#
+//! );
+//! # Ok::<(), introspection::Error>(())
+//! ```
+//!
+//! The crate links the archive that `rt staticlib capi` writes; README.md says where it is sought.
+
+#![deny(missing_docs, unsafe_code, rust_2018_idioms)]
+
+mod answer;
+#[allow(unsafe_code)]
+mod ffi;
+mod item;
+mod row;
+pub mod telepathy;
+mod text;
+
+#[cfg(test)]
+mod tests;
+
+#[cfg(doctest)]
+#[doc = include_str!("../README.md")]
+struct Readme;
+
+use std::fmt;
+use std::str;
+
+pub use answer::{Error, ErrorKind, Reason, Warning};
+pub use item::{
+    Annotation, Arg, ArgDirection, Child, Interface, Method, Node, Property, PropertyAccess, Signal,
+};
+pub use text::{escape, unescape};
+
+use row::{kind, Row};
+
+/// The most bytes that a document or a value may have: 1,048,576.
+pub const LIMIT: usize = 1 << 20;
+
+/// A document that was read. It borrows the input, and owns the tables that were filled.
+///
+/// What it lends is `Copy` and lives as long as the borrow of the document. Two documents, or two
+/// items, are equal if they have the same content in the same order, wherever in the input it
+/// stands.
+#[derive(Clone)]
+pub struct Document<'a> {
+    input: &'a str,
+    text: String,
+    rows: Vec<[u32; 16]>,
+    ends: Vec<u32>,
+    warnings: Vec<[u32; 4]>,
+}
+
+impl<'a> Document<'a> {
+    /// Reads a document.
+    ///
+    /// ```
+    /// use introspection::{Document, ErrorKind};
+    ///
+    /// let document = Document::parse(b"<node/>")?;
+    /// assert_eq!(document.root().name(), None);
+    ///
+    /// let error = Document::parse(b"<node>").unwrap_err();
+    /// assert_eq!(error.kind(), ErrorKind::UnclosedElement);
+    /// assert_eq!(error.place(), 6);
+    /// # Ok::<(), introspection::Error>(())
+    /// ```
+    pub fn parse(input: &'a [u8]) -> Result<Self, Error> {
+        Self::parse_with(input, openings(input))
+    }
+
+    /// Reads with this many rows and warnings at first, and with Room if those are too few.
+    fn parse_with(input: &'a [u8], first: usize) -> Result<Self, Error> {
+        let room = room(input);
+        match Self::parse_within(input, first.min(room)) {
+            Err(error) if error.kind() == ErrorKind::NoRoom => Self::parse_within(input, room),
+            answer => answer,
+        }
+    }
+
+    fn parse_within(input: &'a [u8], room: usize) -> Result<Self, Error> {
+        let mut rows = vec![[0; 16]; room];
+        let mut warnings = vec![[0; 4]; room];
+        let mut text = vec![0; text_room(input)];
+        let counts = ffi::read(input, &mut rows, &mut warnings, &mut text)?;
+        shrink(&mut rows, counts.rows);
+        shrink(&mut warnings, counts.warnings);
+        shrink(&mut text, counts.text);
+        // Proved too; checked once more, in a small part of the time of reading, so that no `&str`
+        // rests on the archive alone.
+        let input = str::from_utf8(input).expect("an accepted document is UTF-8");
+        let text = String::from_utf8(text).expect("the text of an accepted document is UTF-8");
+        let ends = row::ends(&rows);
+        Ok(Self {
+            input,
+            text,
+            rows,
+            ends,
+            warnings,
+        })
+    }
+
+    /// The root of the document.
+    pub fn root(&self) -> Node<'_> {
+        Node(self.row(0))
+    }
+
+    /// The root and every node below it, in document order.
+    pub fn nodes(&self) -> impl Iterator<Item = Node<'_>> + Clone {
+        let rows = (0..self.rows.len()).map(|index| self.row(index));
+        rows.filter(|row| row.kind() == kind::NODE).map(Node)
+    }
+
+    /// What was left out, in the order in which that was found.
+    pub fn warnings(&self) -> impl ExactSizeIterator<Item = Warning<'_>> + Clone {
+        self.warnings.iter().map(|&words| Warning::new(self, words))
+    }
+
+    fn row(&self, index: usize) -> Row<'_> {
+        Row {
+            document: self,
+            index,
+        }
+    }
+}
+
+impl<'a> TryFrom<&'a [u8]> for Document<'a> {
+    type Error = Error;
+
+    fn try_from(input: &'a [u8]) -> Result<Self, Error> {
+        Self::parse(input)
+    }
+}
+
+impl<'a> TryFrom<&'a str> for Document<'a> {
+    type Error = Error;
+
+    fn try_from(input: &'a str) -> Result<Self, Error> {
+        Self::parse(input.as_bytes())
+    }
+}
+
+impl PartialEq for Document<'_> {
+    fn eq(&self, other: &Document<'_>) -> bool {
+        self.row(0) == other.row(0)
+    }
+}
+
+impl Eq for Document<'_> {}
+
+impl fmt::Debug for Document<'_> {
+    fn fmt(&self, f: &mut fmt::Formatter<'_>) -> fmt::Result {
+        f.debug_struct("Document")
+            .field("bytes", &self.input.len())
+            .field("rows", &self.rows.len())
+            .field("text", &self.text.len())
+            .field("warnings", &self.warnings.len())
+            .finish()
+    }
+}
+
+/// Room (docs/FORMAT.md), which is proved: 4 times (rows + warnings) never exceeds the document's
+/// length. A document over the limit is refused before any room is used.
+fn room(input: &[u8]) -> usize {
+    text_room(input) / 4
+}
+
+/// Nor do the text bytes.
+fn text_room(input: &[u8]) -> usize {
+    if input.len() > LIMIT {
+        return 0;
+    }
+    input.len()
+}
+
+/// The `<` that may begin a start tag. Each row and each warning has its own, so there are no more
+/// of them. Room is several times as much for ordinary documents, and clearing it would be a large
+/// part of the time of reading.
+fn openings(input: &[u8]) -> usize {
+    if input.len() > LIMIT {
+        return 0;
+    }
+    let opens = |b: u8, next: u8| (b == b'<') & (next != b'/') & (next != b'!') & (next != b'?');
+    let next = input.get(1..).unwrap_or_default();
+    // a count of bytes for each run of 255 compiles to a few instructions for many bytes
+    let runs = input.chunks(255).zip(next.chunks(255)).map(|(run, next)| {
+        let pairs = run.iter().zip(next);
+        pairs
+            .map(|(&b, &next)| u8::from(opens(b, next)))
+            .sum::<u8>()
+    });
+    runs.map(usize::from).sum()
+}
+
+fn shrink<T>(table: &mut Vec<T>, len: usize) {
+    table.truncate(len);
+    table.shrink_to_fit();
+}
