@@ -3,13 +3,6 @@ use references::Answer;
 use scan::Scan;
 use tables::Triple;
 
-// Puts a word, then two numbers.
-pub fn put_two(out: &mut [u8], n: usize, word: &[u8], a: u64, b: u64) -> usize {
-    let m = output::put_bytes(out, n, word);
-    let k = output::put_word(out, m, a);
-    output::put_word(out, k, b)
-}
-
 fn yes(out: &mut [u8], n: usize, answer: bool) -> usize {
     if answer {
         return output::put_bytes(out, n, b"yes");
@@ -39,7 +32,7 @@ fn trim(out: &mut [u8], n: usize, t: &[u8]) -> usize {
 // Where what may be passed over ends, or a fault.
 fn ignorable(out: &mut [u8], n: usize, t: &[u8]) -> usize {
     match scan::ignorable(t, 0) {
-        Scan::Fault(number, place) => put_two(out, n, b"refused", number as u64, place as u64),
+        Scan::Fault(number, place) => output::put_refused(out, n, number, place),
         Scan::At(at) => output::put_number(out, n, at as u64),
     }
 }
@@ -76,11 +69,8 @@ pub fn of_text(out: &mut [u8], n: usize, word: &[u8], t: &[u8]) -> usize {
 // What escaping or unescaping answers.
 fn put_answer(out: &mut [u8], n: usize, answer: Answer) -> usize {
     match answer {
-        Answer::Refused(number, place) => put_two(out, n, b"refused", number as u64, place as u64),
-        Answer::Done(count) => {
-            let k = output::put_bytes(out, n, b"done");
-            output::put_word(out, k, count as u64)
-        }
+        Answer::Refused(number, place) => output::put_refused(out, n, number, place),
+        Answer::Done(count) => output::put_done(out, n, count),
     }
 }
 
@@ -88,19 +78,19 @@ fn put_answer(out: &mut [u8], n: usize, answer: Answer) -> usize {
 fn answered(out: &mut [u8], n: usize, answer: Answer, buffer: &[u8]) -> usize {
     let m = put_answer(out, n, answer);
     let k = output::put(out, m, b' ');
-    crate::shown::put_text(out, k, buffer)
+    notation::shown::put_text(out, k, buffer)
 }
 
 // Escapes a text into a buffer that holds something else.
 pub fn escape(out: &mut [u8], n: usize, t: &[u8], buffer: &mut [u8]) -> usize {
-    crate::text::fill(buffer, 170);
+    notation::text::fill(buffer, 170);
     let answer = references::escape(t, buffer);
     answered(out, n, answer, buffer)
 }
 
 // Unescapes a text into a buffer that holds something else.
 pub fn unescape(out: &mut [u8], n: usize, t: &[u8], buffer: &mut [u8]) -> usize {
-    crate::text::fill(buffer, 170);
+    notation::text::fill(buffer, 170);
     let answer = references::unescape(t, buffer);
     answered(out, n, answer, buffer)
 }
@@ -115,5 +105,5 @@ pub fn lookup<'a>(
 ) -> usize {
     let m = yes(out, n, tables::is_inside(document, text, t));
     let k = output::put(out, m, b' ');
-    crate::shown::put_text(out, k, tables::lookup(document, text, t))
+    notation::shown::put_text(out, k, tables::lookup(document, text, t))
 }

@@ -1,12 +1,8 @@
 // Runs the cases on standard input, one to a line, and writes a line for each: crates/cases/stdin says how a case is written.
 mod answers;
-mod shown;
-mod text;
 mod whole;
 
 use tables::Triple;
-ghost use mathlib.Core.Path.{_≡_};
-ghost use lib.ListN.{length};
 
 // A case with a room: the room, then the text.
 fn roomy(
@@ -17,8 +13,8 @@ fn roomy(
     first: &mut [u8],
     second: &mut [u8],
 ) -> usize {
-    let room = text::number(s);
-    let k = text::expand(first, output::after(s, room.after));
+    let room = notation::number(s);
+    let k = notation::text::expand(first, output::after(s, room.after));
     let buffer = output::front_mut(second, room.value as usize);
     if slices::equal(word, b"escape") {
         return answers::escape(out, n, output::front(first, k), buffer);
@@ -26,28 +22,21 @@ fn roomy(
     answers::unescape(out, n, output::front(first, k), buffer)
 }
 
-fn low(x: u64) -> u32 {
-    if x < 4294967296 {
-        return x as u32;
-    }
-    4294967295
-}
-
 // A case of lookup: source, start, length, the document, `|`, the text buffer.
 fn lookup(out: &mut [u8], n: usize, s: &[u8], first: &mut [u8], second: &mut [u8]) -> usize {
-    let source = text::number(s);
+    let source = notation::number(s);
     let a = output::after(s, source.after);
-    let start = text::number(a);
+    let start = notation::number(a);
     let b = output::after(a, start.after);
-    let len = text::number(b);
+    let len = notation::number(b);
     let both = output::after(b, len.after);
     let bar = slices::find(both, 0, b'|');
-    let d = text::expand(first, output::front(both, bar));
-    let t = text::expand(second, output::after(output::after(both, bar), 1));
+    let d = notation::text::expand(first, output::front(both, bar));
+    let t = notation::text::expand(second, output::after(output::after(both, bar), 1));
     let triple = Triple {
-        source: low(source.value),
-        start: low(start.value),
-        len: low(len.value),
+        source: notation::low(source.value),
+        start: notation::low(start.value),
+        len: notation::low(len.value),
     };
     answers::lookup(
         out,
@@ -78,21 +67,13 @@ fn case(out: &mut [u8], n: usize, s: &[u8], first: &mut [u8], second: &mut [u8])
     if slices::equal(word, b"words") {
         return whole::words(out, n, rest);
     }
-    let k = text::expand(first, rest);
+    let k = notation::text::expand(first, rest);
     answers::of_text(out, n, word, output::front(first, k))
-}
-
-// Whether a line is copied as it stands.
-fn is_comment(s: &[u8]) -> bool {
-    if s.len() == 0 {
-        return true;
-    }
-    s[0] == b'#'
 }
 
 // A line: a comment is copied, a case is answered.
 fn line(out: &mut [u8], n: usize, s: &[u8], first: &mut [u8], second: &mut [u8]) -> usize {
-    if is_comment(s) {
+    if notation::is_comment(s) {
         let m = output::put_bytes(out, n, s);
         return output::put(out, m, 10);
     }
@@ -122,16 +103,9 @@ fn lines(out: &mut [u8], s: &[u8], first: &mut [u8], second: &mut [u8]) -> usize
     n
 }
 
-// Room for all cases.
-fn cases_buffer() -> [u8; 524288]
-    ensures { λ r. ⌜ 524288 ≡ length r ⌝ }
-{
-    [0; 524288]
-}
-
 // Reads the cases and answers them; the two buffers are for texts, of which the longest is one byte too long.
 fn run(first: &mut [u8; 1048577], second: &mut [u8; 1048577]) {
-    let mut input = cases_buffer();
+    let mut input = notation::cases_buffer();
     let mut out = io::large_buffer();
     let k = io::read_full(0, &mut input);
     let n = lines(&mut out, &input[..k], first, second);

@@ -46,15 +46,6 @@ fn wide(x: u32) -> u64 {
     x as u64
 }
 
-fn least(a: usize, b: usize) -> usize
-    ensures { λ r. ⌜ r ≤ b ⌝ }
-{
-    if a < b {
-        return a;
-    }
-    b
-}
-
 // What follows the word before a place: a line's end after each `width` words.
 fn ending(i: usize, width: usize) -> u8
     requires { ⌜ 0 < width ⌝ }
@@ -81,19 +72,14 @@ fn put_table(out: &mut [u8], n: usize, words: &[u32], width: usize) -> usize
 
 // The line of a refusal.
 fn put_refused(out: &mut [u8], number: u32, place: usize) -> usize {
-    let k = output::put_bytes(out, 0, b"refused");
-    let j = output::put_word(out, k, wide(number));
-    let i = output::put_word(out, j, place as u64);
-    output::put(out, i, 10)
+    let n = output::put_refused(out, 0, number, place);
+    output::put(out, n, 10)
 }
 
 // The first line of a document that was read: counts of rows, text bytes and warnings.
 fn put_counts(out: &mut [u8], r: usize, t: usize, w: usize) -> usize {
-    let m = output::put_bytes(out, 0, b"ok");
-    let k = output::put_word(out, m, r as u64);
-    let j = output::put_word(out, k, t as u64);
-    let i = output::put_word(out, j, w as u64);
-    output::put(out, i, 10)
+    let n = output::put_counts(out, 0, r, t, w);
+    output::put(out, n, 10)
 }
 
 // That line, the rows and the warnings.
@@ -106,8 +92,18 @@ fn put_accepted(
     w: usize,
 ) -> usize {
     let m = put_counts(out, r, t, w);
-    let k = put_table(out, m, output::front_words(rows, least(r, 1024) * 16), 16);
-    put_table(out, k, output::front_words(warnings, least(w, 4096) * 4), 4)
+    let k = put_table(
+        out,
+        m,
+        output::front_words(rows, output::least(r, 1024) * 16),
+        16,
+    );
+    put_table(
+        out,
+        k,
+        output::front_words(warnings, output::least(w, 4096) * 4),
+        4,
+    )
 }
 
 // Reads a document, and puts what was read.

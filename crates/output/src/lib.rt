@@ -1,4 +1,5 @@
 // Standard output through a buffer that the caller lends: each function takes how many bytes the buffer holds, and answers how many it holds then.
+ghost use Prim.Native.Nat.{_≤_};
 
 // Puts a byte; a full buffer is written out first.
 pub fn put(out: &mut [u8], n: usize, b: u8) -> usize {
@@ -38,9 +39,57 @@ pub fn put_word(out: &mut [u8], n: usize, x: u64) -> usize {
     put_number(out, m, x)
 }
 
+// Puts a word, then two numbers.
+fn put_two(out: &mut [u8], n: usize, word: &[u8], a: u64, b: u64) -> usize {
+    let m = put_bytes(out, n, word);
+    let k = put_word(out, m, a);
+    put_word(out, k, b)
+}
+
+// Puts a refusal's number and place.
+pub fn put_refused(out: &mut [u8], n: usize, number: u32, place: usize) -> usize {
+    put_two(out, n, b"refused", number as u64, place as u64)
+}
+
+// Puts how many bytes were written.
+pub fn put_done(out: &mut [u8], n: usize, count: usize) -> usize {
+    let m = put_bytes(out, n, b"done");
+    put_word(out, m, count as u64)
+}
+
+// Puts the counts of rows, text bytes and warnings.
+pub fn put_counts(out: &mut [u8], n: usize, r: usize, t: usize, w: usize) -> usize {
+    let m = put_two(out, n, b"ok", r as u64, t as u64);
+    put_word(out, m, w as u64)
+}
+
+// Puts as many bytes as have room behind the first n, writes none out, and answers how many there are then.
+pub fn append(buffer: &mut [u8], n: usize, bytes: &[u8]) -> usize {
+    let mut i = 0;
+    let mut m = n;
+    while i < bytes.len() {
+        if m >= buffer.len() {
+            return m;
+        }
+        buffer[m] = bytes[i];
+        m += 1;
+        i += 1;
+    }
+    m
+}
+
 // Writes out what the buffer holds.
 pub fn flush(out: &[u8], n: usize) -> bool {
     io::write_all(1, front(out, n))
+}
+
+pub fn least(a: usize, b: usize) -> usize
+    ensures { λ r. ⌜ r ≤ b ⌝ }
+{
+    if a < b {
+        return a;
+    }
+    b
 }
 
 // The first n bytes, or all where there are fewer.

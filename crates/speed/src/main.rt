@@ -3,81 +3,33 @@
 // lent; 2: 100,000; 3: 1,000,000) and how often.
 use document::Verdict;
 
-// A number, and the place after it.
-struct Number {
-    value: usize,
-    next: usize,
-}
-
-fn is_digit(b: u8) -> bool {
-    if b < 48 {
-        return false;
-    }
-    b <= 57
-}
-
-// The number that a digit adds to; past nine digits the first ones are dropped.
-fn with_digit(n: usize, b: u8) -> usize {
-    (n % 100000000) * 10 + (b % 16) as usize
-}
-
-fn number_at(s: &[u8], from: usize) -> Number {
-    let mut at = from;
-    let mut n = 0;
-    while at < s.len() {
-        let b = s[at];
-        at += 1;
-        if is_digit(b) {
-            n = with_digit(n, b);
-        } else {
-            return Number { value: n, next: at };
-        }
-    }
-    Number { value: n, next: at }
-}
-
-// Puts as many bytes as have room from a place on, and answers the place after them.
-fn put(doc: &mut [u8], from: usize, s: &[u8]) -> usize {
-    let mut i = 0;
-    let mut at = from;
-    while i < s.len() {
-        if at >= doc.len() {
-            return at;
-        }
-        doc[at] = s[i];
-        at += 1;
-        i += 1;
-    }
-    at
-}
-
 fn interface(doc: &mut [u8], from: usize) -> usize {
-    let a = put(
+    let a = output::append(
         doc,
         from,
         b"  <interface name=\"org.example.Antenna.Hinge\">\n    <method name=\"SetAngle\">\n",
     );
-    let b = put(
+    let b = output::append(
         doc,
         a,
         b"      <arg name=\"degrees\" type=\"d\" direction=\"in\"/>\n",
     );
-    let c = put(
+    let c = output::append(
         doc,
         b,
         b"      <arg name=\"result\" type=\"a{sv}\" direction=\"out\"/>\n    </method>\n",
     );
-    let d = put(
+    let d = output::append(
         doc,
         c,
         b"    <property name=\"State\" type=\"u\" access=\"read\">\n",
     );
-    let e = put(
+    let e = output::append(
         doc,
         d,
         b"      <annotation name=\"org.example.Label\" value=\"stowed &amp; latched\"/>\n    </property>\n",
     );
-    put(
+    output::append(
         doc,
         e,
         b"    <signal name=\"Moved\"><arg type=\"(dd)\"/></signal>\n  </interface>\n",
@@ -86,11 +38,11 @@ fn interface(doc: &mut [u8], from: usize) -> usize {
 
 // As many interfaces as have room; the rest stays white space.
 fn fill(doc: &mut [u8]) {
-    let mut at = put(doc, 0, b"<node>\n");
+    let mut at = output::append(doc, 0, b"<node>\n");
     for _ in 1..doc.len() / 407 {
         at = interface(doc, at);
     }
-    put(doc, at, b"</node>\n");
+    output::append(doc, at, b"</node>\n");
 }
 
 // Reads the document so often, and answers the rows of the last time.
@@ -154,16 +106,20 @@ fn large(often: usize) {
     with_large(&mut doc, often);
 }
 
+fn run(kind: u64, often: usize) {
+    if kind < 2 {
+        small(often, kind == 0);
+    } else if kind == 2 {
+        medium(often);
+    } else {
+        large(often);
+    }
+}
+
 fn main() {
     let mut line = [0u8; 64];
     let got = io::read_full(0, &mut line);
-    let kind = number_at(&line[..got], 0);
-    let often = number_at(&line[..got], kind.next);
-    if kind.value < 2 {
-        small(often.value, kind.value == 0);
-    } else if kind.value == 2 {
-        medium(often.value);
-    } else {
-        large(often.value);
-    }
+    let kind = notation::number(&line[..got]);
+    let often = notation::number(output::after(&line[..got], kind.after));
+    run(kind.value, often.value as usize);
 }

@@ -1,0 +1,27 @@
+-- `notation::text::expand` meets its contract: what is left is the measure.
+-- Assumes nothing.
+use Prim.Native.Nat.{_-_}
+use mathlib.Core.Path.{_≡_}
+use lib.ListN.{length}
+use borrow.Author.Needs.{needs}
+use Rattle.notation.proofs.text.expand.Statement.{statement}
+use Rattle.notation.proofs.text.expand.Tie as tie
+
+abbrev Inv-loop : tie.InvT-loop
+Inv-loop out₀ s n₀ at₀ out n at = length out ≡ length out₀
+
+abbrev μ-loop : tie.MeasureT-loop
+μ-loop out₀ s n₀ at₀ out n at = length s - at
+
+pub expand-spec : {M : Type 1} → statement M
+expand-spec =
+    tie.close
+    (tie.spec
+    Inv-loop
+    μ-loop
+    (λ c. search needs)
+    (λ c. search needs)
+    (λ c. search needs)
+    (λ c. search needs)
+    (λ c. search needs)
+    (λ c. search needs))

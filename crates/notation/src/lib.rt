@@ -1,0 +1,63 @@
+// How cases are written (crates/cases/stdin): numbers here, bytes in `text` and `shown`, rows of words in `words`.
+ghost use mathlib.Core.Path.{_≡_};
+ghost use lib.ListN.{length};
+
+pub mod shown;
+pub mod text;
+pub mod words;
+
+// A number, and the place after it and the byte that ends it.
+pub struct Leading {
+    pub value: u64,
+    pub after: usize,
+}
+
+fn wide(b: u8) -> u64
+    ensures { λ r. ⌜ r ≡ b ⌝ }
+{
+    b as u64
+}
+
+// The number that a text begins with, cut off past 32 bits.
+pub fn number(s: &[u8]) -> Leading {
+    let mut at = 0;
+    let mut value = 0u64;
+    while at < s.len() {
+        let b = s[at];
+        at += 1;
+        if b < 48 {
+            return Leading { value, after: at };
+        }
+        if 57 < b {
+            return Leading { value, after: at };
+        }
+        if 4294967295 < value {
+            return Leading { value, after: at };
+        }
+        value = value * 10 + (wide(b) - 48);
+    }
+    Leading { value, after: at }
+}
+
+// A number as a word; the largest word where it is larger.
+pub fn low(x: u64) -> u32 {
+    if x < 4294967296 {
+        return x as u32;
+    }
+    4294967295
+}
+
+// Whether a line is copied as it stands.
+pub fn is_comment(s: &[u8]) -> bool {
+    if s.len() == 0 {
+        return true;
+    }
+    s[0] == b'#'
+}
+
+// Room for all cases.
+pub fn cases_buffer() -> [u8; 524288]
+    ensures { λ r. ⌜ 524288 ≡ length r ⌝ }
+{
+    [0; 524288]
+}
