@@ -26,9 +26,12 @@ reading quick_values, quick_texts, quick_checked;
 // documents.c
 void add(struct set *s, const unsigned char *bytes, size_t len);
 struct set read_files(char **paths, size_t count);
-struct set wrapped(const struct set *files, size_t about, size_t most, int comments, const char *name);
+struct set wrapped(const struct set *files, size_t about, size_t total, int comments, const char *name);
 
-// ours.c: the tables of rows that are written from, and writing one method of them.
+// ours.c: how many rows, warnings and bytes of text a document needs, reading with just that room, and writing one method of
+// tables of so many rows.
+void ours_needed(const unsigned char *bytes, size_t len, size_t room[3]);
+void ours_fitted(const unsigned char *bytes, size_t len, const size_t room[3]);
 size_t rows_made(size_t wanted);
 long write_once(size_t row);
 #endif

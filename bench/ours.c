@@ -9,24 +9,35 @@ enum { LIMIT = 1 << 20 };
 static uint32_t rows[LIMIT * 4], warnings[LIMIT];
 static uint8_t text[LIMIT];
 
-// Rows for a document of len bytes: one for every `each` of them.
-static long with_rows(const unsigned char *bytes, size_t len, size_t each, size_t text_len) {
+// Lends so many rows, warnings and bytes of text; answers the rows that were read or minus the number of the refusal.
+static long lend(const unsigned char *bytes, size_t len, size_t row_count, size_t warning_count, size_t text_len) {
     uint64_t answer[5];
-    introspection_read(bytes, len, rows, len / each * 16, warnings, len / each * 4, text, text_len, answer);
-    if (answer[0] != 0)
-        return -(long)answer[0];
-    return (long)answer[2];
+    introspection_read(bytes, len, rows, row_count * INTROSPECTION_ROW_WORDS, warnings,
+                       warning_count * INTROSPECTION_WARNING_WORDS, text, text_len, answer);
+    return answer[0] == INTROSPECTION_ACCEPTED ? (long)answer[2] : -(long)answer[0];
 }
 
 // Tables that have room for any document of that length.
 long ours_any(const unsigned char *bytes, size_t len) {
-    return with_rows(bytes, len, 4, len);
+    return lend(bytes, len, len / 4, len / 4, len);
 }
 
-// Tables for an ordinary document first, and those for any where they do not suffice (18).
+// Tables for an ordinary document first, and those for any where they do not suffice.
 long ours_usual(const unsigned char *bytes, size_t len) {
-    long n = with_rows(bytes, len, 32, len / 4);
-    return n == -18 ? ours_any(bytes, len) : n;
+    long n = lend(bytes, len, len / 32, len / 128, len / 8);
+    return n == -INTROSPECTION_NO_ROOM ? ours_any(bytes, len) : n;
+}
+
+void ours_needed(const unsigned char *bytes, size_t len, size_t room[3]) {
+    uint64_t answer[5];
+    introspection_read(bytes, len, rows, len * 4, warnings, len, text, len, answer);
+    room[0] = answer[2];
+    room[1] = answer[4];
+    room[2] = answer[3];
+}
+
+void ours_fitted(const unsigned char *bytes, size_t len, const size_t room[3]) {
+    lend(bytes, len, room[0], room[1], room[2]);
 }
 
 static char made[LIMIT];
