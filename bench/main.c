@@ -1,6 +1,6 @@
 // Times the readers in turn over the same documents and prints the figures.
 // bench FILE...                 all figures
-// bench -n READER FILE...       reads the files once with one reader, in `measured`, for a count of instructions
+// bench -n READER FILE...       reads the files that all accept once with one reader, for a count of instructions
 #include "bench.h"
 #include <stdio.h>
 #include <stdlib.h>
@@ -15,12 +15,12 @@ struct reader {
 static const struct reader readers[] = {
     {"this library", "tables", "all", "attributes", "names, signatures, element rules; n/32 rows lent, n/4 if refused", ours_usual},
     {"this, room for any", "tables", "all", "attributes", "the same; n/4 rows lent, which are cleared", ours_any},
-    {"quick-xml", "events", "attributes", "attributes", "", quick_values},
-    {"quick-xml, texts", "events", "attributes, text", "attributes, text", "", quick_texts},
-    {"quick-xml, checked", "events", "all", "attributes", "UTF-8 of the whole document first", quick_checked},
-    {"expat", "events", "all", "attributes, text", "XML names; parser reused", expat_read},
-    {"libxml2", "tree", "all", "attributes, text", "XML names, namespaces; tree freed", libxml2_read},
-    {"GDBus", "tree", "all", "attributes, text", "tree freed", gdbus_read},
+    {"quick-xml", "events", "attributes", "attributes", "values as str; texts as bytes", quick_values},
+    {"quick-xml, texts", "events", "attributes, text", "attributes, text", "values and texts as str", quick_texts},
+    {"quick-xml, checked", "events", "all", "attributes", "as the first, after a check of the whole document", quick_checked},
+    {"expat", "events", "all", "attributes, text", "entities; parser reused", expat_read},
+    {"libxml2", "tree", "all", "attributes, text", "entities, namespaces; tree freed", libxml2_read},
+    {"GDBus", "tree", "all but comments", "attributes, text", "tree freed", gdbus_read},
 };
 enum { READERS = sizeof readers / sizeof *readers, MOST_ROUNDS = 1001 };
 static int rounds = 21;
@@ -175,10 +175,10 @@ static void works(void) {
 
 int main(int argc, char **argv) {
     if (argc > 3 && !strcmp(argv[1], "-n")) {
-        struct set files = read_files(argv + 3, (size_t)argc - 3);
+        struct set files = read_files(argv + 3, (size_t)argc - 3), all = common(&files, argv + 3);
         for (int r = 0; r < READERS; r++)
             if (!strcmp(readers[r].name, argv[2]))
-                printf("%zu %ld\n", files.bytes, measured(&files, readers[r].read));
+                printf("%zu %ld\n", all.bytes, measured(&all, readers[r].read));
         return 0;
     }
     if (getenv("ROUNDS") && atoi(getenv("ROUNDS")) > 0 && atoi(getenv("ROUNDS")) < MOST_ROUNDS)
