@@ -71,8 +71,8 @@ static int passes_of(const struct set *s, reading *read) {
     return one > 0.02 ? 1 : (int)(0.02 / one) + 1;
 }
 
-// All readers over one set; answers the least nanoseconds for each byte of the first one.
-static double compare(const struct set *s) {
+// All readers over one set, in turn.
+static void compare(const struct set *s) {
     static double seconds[READERS][MOST_ROUNDS], ratios[MOST_ROUNDS];
     int passes[READERS];
     for (int r = 0; r < READERS; r++)
@@ -90,27 +90,45 @@ static double compare(const struct set *s) {
                (double)s->bytes / mid / 1e6, best / least(seconds[0], rounds), median(ratios, rounds));
     }
     fflush(stdout);
-    return least(seconds[0], rounds) / (double)s->bytes * 1e9;
 }
 
-// The least nanoseconds for each byte over the first sets, with tables that just suffice, in turn.
-static void fitted(const struct set *sets, int count, double *each) {
-    size_t(*room[8])[3];
-    for (int k = 0; k < count; k++) {
+enum { SIZES = 3 };
+
+// Nanoseconds for each byte of a set, with the room that each document needs or, without any, with the usual tables.
+static double spent(const struct set *s, size_t (*room)[3]) {
+    double from = now();
+    for (int pass = 0; pass < 5; pass++)
+        for (size_t i = 0; i < s->count; i++)
+            if (room)
+                ours_fitted(s->docs[i].bytes, s->docs[i].len, room[i]);
+            else
+                ours_usual(s->docs[i].bytes, s->docs[i].len);
+    return (now() - from) / 5 / (double)s->bytes * 1e9;
+}
+
+// The time for each byte as documents grow; the sizes in turn.
+static void growing(const struct set *sets) {
+    static double usual[SIZES][4 * MOST_ROUNDS], fitted[SIZES][4 * MOST_ROUNDS];
+    size_t(*room[SIZES])[3];
+    for (int k = 0; k < SIZES; k++) {
         room[k] = malloc(sets[k].count * sizeof *room[k]);
         for (size_t i = 0; i < sets[k].count; i++)
             ours_needed(sets[k].docs[i].bytes, sets[k].docs[i].len, room[k][i]);
-        each[k] = 1e9;
     }
     for (int round = 0; round < rounds * 4; round++)
-        for (int k = 0; k < count; k++) {
-            double from = now();
-            for (int pass = 0; pass < 5; pass++)
-                for (size_t i = 0; i < sets[k].count; i++)
-                    ours_fitted(sets[k].docs[i].bytes, sets[k].docs[i].len, room[k][i]);
-            double ns = (now() - from) / 5 / (double)sets[k].bytes * 1e9;
-            each[k] = ns < each[k] ? ns : each[k];
+        for (int k = 0; k < SIZES; k++) {
+            usual[k][round] = spent(&sets[k], NULL);
+            fitted[k][round] = spent(&sets[k], room[k]);
         }
+    printf("\ntime for each byte, this library, roots of 10 kB taken as 1 (best)\n");
+    printf("  %-30s %8s %8s %8s %12s\n", "tables lent", "10 kB", "100 kB", "1 MB", "10 kB in ns");
+    for (int fit = 0; fit < 2; fit++) {
+        double each[SIZES];
+        for (int k = 0; k < SIZES; k++)
+            each[k] = least(fit ? fitted[k] : usual[k], rounds * 4);
+        printf("  %-30s %8.2f %8.3f %8.3f %12.2f\n", fit ? "as many as the document has" : "n/32 rows", 1.0,
+               each[1] / each[0], each[2] / each[0], each[0]);
+    }
 }
 
 // The files that every reader accepts; those that one refuses are named.
@@ -194,19 +212,12 @@ int main(int argc, char **argv) {
         wrapped(&all, 1000000, TOTAL, 1, "the same in one root of 1 MB"),
         wrapped(&all, 10000, TOTAL, 0, "without comments, in roots of at most 10 kB"),
     };
-    double each[4];
     compare(&all);
     for (int i = 0; i < 4; i++) {
         all_accept(&sets[i]);
-        each[i] = compare(&sets[i]);
+        compare(&sets[i]);
     }
-    double fits[3];
-    fitted(sets, 3, fits);
-    printf("\ntime for each byte, this library, roots of 10 kB taken as 1\n");
-    printf("  %-30s %8s %8s %8s %12s\n", "tables lent", "10 kB", "100 kB", "1 MB", "10 kB in ns");
-    printf("  %-30s %8.2f %8.3f %8.3f %12.2f\n", "n/32 rows", 1.0, each[1] / each[0], each[2] / each[0], each[0]);
-    printf("  %-30s %8.2f %8.3f %8.3f %12.2f\n", "as many as the document has", 1.0, fits[1] / fits[0], fits[2] / fits[0],
-           fits[0]);
+    growing(sets);
     writing();
     return 0;
 }
