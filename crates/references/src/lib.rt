@@ -280,7 +280,7 @@ fn admit_shown(value: &[u8]) -> Checked
 }
 
 // Leaves zeros.
-fn refuse(out: &mut [u8], number: u32, place: usize) -> Answer
+pub fn refuse(out: &mut [u8], number: u32, place: usize) -> Answer
     ensures { λ r. ⌜ Says (wrong number place) (length (now (out .entry))) (now (out .exit)) r ⌝ }
 {
     tables::clear_bytes(out, 0);
@@ -288,7 +288,7 @@ fn refuse(out: &mut [u8], number: u32, place: usize) -> Answer
 }
 
 // Leaves n bytes and zeros after them, or zeros where they do not fit.
-fn finish(out: &mut [u8], n: usize, number: u32, place: usize) -> Answer
+pub fn finish(out: &mut [u8], n: usize, number: u32, place: usize) -> Answer
     ensures { λ r. ⌜ Finishes n number place (now (out .entry)) (now (out .exit)) r ⌝ }
 {
     if out.len() < n {

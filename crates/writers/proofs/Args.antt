@@ -17,10 +17,10 @@ use Rattle.scan.specs.Classes.{Classes}
 use Rattle.references.specs.Outcome.{Puts}
 use Rattle.references.proofs.Putting.{puts-then}
 use Rattle.items.specs.Words.{RowWords, rowOf, rowsOf, tripleAt, viewed, rowsShown}
-use Rattle.items.specs.Written.{Annotation, Arg, Pair, pairs, argPairs, tag, closingTag, concat, element, writtenAnnotation, writtenArg}
+use Rattle.items.specs.Written.{Annotation, Arg, Pair, pairs, optional, tag, closingTag, concat, element, writtenAnnotation, writtenArg}
 use Rattle.items.specs.Content.{Row, direction, childOf, annotationOf, annotations, argOf}
 use Rattle.writers.specs.Rows.{wordAt, wordsIn, rowAt, rowsIn, isChild, anyChild, SomeChild, Held, RowHeld, Last}
-use Rattle.writers.specs.Writes.{Scannable, annotationsIn, AnnotationsPut, nameAt, ArgTagPut, ArgPut}
+use Rattle.writers.specs.Writes.{Scannable, annotationsIn, AnnotationsPut, nameAt, typeAt, directionAt, Room, ArgTagPut, ArgPut}
 use Rattle.writers.proofs.Scans.{rows-one}
 use Rattle.writers.proofs.Texts.{puts-as, present-shown, shown-one}
 
@@ -110,7 +110,7 @@ empty-map f (a ∷ l) = refl
 
 -- the attributes of the arg of row i, its annotations up to a row, and the arg
 abbrev argAttributes : List ℕ → List ℕ → List ℕ → ℕ → List Pair
-argAttributes d x ws i = argPairs (nameAt d x ws i) (shown d x (tripleAt 5 (drop (i * 16) ws))) (direction (wordAt ws i 14))
+argAttributes d x ws i = optional (nameAt d x ws i) ++ (typeAt d x ws i ++ directionAt ws i)
 
 abbrev notedIn : List ℕ → List ℕ → List ℕ → ℕ → ℕ → List Annotation
 notedIn d x ws i to = annotations (suc i) (rowsIn d x ws (suc i) (to - suc i))
@@ -120,6 +120,7 @@ argIn d x ws i to = record { name = nameAt d x ws i; type = shown d x (tripleAt 
 
 module _ (d x ws : List ℕ) (i to : ℕ) where
   arg-is : (m : ℕ) → Held ws m → Last ws m i to → argIn d x ws i to ≡ argOf (rowsShown d x ws m) i (rowAt d x ws i)
+  unfolding nameAt
   arg-is m h l =
       let a = own-annotations d x ws m i to h l in
       let t = present-shown d x (tripleAt 5 (drop (i * 16) ws)) in
@@ -136,11 +137,11 @@ module _ (d x ws : List ℕ) (i to : ℕ) where
 
   module _ {p : ℕ} {b : Bool} (e : p ≡ i + 1) (c : SomeChild ws 6 p p to b) where
     bare-bytes : b ≡ false → (bytes "<arg" ++ pairs (argAttributes d x ws i)) ++ bytes "/>" ≡ writtenArg (argIn d x ws i to)
-    unfolding tag
+    unfolding tag typeAt directionAt
     bare-bytes f = sym (element-bare (bytes "arg") (argAttributes d x ws i) (map writtenAnnotation (notedIn d x ws i to)) (sym (some-noted e c) ∙ f))
 
     full-bytes : b ≡ true → (bytes "<arg" ++ pairs (argAttributes d x ws i)) ++ (bytes ">" ++ (annotationsIn d x ws p p to ++ bytes "</arg>")) ≡ writtenArg (argIn d x ws i to)
-    unfolding tag closingTag annotationsIn
+    unfolding tag closingTag annotationsIn typeAt directionAt
     full-bytes f =
         let g : p ≡ suc i = omega (arith, e) in
         ap (λ k. (bytes "<arg" ++ pairs (argAttributes d x ws i)) ++ (bytes ">" ++ (concat (map writtenAnnotation (annotations k (rowsIn d x ws k (to - k)))) ++ bytes "</arg>"))) g
@@ -149,7 +150,6 @@ module _ (d x ws : List ℕ) (i to : ℕ) where
 
 module _ {d x ws : List ℕ} {i to p : ℕ} {b : Bool} (e : p ≡ i + 1) (o : i < to) (c : SomeChild ws 6 p p to b) where
   module _ {t t₁ : List ℕ} {n m : ℕ} (q : ArgTagPut d x ws i n t t₁ m) where
-
     pub arg-bare : {t₂ : List ℕ} {r : ℕ} → b ≡ false → Puts (bytes "/>") m t₁ t₂ r → ArgPut d x ws i to n t t₂ r
     arg-bare f s = record {
       puts = λ k h l. puts-as (bare-bytes d x ws i to e c f ∙ ap writtenArg (arg-is d x ws i to k h l)) (puts-then (q .puts) s);
@@ -170,8 +170,8 @@ module _ {d x ws cl : List ℕ} {i to n : ℕ} (h : Scannable d x ws i to cl n) 
   pub arg-classes : Classes cl
   arg-classes = h .classes
 
-  pub arg-room : n + 16777216 < 2 ^ 62
-  arg-room = omega (arith, o, h .room)
+  pub arg-room : Room n 16777216
+  arg-room = record { fits = omega (arith, o, h .room) }
 
   module _ {t t₁ : List ℕ} {m : ℕ} (q : ArgTagPut d x ws i n t t₁ m) where
     pub arg-end : m + length (bytes "/>") < 2 ^ 62

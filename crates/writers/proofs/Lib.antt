@@ -3,3 +3,5 @@
 pub mod Scans
 pub mod Texts
 pub mod Args
+pub mod Members
+pub mod Entry

@@ -13,7 +13,7 @@ use lib.ListN.{length, drop, getD}
 use lib.Seq.{drop-drop, getD-drop}
 use Rattle.slices.specs.Bytes.{if}
 use Rattle.items.specs.Words.{RowWords, rowOf, rowsOf}
-use Rattle.writers.specs.Rows.{Word, wordAt, Absent, wordsIn, Held, isChild, anyChild, Child, SomeChild, strays, Stray, NextChild, InOrder, Ordered, ChildOf, Last}
+use Rattle.writers.specs.Rows.{Word, wordAt, Absent, wordsIn, Held, isChild, anyChild, Child, SomeChild, SomeChildren, strays, Stray, NextChild, InOrder, Ordered, ChildOf, Last}
 
 -- the words of a triple
 module _ {ws : List ℕ} {i a : ℕ} (k : ℕ) where
@@ -99,6 +99,12 @@ module _ {ws : List ℕ} {kind p from to k : ℕ} (g : Seeking ws kind p from to
     seek-more f =
         let e : k + 1 ≡ suc k = omega arith in
         record { left = g .left ∙ one-left ∙ rw (f, e); onward = omega (arith, g .onward); within = omega (arith, h) }
+
+pub children-args : {ws : List ℕ} {p to : ℕ} {b : Bool} → SomeChild ws 7 p p to b → b ≡ true → SomeChildren ws p to true
+children-args c f = record { is = rw (sym (c .is) ∙ f) }
+
+pub children-notes : {ws : List ℕ} {p to : ℕ} {b r : Bool} → SomeChild ws 7 p p to b → b ≡ false → SomeChild ws 6 p p to r → SomeChildren ws p to r
+children-notes c f e = record { is = rw (sym (c .is) ∙ f) (e .is) }
 
 -- a loop that looks for the next child
 pub record Passing (ws : List ℕ) (p from to k : ℕ) : Type 0 where
@@ -216,10 +222,10 @@ pub last-ordered : {ws : List ℕ} {n p j r : ℕ} {t : Bool} → ChildOf ws n p
 last-ordered {p = p} {j = j} {r = r} c e m = record {
   onward = omega (arith, m .onward);
   within = m .within;
-  none = λ k a b x. c .order e (p - 1) (omega (arith, c .some)) j r k (omega (arith, c .after, c .some)) (omega (arith, m .onward)) a b (c .parent ∙ omega (arith, c .some)) (m .is (omega (arith, a, b)) ∙ omega (arith, c .some)) x;
+  none = λ k a b x. c .orders .order e (p - 1) (omega (arith, c .orders .some)) j r k (omega (arith, c .after, c .orders .some)) (omega (arith, m .onward)) a b (c .parent ∙ omega (arith, c .orders .some)) (m .is (omega (arith, a, b)) ∙ omega (arith, c .orders .some)) x;
 }
 
 pub last-all : {ws : List ℕ} {n j : ℕ} → j < n → Last ws n j n
 last-all h = record { onward = h; within = omega arith; none = λ k a b. absurd (omega (arith, a, b)) }
 
-pub ruleset scans = (absent-not, absent-no, absent-by, child-kind, child-other, stray-below, stray-other, stray-child, seek-begins, seek-ends, seek-found, seek-more, pass-begins, pass-ends, pass-found, pass-more, order-not, order-begins, order-ends, order-child, order-other, order-few, order-held, order-last, last-ordered, last-all, needs)
+pub ruleset scans = (absent-not, absent-no, absent-by, child-kind, child-other, stray-below, stray-other, stray-child, seek-begins, seek-ends, seek-found, seek-more, children-args, children-notes, pass-begins, pass-ends, pass-found, pass-more, order-not, order-begins, order-ends, order-child, order-other, order-few, order-held, order-last, last-ordered, last-all, needs)

@@ -24,7 +24,7 @@ use Rattle.items.specs.Written.{Annotation, Pair, pair, pairs, optional, direct
 use Rattle.items.specs.Content.{present, direction, childOf, annotationOf, annotations}
 use Rattle.writers.specs.Rows.{Word, wordAt, Absent, Child, rowAt, rowsIn, RowHeld}
 use Rattle.writers.proofs.Scans.{rows-one, word-first, word-second, word-third}
-use Rattle.writers.specs.Writes.{ShownAt, Puttable, ShownPut, annotationAt, AnnotationPut, ifAnnotation, IfAnnotationPut, Scannable, annotationsIn, AnnotationsPut, nameAt, ArgNamePut, DirectionPut, ArgTagPut}
+use Rattle.writers.specs.Writes.{ShownAt, Puttable, ShownPut, annotationAt, AnnotationPut, ifAnnotation, IfAnnotationPut, Scannable, annotationsIn, AnnotationsPut, nameAt, typeAt, directionAt, Room, PairsPut, DirectionPut, ArgTagPut}
 
 -- the same bytes in other words
 pub puts-as : {xs ys t t′ : List ℕ} {n r : ℕ} → xs ≡ ys → Puts xs n t t′ r → Puts ys n t t′ r
@@ -193,70 +193,97 @@ module _ {d x ws t₀ t : List ℕ} {p from to n k m : ℕ} (g : Annotating d x 
       pub note-room : m + 16777216 < 2 ^ 62
       note-room = omega (arith, h, g .most, g .onward, w .room)
 
-module _ {d x ws : List ℕ} {i n : ℕ} where
-  pub arg-unnamed : {t t′ : List ℕ} {r : ℕ} {b : Bool} → Absent ws i 2 b → b ≡ true → Puts (bytes "<arg") n t t′ r → ArgNamePut d x ws i n t t′ r
-  arg-unnamed a f p = record { puts = rw (sym (a .is) ∙ f) p; most = omega (arith, p .counts) }
+-- the attributes of an arg
+pub arg-unnamed : (d x : List ℕ) {ws t : List ℕ} {i n : ℕ} {b : Bool} → Absent ws i 2 b → b ≡ true → PairsPut (optional (nameAt d x ws i)) n t t n
+unfolding nameAt
+arg-unnamed d x a f = record { puts = rw (sym (a .is) ∙ f) puts-none; most = omega arith }
 
-  pub arg-named : {t t₁ t₂ : List ℕ} {m r : ℕ} {b : Bool} → Absent ws i 2 b → b ≡ false → ShownPut d x ws i 2 (bytes "<arg name=\"") n t t₁ m → Puts (bytes "\"") m t₁ t₂ r → ArgNamePut d x ws i n t t₂ r
+module _ {d x ws : List ℕ} {i n : ℕ} where
+  pub arg-named : {t t₁ t₂ : List ℕ} {m r : ℕ} {b : Bool} → Absent ws i 2 b → b ≡ false → ShownPut d x ws i 2 (bytes " name=\"") n t t₁ m → Puts (bytes "\"") m t₁ t₂ r → PairsPut (optional (nameAt d x ws i)) n t t₂ r
+  unfolding nameAt
   arg-named a f p q = record {
     puts = rw (sym (a .is) ∙ f) (puts-as (name-bytes (shown d x (tripleAt 2 (drop (i * 16) ws)))) (puts-then (p .puts) q));
     most = omega (arith, p .most, q .counts);
   }
     where
-      name-bytes : (s : List ℕ) → (bytes "<arg name=\"" ++ escape s) ++ bytes "\"" ≡ bytes "<arg" ++ pairs (optional (some s))
-      name-bytes s = ap (λ l. bytes "<arg name=\"" ++ l) (sym (append-nil (escape s ++ 34 ∷ [])))
+      name-bytes : (s : List ℕ) → (bytes " name=\"" ++ escape s) ++ bytes "\"" ≡ pairs (optional (some s))
+      name-bytes s = ap (λ l. bytes " name=\"" ++ l) (sym (append-nil (escape s ++ 34 ∷ [])))
 
-module _ {d x ws cl : List ℕ} {i n : ℕ} (h : RowHeld d x ws i) (c : Classes cl) (s : n + 16777216 < 2 ^ 62) where
-  pub arg-name : Puttable d x ws i 2 cl (bytes "<arg name=\"") n
-  arg-name = record { held = h; word = omega arith; classes = c; room = omega (arith, s) }
+  pub arg-typed : {t t₁ t₂ : List ℕ} {m r : ℕ} → ShownPut d x ws i 5 (bytes " type=\"") n t t₁ m → Puts (bytes "\"") m t₁ t₂ r → PairsPut (typeAt d x ws i) n t t₂ r
+  unfolding typeAt
+  arg-typed p q = record {
+    puts = puts-as (type-bytes (shown d x (tripleAt 5 (drop (i * 16) ws)))) (puts-then (p .puts) q);
+    most = omega (arith, p .most, q .counts);
+  }
+    where
+      type-bytes : (s : List ℕ) → (bytes " type=\"" ++ escape s) ++ bytes "\"" ≡ pairs (record { key = bytes "type"; value = s } ∷ [])
+      type-bytes s = ap (λ l. bytes " type=\"" ++ l) (sym (append-nil (escape s ++ 34 ∷ [])))
 
-  pub arg-type : {t t₁ : List ℕ} {m : ℕ} → ArgNamePut d x ws i n t t₁ m → Puttable d x ws i 5 cl (bytes " type=\"") m
-  arg-type p = record { held = h; word = omega arith; classes = c; room = omega (arith, s, p .most) }
+module _ {d x ws cl : List ℕ} {i n : ℕ} (h : RowHeld d x ws i) (c : Classes cl) (s : Room n 8388608) where
+  pub arg-name : Puttable d x ws i 2 cl (bytes " name=\"") n
+  arg-name = record { held = h; word = omega arith; classes = c; room = omega (arith, s .fits) }
 
-pub name-end : {d x ws t t₁ : List ℕ} {i n : ℕ} (m : ℕ) → n + 16777216 < 2 ^ 62 → ShownPut d x ws i 2 (bytes "<arg name=\"") n t t₁ m → m + length (bytes "\"") < 2 ^ 62
-name-end m s p = omega (arith, s, p .most)
+  pub arg-type : Puttable d x ws i 5 cl (bytes " type=\"") n
+  arg-type = record { held = h; word = omega arith; classes = c; room = omega (arith, s .fits) }
 
-pub arg-start : (n : ℕ) → n + 16777216 < 2 ^ 62 → n + length (bytes "<arg") < 2 ^ 62
-arg-start n s = omega (arith, s)
+pub name-end : {d x ws t t₁ : List ℕ} {i n : ℕ} (m : ℕ) → Room n 8388608 → ShownPut d x ws i 2 (bytes " name=\"") n t t₁ m → m + length (bytes "\"") < 2 ^ 62
+name-end m s p = omega (arith, s .fits, p .most)
 
-module _ {ws t t′ : List ℕ} {i n r w : ℕ} (e : Word ws i 14 w) where
-  pub direction-none : w ≡ 0 → Puts (bytes "\"") n t t′ r → DirectionPut ws i n t t′ r
-  direction-none f p = record { puts = rw (sym (e .is) ∙ f) p; most = omega (arith, p .counts) }
+pub type-end : {d x ws t t₁ : List ℕ} {i n : ℕ} (m : ℕ) → Room n 8388608 → ShownPut d x ws i 5 (bytes " type=\"") n t t₁ m → m + length (bytes "\"") < 2 ^ 62
+type-end m s p = omega (arith, s .fits, p .most)
 
-  pub direction-inward : w ≡ 1 → Puts (bytes "\" direction=\"in\"") n t t′ r → DirectionPut ws i n t t′ r
-  unfolding escape
-  direction-inward f p = record { puts = rw (sym (e .is) ∙ f) p; most = omega (arith, p .counts) }
+module _ {ws : List ℕ} {i n w : ℕ} (e : Word ws i 14 w) where
+  pub direction-none : {t : List ℕ} → w ≡ 0 → DirectionPut ws i n t t n
+  unfolding directionAt
+  direction-none f = record { puts = rw (sym (e .is) ∙ f) puts-none; most = omega arith }
 
-  pub direction-outward : (w ≡ 0 → ⊥) → (w ≡ 1 → ⊥) → Puts (bytes "\" direction=\"out\"") n t t′ r → DirectionPut ws i n t t′ r
-  unfolding escape
-  direction-outward f g p =
-      let z : wordAt ws i 14 ≡ suc (suc (w - 2)) = sym (e .is) ∙ omega (arith, f, g) in
-      record { puts = rw z p; most = omega (arith, p .counts) }
+  module _ {t t′ : List ℕ} {r : ℕ} where
+    pub direction-inward : w ≡ 1 → Puts (bytes " direction=\"in\"") n t t′ r → DirectionPut ws i n t t′ r
+    unfolding directionAt escape
+    direction-inward f p = record { puts = rw (sym (e .is) ∙ f) p; most = omega (arith, p .counts) }
 
-pub direction-start : {d x ws t t₁ t₂ : List ℕ} {i n m : ℕ} (l : ℕ) → n + 16777216 < 2 ^ 62 → ArgNamePut d x ws i n t t₁ m → ShownPut d x ws i 5 (bytes " type=\"") m t₁ t₂ l → l + 32 < 2 ^ 62
-direction-start l s p q = omega (arith, s, p .most, q .most)
+    pub direction-outward : (w ≡ 0 → ⊥) → (w ≡ 1 → ⊥) → Puts (bytes " direction=\"out\"") n t t′ r → DirectionPut ws i n t t′ r
+    unfolding directionAt escape
+    direction-outward f g p =
+        let z : wordAt ws i 14 ≡ suc (suc (w - 2)) = sym (e .is) ∙ omega (arith, f, g) in
+        record { puts = rw z p; most = omega (arith, p .counts) }
+
+pub direction-room : (n : ℕ) → Room n 32 → n + length (bytes " direction=\"out\"") < 2 ^ 62
+direction-room n s = omega (arith, s .fits)
+
+pub inward-room : (n : ℕ) → Room n 32 → n + length (bytes " direction=\"in\"") < 2 ^ 62
+inward-room n s = omega (arith, s .fits)
+
+-- room for each attribute of an arg
+pub arg-start : (n : ℕ) → Room n 16777216 → n + length (bytes "<arg") < 2 ^ 62
+arg-start n s = omega (arith, s .fits)
+
+module _ {n m : ℕ} {t t₁ : List ℕ} (s : Room n 16777216) (p : Puts (bytes "<arg") n t t₁ m) where
+  pub first-room : Room m 8388608
+  first-room = record { fits = omega (arith, s .fits, p .counts) }
+
+  module _ {ps : List Pair} {l : ℕ} {t₂ : List ℕ} (q : PairsPut ps m t₁ t₂ l) where
+    pub second-room : Room l 8388608
+    second-room = record { fits = omega (arith, s .fits, p .counts, q .most) }
+
+    pub third-room : {qs : List Pair} {k : ℕ} {t₃ : List ℕ} → PairsPut qs l t₂ t₃ k → Room k 32
+    third-room w = record { fits = omega (arith, s .fits, p .counts, q .most, w .most) }
 
 pairs-append : (ps qs : List Pair) → pairs (ps ++ qs) ≡ pairs ps ++ pairs qs
 pairs-append [] qs = refl
 pairs-append (p ∷ ps) qs = ap (_++_ (pair (p .key) (p .value))) (pairs-append ps qs) ∙ sym (append-assoc (pair (p .key) (p .value)) (pairs ps) (pairs qs))
 
-pub arg-tag : {d x ws t t₁ t₂ t₃ : List ℕ} {i n m l r : ℕ} → ArgNamePut d x ws i n t t₁ m → ShownPut d x ws i 5 (bytes " type=\"") m t₁ t₂ l → DirectionPut ws i l t₂ t₃ r → ArgTagPut d x ws i n t t₃ r
-arg-tag {d} {x} {ws} {i = i} p q s = record {
-  puts = puts-as (tag-bytes (optional (nameAt d x ws i)) (shown d x (tripleAt 5 (drop (i * 16) ws))) (directions (direction (wordAt ws i 14)))) (puts-then (p .puts) (puts-then (q .puts) (s .puts)));
-  most = omega (arith, p .most, q .most, s .most);
+pub arg-tag : {d x ws t t₁ t₂ t₃ t₄ : List ℕ} {i n m l k r : ℕ} → Puts (bytes "<arg") n t t₁ m → PairsPut (optional (nameAt d x ws i)) m t₁ t₂ l → PairsPut (typeAt d x ws i) l t₂ t₃ k → DirectionPut ws i k t₃ t₄ r → ArgTagPut d x ws i n t t₄ r
+arg-tag {d} {x} {ws} {i = i} p q s w = record {
+  puts = puts-as (tag-bytes (optional (nameAt d x ws i)) (typeAt d x ws i) (directionAt ws i)) (puts-then p (puts-then (q .puts) (puts-then (s .puts) (w .puts))));
+  most = omega (arith, p .counts, q .most, s .most, w .most);
 }
   where
-    inner : (a b c : List ℕ) → a ++ (b ++ (34 ∷ c)) ≡ a ++ ((b ++ 34 ∷ []) ++ c)
-    inner a b c = ap (_++_ a) (sym (append-assoc b (34 ∷ []) c))
-
-    tag-bytes : (ps : List Pair) (v : List ℕ) (qs : List Pair) → (bytes "<arg" ++ pairs ps) ++ ((bytes " type=\"" ++ escape v) ++ (34 ∷ pairs qs)) ≡ bytes "<arg" ++ pairs (ps ++ (record { key = bytes "type"; value = v } ∷ qs))
-    tag-bytes ps v qs =
-        ap (λ l. bytes "<arg" ++ l)
-        (inner (pairs ps) (bytes " type=\"" ++ escape v) (pairs qs)
-        ∙ sym (pairs-append ps (record { key = bytes "type"; value = v } ∷ qs)))
+    tag-bytes : (ps qs rs : List Pair) → bytes "<arg" ++ (pairs ps ++ (pairs qs ++ pairs rs)) ≡ bytes "<arg" ++ pairs (ps ++ (qs ++ rs))
+    tag-bytes ps qs rs = ap (λ l. bytes "<arg" ++ l) (ap (_++_ (pairs ps)) (sym (pairs-append qs rs)) ∙ sym (pairs-append ps (qs ++ rs)))
 
 pub ruleset texts = (shown-is, shown-put, value-room, annotation-name, annotation-value, annotation-end, annotation-put, annotation-is, annotation-not, needs)
 
 pub ruleset notes = (note-begins, note-ends, note-more, note-held, note-room, needs)
 
-pub ruleset tags = (arg-unnamed, arg-named, arg-name, arg-type, name-end, arg-start, direction-none, direction-inward, direction-outward, direction-start, arg-tag, needs)
+pub ruleset tags = (arg-unnamed, arg-named, arg-typed, arg-name, arg-type, name-end, type-end, arg-start, direction-none, direction-inward, direction-outward, direction-room, inward-room, first-room, second-room, third-room, arg-tag, needs)

@@ -2,3 +2,4 @@
 -- Assumes nothing.
 pub mod Rows
 pub mod Writes
+pub mod Entry

@@ -3,7 +3,7 @@
 use Prim.Native.Nat.{ℕ, suc, _+_, _-_, _*_, _≤_, _<_}
 use mathlib.Core.Path.{_≡_}
 use mathlib.Core.List.{List, [], _∷_}
-use mathlib.Core.Bool.{Bool, true, false, not, _&&_}
+use mathlib.Core.Bool.{Bool, true, false, not, _&&_, _||_}
 use lib.Dec.{eqb, ltb}
 use lib.ListN.{length, drop, getD}
 use Rattle.slices.specs.Bytes.{if}
@@ -61,6 +61,10 @@ pub record Child (ws : List ℕ) (kind p i : ℕ) (r : Bool) : Type 0 where
 pub record SomeChild (ws : List ℕ) (kind p from to : ℕ) (r : Bool) : Type 0 where
   pub is : r ≡ anyChild kind p (wordsIn ws from (to - from))
 
+-- whether an arg or an annotation of row p less one is among the rows from row p on
+pub record SomeChildren (ws : List ℕ) (p to : ℕ) (r : Bool) : Type 0 where
+  pub is : r ≡ anyChild 7 p (wordsIn ws p (to - p)) || anyChild 6 p (wordsIn ws p (to - p))
+
 -- r is the first row from a row on whose parent's row plus one is p, or the end
 pub record NextChild (ws : List ℕ) (p from to r : ℕ) : Type 0 where
   pub onward : from ≤ r
@@ -90,12 +94,16 @@ InOrder ws n i =
 pub record Ordered (ws : List ℕ) (n i : ℕ) (r : Bool) : Type 0 where
   pub is : r ≡ true → InOrder ws n i
 
--- row j is a child of row p less one, whose children are in order if `ordered` says so
-pub record ChildOf (ws : List ℕ) (n p j : ℕ) (ordered : Bool) : Type 0 where
+-- the children of row p less one are in order if `ordered` says so
+pub record Orders (ws : List ℕ) (n p : ℕ) (ordered : Bool) : Type 0 where
   pub some : 0 < p
+  pub order : ordered ≡ true → (i : ℕ) → p ≡ suc i → InOrder ws n i
+
+-- and row j is one of them
+pub record ChildOf (ws : List ℕ) (n p j : ℕ) (ordered : Bool) : Type 0 where
+  pub orders : Orders ws n p ordered
   pub after : p ≤ j
   pub parent : wordAt ws j 1 ≡ p
-  pub order : ordered ≡ true → (i : ℕ) → p ≡ suc i → InOrder ws n i
 
 -- a row whose parent's row plus one is q stands in a child of row p less one that is not the last
 abbrev pub strays : List ℕ → ℕ → ℕ → ℕ → Bool

@@ -13,10 +13,11 @@ use Rattle.tables.specs.Triple.{shown}
 use Rattle.scan.specs.Classes.{Classes}
 use Rattle.references.specs.Escape.{escape}
 use Rattle.references.specs.Outcome.{Puts}
+use Rattle.document.specs.Elements.{among}
 use Rattle.items.specs.Words.{tripleAt, shownBy, rowOf, rowsShown}
-use Rattle.items.specs.Written.{Annotation, Arg, Member, pairs, named, optional, directions, argPairs, concat, writtenAnnotation, writtenArg, writtenMember}
-use Rattle.items.specs.Content.{Row, present, direction, annotationOf, annotations, argOf, args, memberOf}
-use Rattle.writers.specs.Rows.{wordAt, isChild, rowAt, rowsIn, Held, RowHeld, Last}
+use Rattle.items.specs.Written.{Annotation, Arg, Member, Pair, pairs, named, optional, directions, argPairs, closingTag, concat, writtenAnnotation, writtenArg, writtenMember, Item, written}
+use Rattle.items.specs.Content.{Row, present, direction, annotationOf, annotations, argOf, args, memberOf, contentAt}
+use Rattle.writers.specs.Rows.{wordAt, isChild, rowAt, rowsIn, Held, RowHeld, Last, Orders}
 
 -- what the triple from word k on of row i shows
 pub record ShownAt (d x ws : List ℕ) (i k : ℕ) (s : List ℕ) : Type 0 where
@@ -71,22 +72,115 @@ pub record AnnotationsPut (d x ws : List ℕ) (p from to n : ℕ) (t t′ : List
   pub most : r ≤ n + (to - from) * 16777216
 
 -- the name of the arg in row i
-abbrev pub nameAt : List ℕ → List ℕ → List ℕ → ℕ → Option (List ℕ)
+unfoldable pub nameAt : List ℕ → List ℕ → List ℕ → ℕ → Option (List ℕ)
 nameAt d x ws i = shownBy d x (tripleAt 2 (drop (i * 16) ws))
 
-pub record ArgNamePut (d x ws : List ℕ) (i n : ℕ) (t t′ : List ℕ) (r : ℕ) : Type 0 where
-  pub puts : Puts (bytes "<arg" ++ pairs (optional (nameAt d x ws i))) n t t′ r
-  pub most : r ≤ n + 6291480
+-- its type and its direction, as attributes
+unfoldable pub typeAt : List ℕ → List ℕ → List ℕ → ℕ → List Pair
+typeAt d x ws i = record { key = bytes "type"; value = shown d x (tripleAt 5 (drop (i * 16) ws)) } ∷ []
+
+unfoldable pub directionAt : List ℕ → ℕ → List Pair
+directionAt ws i = directions (direction (wordAt ws i 14))
+
+-- there is room to count so many more
+pub record Room (n more : ℕ) : Type 0 where
+  pub fits : n + more < 2 ^ 62
+
+-- attributes put
+pub record PairsPut (ps : List Pair) (n : ℕ) (t t′ : List ℕ) (r : ℕ) : Type 0 where
+  pub puts : Puts (pairs ps) n t t′ r
+  pub most : r ≤ n + 6291472
 
 pub record DirectionPut (ws : List ℕ) (i n : ℕ) (t t′ : List ℕ) (r : ℕ) : Type 0 where
-  pub puts : Puts (34 ∷ pairs (directions (direction (wordAt ws i 14)))) n t t′ r
-  pub most : r ≤ n + 17
+  pub puts : Puts (pairs (directionAt ws i)) n t t′ r
+  pub most : r ≤ n + 16
 
+-- the start tag of the arg in row i, up to its end
 pub record ArgTagPut (d x ws : List ℕ) (i n : ℕ) (t t′ : List ℕ) (r : ℕ) : Type 0 where
-  pub puts : Puts (bytes "<arg" ++ pairs (argPairs (nameAt d x ws i) (shown d x (tripleAt 5 (drop (i * 16) ws))) (direction (wordAt ws i 14)))) n t t′ r
-  pub most : r ≤ n + 12583000
+  pub puts : Puts (bytes "<arg" ++ pairs (optional (nameAt d x ws i) ++ (typeAt d x ws i ++ directionAt ws i))) n t t′ r
+  pub most : r ≤ n + 16777200
 
 -- row i as an arg of the first m rows, if none from row `to` on is a child of it
 pub record ArgPut (d x ws : List ℕ) (i to n : ℕ) (t t′ : List ℕ) (r : ℕ) : Type 0 where
   pub puts : (m : ℕ) → Held ws m → Last ws m i to → Puts (writtenArg (argOf (rowsShown d x ws m) i (rowAt d x ws i))) n t t′ r
   pub most : r ≤ n + (to - i) * 16777216
+
+-- row i of the first m rows as an arg, if it is one of row p less one
+unfoldable pub ifArg : List ℕ → List ℕ → List ℕ → ℕ → ℕ → ℕ → List ℕ
+ifArg d x ws m p i = if (isChild 7 p (rowOf (drop (i * 16) ws))) (writtenArg (argOf (rowsShown d x ws m) i (rowAt d x ws i))) []
+
+pub record IfArgPut (d x ws : List ℕ) (m p i n : ℕ) (t t′ : List ℕ) (r : ℕ) : Type 0 where
+  pub puts : Puts (ifArg d x ws m p i) n t t′ r
+  pub most : r ≤ n + 4398046511104
+
+-- what putting the args of row p less one needs: m rows are held
+pub record ArgsScannable (d x ws : List ℕ) (m p : ℕ) (ordered : Bool) (cl : List ℕ) : Type 0 where
+  pub document : length d ≤ 1048576
+  pub text : length x ≤ 1048576
+  pub held : Held ws m
+  pub onward : p ≤ m
+  pub orders : Orders ws m p ordered
+  pub classes : Classes cl
+
+-- and what putting one of them needs
+pub record Turn (d x ws : List ℕ) (m p : ℕ) (ordered : Bool) (i : ℕ) (cl : List ℕ) (n : ℕ) : Type 0 where
+  pub document : length d ≤ 1048576
+  pub text : length x ≤ 1048576
+  pub held : Held ws m
+  pub after : p ≤ i
+  pub within : i < m
+  pub orders : Orders ws m p ordered
+  pub classes : Classes cl
+  pub room : n + 4398046511104 + 16 < 2 ^ 62
+
+-- the args of row p less one among the first m rows, from row i on
+unfoldable pub argsIn : List ℕ → List ℕ → List ℕ → ℕ → ℕ → ℕ → List ℕ
+argsIn d x ws m p i = concat (map writtenArg (args (rowsShown d x ws m) p i (rowsIn d x ws i (m - i))))
+
+-- what putting the annotations of row p less one needs
+pub record NotesScannable (d x ws : List ℕ) (m p : ℕ) (cl : List ℕ) : Type 0 where
+  pub document : length d ≤ 1048576
+  pub text : length x ≤ 1048576
+  pub held : Held ws m
+  pub onward : p ≤ m
+  pub classes : Classes cl
+
+-- children of one kind put
+pub record Inside (b : List ℕ) (n : ℕ) (t t′ : List ℕ) (r : ℕ) : Type 0 where
+  pub puts : Puts b n t t′ r
+  pub most : r ≤ n + 1152921504606846976
+
+abbrev pub tagOf : ℕ → List ℕ
+tagOf kind = if (eqb kind 3) (bytes "method") (bytes "signal")
+
+pub record MemberTagPut (d x ws : List ℕ) (i kind : ℕ) (t t′ : List ℕ) (r : ℕ) : Type 0 where
+  pub puts : Puts (60 ∷ tagOf kind ++ (bytes " name=\"" ++ escape (shown d x (tripleAt 2 (drop (i * 16) ws))))) 0 t t′ r
+  pub most : r ≤ 6291480
+
+pub record MemberEndPut (kind n : ℕ) (t t′ : List ℕ) (r : ℕ) : Type 0 where
+  pub puts : Puts (closingTag (tagOf kind)) n t t′ r
+
+-- what putting row i with its children needs
+pub record MemberScannable (d x ws : List ℕ) (m i : ℕ) (cl : List ℕ) : Type 0 where
+  pub document : length d ≤ 1048576
+  pub text : length x ≤ 1048576
+  pub held : Held ws m
+  pub within : i < m
+  pub classes : Classes cl
+
+pub record ChildrenPut (d x ws : List ℕ) (m i n : ℕ) (t t′ : List ℕ) (r : ℕ) : Type 0 where
+  pub puts : Puts (argsIn d x ws m (suc i) (suc i) ++ annotationsIn d x ws (suc i) (suc i) m) n t t′ r
+  pub most : r ≤ n + 2305843009213693952
+
+pub record MemberPut (d x ws : List ℕ) (m i kind : ℕ) (t t′ : List ℕ) (r : ℕ) : Type 0 where
+  pub puts : Puts (writtenMember (tagOf kind) (memberOf (rowsShown d x ws m) i (rowAt d x ws i))) 0 t t′ r
+
+-- whether rows of a kind are written: 3, 5, 6 and 7 are
+pub record Writable (kind : ℕ) (r : Bool) : Type 0 where
+  pub is : r ≡ among kind (3 ∷ 5 ∷ 6 ∷ 7 ∷ [])
+
+-- row i of the first m rows
+pub record ItemPut (d x ws : List ℕ) (m i : ℕ) (t t′ : List ℕ) (r : ℕ) : Type 0 where
+  pub item : Item
+  pub is : contentAt d x ws m i ≡ some item
+  pub puts : Puts (written item) 0 t t′ r

@@ -2,7 +2,7 @@
 ghost use mathlib.Core.Path.{_≡_};
 ghost use Prim.Native.Nat.{_*_, _+_, _≤_, _<_};
 ghost use lib.ListN.{length};
-ghost use Rattle.writers.specs.Rows.{Word, Absent, Child, SomeChild, NextChild, Stray, Held, Ordered, ChildOf, Last};
+ghost use Rattle.writers.specs.Rows.{Word, Absent, Child, SomeChild, SomeChildren, NextChild, Stray, Held, Ordered, ChildOf, Last};
 
 // Word k of row i.
 pub fn word_at(rows: &[u32], i: usize, k: usize) -> u32
@@ -58,6 +58,17 @@ pub fn has_child(rows: &[u32], from: usize, to: usize, kind: u32, p: usize) -> b
         k += 1;
     }
     false
+}
+
+// Whether an arg or an annotation of row p less one is among the rows from row p on up to another.
+pub fn has_children(rows: &[u32], p: usize, to: usize) -> bool
+    requires { ⌜ p ≤ to ⌝ ∗ ⌜ to ≤ 262144 ⌝ ∗ ⌜ to * 16 ≤ length (now rows) ⌝ }
+    ensures { λ r. ⌜ SomeChildren (now (rows .entry)) p to r ⌝ }
+{
+    if has_child(rows, p, to, 7, p) {
+        return true;
+    }
+    has_child(rows, p, to, 6, p)
 }
 
 // The first row from one on up to another whose parent's row plus one is p, or the other.

@@ -1,21 +1,23 @@
 // The four writers: method, signal, annotation and arg, from sound rows.
 ghost use Prim.Native.Nat.{_+_, _*_, _≤_, _<_, _^_};
+ghost use mathlib.Core.Path.{_≡_};
+ghost use mathlib.Core.Bool.{true};
 ghost use lib.ListN.{length};
 ghost use Rattle.scan.specs.Classes.{Classes};
-ghost use Rattle.writers.specs.Rows.{RowHeld};
-ghost use Rattle.writers.specs.Writes.{ShownAt, Puttable, ShownPut, AnnotationPut, IfAnnotationPut, Scannable, AnnotationsPut, ArgNamePut, DirectionPut, ArgTagPut, ArgPut};
+ghost use Rattle.references.specs.Entries.{answerOf, leftOf};
+ghost use Rattle.items.specs.Written.{optional};
+ghost use Rattle.items.specs.Writing.{writing};
+ghost use Rattle.writers.specs.Rows.{Word, RowHeld};
+ghost use Rattle.writers.specs.Writes.{ShownAt, Puttable, ShownPut, AnnotationPut, IfAnnotationPut, Scannable, AnnotationsPut, Room, PairsPut, nameAt, typeAt, DirectionPut, ArgTagPut, ArgPut, ArgsScannable, Turn, IfArgPut, Inside, argsIn, NotesScannable, annotationsIn, MemberTagPut, MemberEndPut, MemberScannable, ChildrenPut, MemberPut, Writable, ItemPut};
+ghost use Rattle.writers.specs.Entry.{Admitted, WritesSound};
+use references::Answer;
+use soundness::Soundness;
 use tables::Triple;
 
 mod children;
 
 // What the triple from word k on of row i shows.
-fn shown_at<'a>(
-    document: &'a [u8],
-    text: &'a [u8],
-    rows: &[u32],
-    i: usize,
-    k: usize,
-) -> &'a [u8]
+fn shown_at<'a>(document: &'a [u8], text: &'a [u8], rows: &[u32], i: usize, k: usize) -> &'a [u8]
     requires { ⌜ RowHeld (now document) (now text) (now rows) i ⌝ ∗ ⌜ k ≤ 11 ⌝ }
     ensures { λ r. ⌜ ShownAt (now (document .entry)) (now (text .entry)) (now (rows .entry)) i k (now r) ⌝ }
 {
@@ -59,8 +61,28 @@ fn put_annotation<'a>(
     requires { ⌜ RowHeld (now document) (now text) (now rows) i ⌝ ∗ ⌜ Classes (now classes) ⌝ ∗ ⌜ n + 16777216 < 2 ^ 62 ⌝ }
     ensures { λ r. ⌜ AnnotationPut (now (document .entry)) (now (text .entry)) (now (rows .entry)) i n (now (out .entry)) (now (out .exit)) r ⌝ }
 {
-    let named = put_shown(document, text, rows, i, 2, b"<annotation name=\"", classes, out, n);
-    let valued = put_shown(document, text, rows, i, 5, b"\" value=\"", classes, out, named);
+    let named = put_shown(
+        document,
+        text,
+        rows,
+        i,
+        2,
+        b"<annotation name=\"",
+        classes,
+        out,
+        n,
+    );
+    let valued = put_shown(
+        document,
+        text,
+        rows,
+        i,
+        5,
+        b"\" value=\"",
+        classes,
+        out,
+        named,
+    );
     writer::put_text(out, valued, b"\"/>")
 }
 
@@ -108,7 +130,7 @@ fn put_annotations<'a>(
     m
 }
 
-// `<arg`, and its name if it has one.
+// The name of the arg in row i, if it has one.
 fn put_arg_name<'a>(
     document: &'a [u8],
     text: &'a [u8],
@@ -118,29 +140,46 @@ fn put_arg_name<'a>(
     out: &mut [u8],
     n: usize,
 ) -> usize
-    requires { ⌜ RowHeld (now document) (now text) (now rows) i ⌝ ∗ ⌜ Classes (now classes) ⌝ ∗ ⌜ n + 16777216 < 2 ^ 62 ⌝ }
-    ensures { λ r. ⌜ ArgNamePut (now (document .entry)) (now (text .entry)) (now (rows .entry)) i n (now (out .entry)) (now (out .exit)) r ⌝ }
+    requires { ⌜ RowHeld (now document) (now text) (now rows) i ⌝ ∗ ⌜ Classes (now classes) ⌝ ∗ ⌜ Room n 8388608 ⌝ }
+    ensures { λ r. ⌜ PairsPut (optional (nameAt (now (document .entry)) (now (text .entry)) (now (rows .entry)) i)) n (now (out .entry)) (now (out .exit)) r ⌝ }
 {
     if children::is_absent(rows, i, 2) {
-        return writer::put_text(out, n, b"<arg");
+        return n;
     }
-    let named = put_shown(document, text, rows, i, 2, b"<arg name=\"", classes, out, n);
+    let named = put_shown(document, text, rows, i, 2, b" name=\"", classes, out, n);
     writer::put_text(out, named, b"\"")
 }
 
-// The end of the type's value, and the direction if there is one.
+// The type of the arg in row i.
+fn put_arg_type<'a>(
+    document: &'a [u8],
+    text: &'a [u8],
+    rows: &[u32],
+    i: usize,
+    classes: &[u8; 256],
+    out: &mut [u8],
+    n: usize,
+) -> usize
+    requires { ⌜ RowHeld (now document) (now text) (now rows) i ⌝ ∗ ⌜ Classes (now classes) ⌝ ∗ ⌜ Room n 8388608 ⌝ }
+    ensures { λ r. ⌜ PairsPut (typeAt (now (document .entry)) (now (text .entry)) (now (rows .entry)) i) n (now (out .entry)) (now (out .exit)) r ⌝ }
+{
+    let typed = put_shown(document, text, rows, i, 5, b" type=\"", classes, out, n);
+    writer::put_text(out, typed, b"\"")
+}
+
+// The direction of the arg in row i, if it has one.
 fn put_direction(rows: &[u32], i: usize, out: &mut [u8], n: usize) -> usize
-    requires { ⌜ i < 262144 ⌝ ∗ ⌜ i * 16 + 16 ≤ length (now rows) ⌝ ∗ ⌜ n + 32 < 2 ^ 62 ⌝ }
+    requires { ⌜ i < 262144 ⌝ ∗ ⌜ i * 16 + 16 ≤ length (now rows) ⌝ ∗ ⌜ Room n 32 ⌝ }
     ensures { λ r. ⌜ DirectionPut (now (rows .entry)) i n (now (out .entry)) (now (out .exit)) r ⌝ }
 {
     let direction = children::word_at(rows, i, 14);
     if direction == 0 {
-        return writer::put_text(out, n, b"\"");
+        return n;
     }
     if direction == 1 {
-        return writer::put_text(out, n, b"\" direction=\"in\"");
+        return writer::put_text(out, n, b" direction=\"in\"");
     }
-    writer::put_text(out, n, b"\" direction=\"out\"")
+    writer::put_text(out, n, b" direction=\"out\"")
 }
 
 // The start tag of an arg, up to its end.
@@ -153,11 +192,12 @@ fn put_arg_tag<'a>(
     out: &mut [u8],
     n: usize,
 ) -> usize
-    requires { ⌜ RowHeld (now document) (now text) (now rows) i ⌝ ∗ ⌜ Classes (now classes) ⌝ ∗ ⌜ n + 16777216 < 2 ^ 62 ⌝ }
+    requires { ⌜ RowHeld (now document) (now text) (now rows) i ⌝ ∗ ⌜ Classes (now classes) ⌝ ∗ ⌜ Room n 16777216 ⌝ }
     ensures { λ r. ⌜ ArgTagPut (now (document .entry)) (now (text .entry)) (now (rows .entry)) i n (now (out .entry)) (now (out .exit)) r ⌝ }
 {
-    let named = put_arg_name(document, text, rows, i, classes, out, n);
-    let typed = put_shown(document, text, rows, i, 5, b" type=\"", classes, out, named);
+    let tagged = writer::put_text(out, n, b"<arg");
+    let named = put_arg_name(document, text, rows, i, classes, out, tagged);
+    let typed = put_arg_type(document, text, rows, i, classes, out, named);
     put_direction(rows, i, out, typed)
 }
 
@@ -183,4 +223,250 @@ fn put_arg<'a>(
         return writer::put_text(out, noted, b"</arg>");
     }
     writer::put_text(out, tagged, b"/>")
+}
+
+// Row i as an arg, if it is one of row p less one.
+fn put_if_arg<'a>(
+    document: &'a [u8],
+    text: &'a [u8],
+    rows: &[u32],
+    count: usize,
+    p: usize,
+    ordered: bool,
+    i: usize,
+    classes: &[u8; 256],
+    out: &mut [u8],
+    n: usize,
+) -> usize
+    requires { ⌜ Turn (now document) (now text) (now rows) count p ordered i (now classes) n ⌝ }
+    ensures { λ r. ⌜ IfArgPut (now (document .entry)) (now (text .entry)) (now (rows .entry)) count p i n (now (out .entry)) (now (out .exit)) r ⌝ }
+{
+    if children::is_child(rows, i, 7, p) {
+        let to = children::last_child(rows, count, i, p, ordered);
+        return put_arg(document, text, rows, i, to, classes, out, n);
+    }
+    n
+}
+
+// The args of row p less one.
+fn put_args<'a>(
+    document: &'a [u8],
+    text: &'a [u8],
+    rows: &[u32],
+    count: usize,
+    p: usize,
+    ordered: bool,
+    classes: &[u8; 256],
+    out: &mut [u8],
+    n: usize,
+) -> usize
+    requires { ⌜ ArgsScannable (now document) (now text) (now rows) count p ordered (now classes) ⌝ ∗ ⌜ Room n 2305843009213693952 ⌝ }
+    ensures { λ r. ⌜ Inside (argsIn (now (document .entry)) (now (text .entry)) (now (rows .entry)) count p p) n (now (out .entry)) (now (out .exit)) r ⌝ }
+{
+    let mut m = n;
+    let mut k = p;
+    while k < count {
+        m = put_if_arg(document, text, rows, count, p, ordered, k, classes, out, m);
+        k += 1;
+    }
+    m
+}
+
+// The annotations of row p less one.
+fn put_notes<'a>(
+    document: &'a [u8],
+    text: &'a [u8],
+    rows: &[u32],
+    count: usize,
+    p: usize,
+    classes: &[u8; 256],
+    out: &mut [u8],
+    n: usize,
+) -> usize
+    requires { ⌜ NotesScannable (now document) (now text) (now rows) count p (now classes) ⌝ ∗ ⌜ Room n 2305843009213693952 ⌝ }
+    ensures { λ r. ⌜ Inside (annotationsIn (now (document .entry)) (now (text .entry)) (now (rows .entry)) p p count) n (now (out .entry)) (now (out .exit)) r ⌝ }
+{
+    put_annotations(document, text, rows, p, p, count, classes, out, n)
+}
+
+// The start tag of a method or a signal, up to the end of its name.
+fn put_member_tag<'a>(
+    document: &'a [u8],
+    text: &'a [u8],
+    rows: &[u32],
+    i: usize,
+    kind: u32,
+    classes: &[u8; 256],
+    out: &mut [u8],
+) -> usize
+    requires { ⌜ RowHeld (now document) (now text) (now rows) i ⌝ ∗ ⌜ Classes (now classes) ⌝ }
+    ensures { λ r. ⌜ MemberTagPut (now (document .entry)) (now (text .entry)) (now (rows .entry)) i kind (now (out .entry)) (now (out .exit)) r ⌝ }
+{
+    if kind == 3 {
+        return put_shown(
+            document,
+            text,
+            rows,
+            i,
+            2,
+            b"<method name=\"",
+            classes,
+            out,
+            0,
+        );
+    }
+    put_shown(
+        document,
+        text,
+        rows,
+        i,
+        2,
+        b"<signal name=\"",
+        classes,
+        out,
+        0,
+    )
+}
+
+// The closing tag of a method or a signal.
+fn put_member_end(kind: u32, out: &mut [u8], n: usize) -> usize
+    requires { ⌜ n + 16 < 2 ^ 62 ⌝ }
+    ensures { λ r. ⌜ MemberEndPut kind n (now (out .entry)) (now (out .exit)) r ⌝ }
+{
+    if kind == 3 {
+        return writer::put_text(out, n, b"</method>");
+    }
+    writer::put_text(out, n, b"</signal>")
+}
+
+// The children of row i: args before annotations.
+fn put_children<'a>(
+    document: &'a [u8],
+    text: &'a [u8],
+    rows: &[u32],
+    count: usize,
+    i: usize,
+    classes: &[u8; 256],
+    out: &mut [u8],
+    n: usize,
+) -> usize
+    requires { ⌜ MemberScannable (now document) (now text) (now rows) count i (now classes) ⌝ ∗ ⌜ n < 6291500 ⌝ }
+    ensures { λ r. ⌜ ChildrenPut (now (document .entry)) (now (text .entry)) (now (rows .entry)) count i n (now (out .entry)) (now (out .exit)) r ⌝ }
+{
+    let p = i + 1;
+    let ordered = children::is_ordered(rows, count, i);
+    let argued = put_args(document, text, rows, count, p, ordered, classes, out, n);
+    put_notes(document, text, rows, count, p, classes, out, argued)
+}
+
+// Row i as a method or a signal.
+fn put_member<'a>(
+    document: &'a [u8],
+    text: &'a [u8],
+    rows: &[u32],
+    count: usize,
+    i: usize,
+    kind: u32,
+    classes: &[u8; 256],
+    out: &mut [u8],
+) -> usize
+    requires { ⌜ MemberScannable (now document) (now text) (now rows) count i (now classes) ⌝ }
+    ensures { λ r. ⌜ MemberPut (now (document .entry)) (now (text .entry)) (now (rows .entry)) count i kind (now (out .entry)) (now (out .exit)) r ⌝ }
+{
+    let tagged = put_member_tag(document, text, rows, i, kind, classes, out);
+    if children::has_children(rows, i + 1, count) {
+        let opened = writer::put_text(out, tagged, b"\">");
+        let inside = put_children(document, text, rows, count, i, classes, out, opened);
+        return put_member_end(kind, out, inside);
+    }
+    writer::put_text(out, tagged, b"\"/>")
+}
+
+// Whether rows of a kind are written.
+fn is_writable(kind: u32) -> bool
+    ensures { λ r. ⌜ Writable kind r ⌝ }
+{
+    if kind == 3 {
+        return true;
+    }
+    if kind == 5 {
+        return true;
+    }
+    if kind == 6 {
+        return true;
+    }
+    kind == 7
+}
+
+// Row i, whose kind is given.
+fn put_item<'a>(
+    document: &'a [u8],
+    text: &'a [u8],
+    rows: &[u32],
+    count: usize,
+    i: usize,
+    kind: u32,
+    classes: &[u8; 256],
+    out: &mut [u8],
+) -> usize
+    requires { ⌜ MemberScannable (now document) (now text) (now rows) count i (now classes) ⌝ ∗ ⌜ Word (now rows) i 0 kind ⌝ ∗ ⌜ Writable kind true ⌝ }
+    ensures { λ r. ⌜ ItemPut (now (document .entry)) (now (text .entry)) (now (rows .entry)) count i (now (out .entry)) (now (out .exit)) r ⌝ }
+{
+    if kind == 6 {
+        return put_annotation(document, text, rows, i, classes, out, 0);
+    }
+    if kind == 7 {
+        return put_arg(document, text, rows, i, count, classes, out, 0);
+    }
+    put_member(document, text, rows, count, i, kind, classes, out)
+}
+
+// A row of sound rows: 20 where there is no such row or its kind is not written, 21 where there is no room.
+fn write_sound<'a>(
+    document: &'a [u8],
+    text: &'a [u8],
+    rows: &[u32],
+    claimed: usize,
+    row: usize,
+    out: &mut [u8],
+) -> Answer
+    requires { ⌜ Admitted (now document) (now text) (now rows) claimed ⌝ }
+    ensures { λ r. ⌜ WritesSound (now (document .entry)) (now (text .entry)) (now (rows .entry)) claimed row (now (out .entry)) (now (out .exit)) r ⌝ }
+{
+    if claimed <= row {
+        return references::refuse(out, 20, row);
+    }
+    let kind = children::word_at(rows, row, 0);
+    if is_writable(kind) {
+        let classes = scan::classes();
+        let n = put_item(document, text, rows, claimed, row, kind, &classes, out);
+        return references::finish(out, n, 21, n);
+    }
+    references::refuse(out, 20, row)
+}
+
+// Writes a method, a signal, an annotation or an arg. Refused with 2 for a document or a text of more than 1,048,576 bytes,
+// with 19 for rows that are not sound, with 20 for no such row or one of another kind, and with 21 and the bytes needed where
+// there is no room.
+pub fn write<'a>(
+    document: &'a [u8],
+    text: &'a [u8],
+    rows: &[u32],
+    claimed: usize,
+    row: usize,
+    out: &mut [u8],
+) -> Answer
+    ensures answer { λ r. ⌜ r ≡ answerOf (writing (now (document .entry)) (now (text .entry)) (now (rows .entry)) claimed row (length (now (out .entry)))) ⌝ }
+    ensures left { λ r. ⌜ now (out .exit) ≡ leftOf (length (now (out .entry))) (writing (now (document .entry)) (now (text .entry)) (now (rows .entry)) claimed row (length (now (out .entry)))) ⌝ }
+{
+    if 1048576 < document.len() {
+        return references::refuse(out, 2, 1048576);
+    }
+    if 1048576 < text.len() {
+        return references::refuse(out, 2, 1048576);
+    }
+    match soundness::check(document, text, rows, claimed) {
+        Soundness::Unsound(place) => references::refuse(out, 19, place),
+        Soundness::Sound => write_sound(document, text, rows, claimed, row, out),
+    }
 }

@@ -8,8 +8,9 @@ pub put-arg-tag-spec : {M : Type 1} → statement M
 put-arg-tag-spec =
     tie.close
     (tie.spec
-    (λ c κs. search tags)
     (λ c. search tags)
+    (λ c κs. search tags)
+    (λ c κs. search tags)
     (λ c κs. search tags)
     (λ c κs. search tags)
     (λ c. search tags)

@@ -10,9 +10,6 @@ put-direction-spec =
     (tie.spec
     (λ c κs. search tags)
     (λ c. search tags)
-    (λ c κs. search tags)
-    (λ c. search tags)
-    (λ c. search tags)
     (λ c. search tags)
     (λ c κs. search tags)
     (λ c. search tags)

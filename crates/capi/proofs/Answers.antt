@@ -1,0 +1,46 @@
+-- The words of an answer, on each way of the code.
+-- Assumes nothing.
+use Prim.Native.Nat.{ℕ}
+use mathlib.Core.Path.{_≡_, refl, ap, _∙_}
+use mathlib.Core.List.{List, [], _∷_}
+use mathlib.Core.Bool.{Bool}
+use borrow.Author.Needs.{needs}
+use Rattle.tables.specs.declared.Triple.{Triple}
+use Rattle.tables.specs.Triple.{inside, resolved}
+use Rattle.references.specs.Unescape.{Text}
+use Rattle.references.specs.Entries.{answerOf}
+use Rattle.references.specs.declared.Answer.{Answer}
+use Rattle.references.specs.declared.Answer.the-variants as answer
+use Rattle.document.specs.Tags.{Shown}
+use Rattle.document.specs.Reading.{State}
+use Rattle.document.specs.Whole.{verdictOf}
+use Rattle.document.specs.declared.Verdict.{Verdict}
+use Rattle.document.specs.declared.Verdict.the-variants as verdict
+use Rattle.capi.specs.Words.{verdictWords, answerWords, readWords, textWords, partWords, lookupWords}
+
+module _ {v : Verdict} where
+  pub verdict-refused : {n p : ℕ} → v ≡ verdict.Refused n p → (n ∷ p ∷ 0 ∷ 0 ∷ 0 ∷ []) ≡ verdictWords v
+  verdict-refused e = rw e refl
+
+  pub verdict-accepted : {r t w : ℕ} → v ≡ verdict.Accepted r t w → (0 ∷ 0 ∷ r ∷ t ∷ w ∷ []) ≡ verdictWords v
+  verdict-accepted e = rw e refl
+
+  pub read-words : (s : State Shown) {ws : List ℕ} → ws ≡ verdictWords v → v ≡ verdictOf s → ws ≡ readWords s
+  read-words s h e = h ∙ ap verdictWords e
+
+module _ {a : Answer} where
+  pub answer-refused : {n p : ℕ} → a ≡ answer.Refused n p → (n ∷ p ∷ 0 ∷ []) ≡ answerWords a
+  answer-refused e = rw e refl
+
+  pub answer-done : {n : ℕ} → a ≡ answer.Done n → (0 ∷ 0 ∷ n ∷ []) ≡ answerWords a
+  answer-done e = rw e refl
+
+  pub text-words : (t : Text) {ws : List ℕ} → ws ≡ answerWords a → a ≡ answerOf t → ws ≡ textWords t
+  text-words t h e = h ∙ ap answerWords e
+
+pub lookup-words : (document text : List ℕ) (t : Triple) {p : Triple} {b : Bool} {ws : List ℕ} → ws ≡ partWords b p → b ≡ inside document text t → p ≡ resolved document text t → ws ≡ lookupWords document text t
+lookup-words document text t h e f = h ∙ rw (e, f) refl
+
+pub ruleset words = (verdict-refused, verdict-accepted, answer-refused, answer-done, needs)
+
+pub ruleset entries = (read-words, text-words, lookup-words, needs)

@@ -1,0 +1,3 @@
+-- The laws of the answer words.
+-- Assumes nothing.
+pub mod Answers

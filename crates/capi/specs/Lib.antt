@@ -1,0 +1,3 @@
+-- The answer words of the functions for C.
+-- Assumes nothing.
+pub mod Words

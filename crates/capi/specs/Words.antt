@@ -1,0 +1,45 @@
+-- The words of each answer, in the order of include/introspection.h.
+-- Assumes nothing.
+use Prim.Native.Nat.{ℕ}
+use mathlib.Core.List.{List, [], _∷_}
+use mathlib.Core.Bool.{Bool}
+use Rattle.slices.specs.Bytes.{if}
+use Rattle.tables.specs.Triple.{inside, resolved}
+use Rattle.tables.specs.declared.Triple.{Triple}
+use Rattle.references.specs.Unescape.{Text}
+use Rattle.references.specs.Entries.{answerOf}
+use Rattle.references.specs.declared.Answer.{Answer}
+use Rattle.references.specs.declared.Answer.the-variants as answer
+use Rattle.document.specs.Tags.{Shown}
+use Rattle.document.specs.Reading.{State}
+use Rattle.document.specs.Whole.{verdictOf}
+use Rattle.document.specs.declared.Verdict.{Verdict}
+use Rattle.document.specs.declared.Verdict.the-variants as verdict
+
+-- number, place, rows, text bytes, warnings
+abbrev pub verdictWords : Verdict → List ℕ
+verdictWords (verdict.Refused n p) = n ∷ p ∷ 0 ∷ 0 ∷ 0 ∷ []
+verdictWords (verdict.Accepted rows text warnings) = 0 ∷ 0 ∷ rows ∷ text ∷ warnings ∷ []
+
+-- number, place, bytes written
+abbrev pub answerWords : Answer → List ℕ
+answerWords (answer.Refused n p) = n ∷ p ∷ 0 ∷ []
+answerWords (answer.Done n) = 0 ∷ 0 ∷ n ∷ []
+
+-- of a document that was read; the number is 0 for those accepted alone, since every other number is more than 0 (crate bounds)
+abbrev pub readWords : State Shown → List ℕ
+readWords s = verdictWords (verdictOf s)
+
+-- of a text that was made
+abbrev pub textWords : Text → List ℕ
+textWords t = answerWords (answerOf t)
+
+abbrev pub bit : Bool → ℕ
+bit b = if b 1 0
+
+-- 1 or 0; source, start and length of the part
+abbrev pub partWords : Bool → Triple → List ℕ
+partWords b t = bit b ∷ t .source ∷ t .start ∷ t .len ∷ []
+
+abbrev pub lookupWords : List ℕ → List ℕ → Triple → List ℕ
+lookupWords document text t = partWords (inside document text t) (resolved document text t)

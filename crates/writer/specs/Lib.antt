@@ -1,0 +1,3 @@
+-- What a writer is once bytes are put.
+-- Assumes nothing.
+pub mod Added

@@ -1,0 +1,23 @@
+-- `writers::write_sound` meets its contract.
+-- Assumes nothing.
+use Rattle.writers.proofs.Entry.{rows}
+use Rattle.writers.proofs.write_sound.Statement.{statement}
+use Rattle.writers.proofs.write_sound.Tie as tie
+
+pub write-sound-spec : {M : Type 1} → statement M
+write-sound-spec =
+    tie.close
+    (tie.spec
+    (λ c κs. search rows)
+    (λ c. search rows)
+    (λ c. search rows)
+    (λ c κs. search rows)
+    (λ c κs. search rows)
+    (λ c κs. search rows)
+    (λ c κs. (search rows, (search rows, search rows)))
+    (λ c κs. search rows)
+    (λ c. search rows)
+    (λ c. search rows)
+    (λ c κs. search rows)
+    (λ c. search rows)
+    (λ c. search rows))

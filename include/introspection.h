@@ -1,0 +1,191 @@
+/*
+ * A proved reader and writers of D-Bus introspection XML.
+ *
+ * Link target/staticlib/libcapi.a, which `rt staticlib capi` makes (x86-64 Linux). It needs no library but C's.
+ * What is read, and every number and place, is in docs/FORMAT.md; this is what a caller needs of it.
+ *
+ * Memory. Every buffer is the caller's. A function uses it during the call alone, keeps no pointer, allocates nothing
+ * and calls nothing of the program. A buffer is a pointer and a length in elements: bytes for uint8_t, 32-bit words for
+ * uint32_t. A null pointer is fine where the length is 0. A buffer that a function writes, the answer included, does
+ * not overlap another buffer of the call, and nothing else writes any of them meanwhile. What a written buffer held
+ * before does not matter. Places and lengths are in bytes; rows and warnings are counted whole, rows from 0.
+ *
+ * Answers. The answer is the last argument, never null, and every word of it is written. Word 0 is the number: 0 for
+ * accepted, or why it was refused; word 1 is the place, a byte offset unless its number says other. After acceptance
+ * a written buffer holds zeros past the used part; after a refusal it holds zeros alone, and the counts are 0.
+ *
+ * Threads. The library has no state: any threads may call at once, with buffers of their own for writing. Reading was
+ * measured to use 30 kB of the stack, and 410 kB where 1,024 elements are open in what is skipped or in a docstring, so
+ * 512 kB is enough.
+ */
+#ifndef INTROSPECTION_H
+#define INTROSPECTION_H
+
+#include <stddef.h>
+#include <stdint.h>
+
+#ifdef __cplusplus
+extern "C" {
+#endif
+
+/* Limits. A longer document, text or value is refused with INTROSPECTION_TOO_LONG, more rows claimed for writing with
+ * INTROSPECTION_UNSOUND_ROWS. */
+#define INTROSPECTION_MAX_BYTES 1048576
+#define INTROSPECTION_MAX_ROWS 262144
+
+/* Words of a row and of a warning. Only whole ones count as room. */
+#define INTROSPECTION_ROW_WORDS 16
+#define INTROSPECTION_WARNING_WORDS 4
+
+/* Words of a row. A triple is three words, source, start and length (introspection_lookup); three zeros: absent. */
+enum introspection_word {
+    INTROSPECTION_WORD_KIND = 0,
+    INTROSPECTION_WORD_PARENT = 1,     /* the parent's row plus one; 0 for the root, which is row 0 */
+    INTROSPECTION_WORD_NAME = 2,       /* triple: name; of an enumvalue its suffix */
+    INTROSPECTION_WORD_VALUE = 5,      /* triple: value of annotation and enumvalue; signature of property, arg,
+                                          simple-type, enum, member */
+    INTROSPECTION_WORD_TP_TYPE = 8,    /* triple: tp:type of property, arg, member */
+    INTROSPECTION_WORD_DOCSTRING = 11, /* triple: docstring, of all kinds but annotation */
+    INTROSPECTION_WORD_ACCESS = 14,    /* of a property */
+    INTROSPECTION_WORD_DIRECTION = 14  /* of an arg; word 15 is 0 */
+};
+
+/* Word 0 of a row. Rows stand in the order of the start tags. */
+enum introspection_kind {
+    INTROSPECTION_KIND_NODE = 1,
+    INTROSPECTION_KIND_INTERFACE = 2,
+    INTROSPECTION_KIND_METHOD = 3,
+    INTROSPECTION_KIND_PROPERTY = 4,
+    INTROSPECTION_KIND_SIGNAL = 5,
+    INTROSPECTION_KIND_ANNOTATION = 6,
+    INTROSPECTION_KIND_ARG = 7,
+    INTROSPECTION_KIND_SIMPLE_TYPE = 8,
+    INTROSPECTION_KIND_ENUM = 9,
+    INTROSPECTION_KIND_ENUMVALUE = 10,
+    INTROSPECTION_KIND_STRUCT = 11,
+    INTROSPECTION_KIND_MEMBER = 12,
+    INTROSPECTION_KIND_MAPPING = 13
+};
+
+/* Word 14 of a property. */
+enum introspection_access {
+    INTROSPECTION_ACCESS_READ = 1,
+    INTROSPECTION_ACCESS_WRITE = 2,
+    INTROSPECTION_ACCESS_READWRITE = 3
+};
+
+/* Word 14 of an arg. */
+enum introspection_direction {
+    INTROSPECTION_DIRECTION_NONE = 0,
+    INTROSPECTION_DIRECTION_IN = 1,
+    INTROSPECTION_DIRECTION_OUT = 2
+};
+
+/* The first word of a triple: which buffer the part is in. */
+enum introspection_source {
+    INTROSPECTION_SOURCE_ABSENT = 0,
+    INTROSPECTION_SOURCE_DOCUMENT = 1,
+    INTROSPECTION_SOURCE_TEXT = 2
+};
+
+/* Word 0 of an answer, and in brackets the place in word 1. */
+enum introspection_number {
+    INTROSPECTION_ACCEPTED = 0,
+    INTROSPECTION_NOT_UTF8 = 1,                 /* [the first ill-formed sequence] */
+    INTROSPECTION_TOO_LONG = 2,                 /* [1,048,576] */
+    INTROSPECTION_NO_ROOT = 3,                  /* [the length] */
+    INTROSPECTION_MALFORMED_MARKUP = 4,         /* [docs/FORMAT.md, Answers] */
+    INTROSPECTION_UNCLOSED_ELEMENT = 5,         /* [the length] */
+    INTROSPECTION_CROSSED_CLOSE = 6,            /* [after the closing tag] */
+    INTROSPECTION_TOO_DEEP = 7,                 /* more than 1,024 open [after the start tag] */
+    INTROSPECTION_DUPLICATE_ATTRIBUTE = 8,      /* [its name] */
+    INTROSPECTION_UNTERMINATED_REFERENCE = 9,   /* [its &] */
+    INTROSPECTION_UNKNOWN_ENTITY = 10,          /* [its &] */
+    INTROSPECTION_BAD_CHARACTER_REFERENCE = 11, /* [its &] */
+    INTROSPECTION_ATTRIBUTE_MISSING = 12,       /* [the element name] */
+    INTROSPECTION_BAD_NAME = 13,                /* [the element name] */
+    INTROSPECTION_BAD_SIGNATURE = 14,           /* [the element name] */
+    INTROSPECTION_BAD_ACCESS = 15,              /* [after the start tag] */
+    INTROSPECTION_BAD_DIRECTION = 16,           /* [after the start tag] */
+    INTROSPECTION_TOO_MANY_ATTRIBUTES = 17,     /* more than 256 in a tag [the 257th name] */
+    INTROSPECTION_NO_ROOM = 18,                 /* a lent table is short [the input's length] */
+    INTROSPECTION_UNSOUND_ROWS = 19,            /* [262,144 if more rows are claimed; else the rows lent if fewer than
+                                                   claimed; else the first bad row] */
+    INTROSPECTION_NOT_WRITABLE = 20,            /* no such row, or its kind is not 3, 5, 6 or 7 [the row asked for] */
+    INTROSPECTION_OUTPUT_SHORT = 21             /* [the bytes needed] */
+};
+
+/* Word 0 of a warning; words 1 to 3 are the place of `<` and the place and the length of the element name, in the
+ * document. A warning says that one element was left out whole, with all in it. */
+enum introspection_reason {
+    INTROSPECTION_REASON_UNSUPPORTED_ELEMENT = 1,
+    INTROSPECTION_REASON_NO_NAME = 2,
+    INTROSPECTION_REASON_NO_TYPE = 3,
+    INTROSPECTION_REASON_BAD_SIGNATURE = 4,        /* or an empty one */
+    INTROSPECTION_REASON_INCOMPLETE_ENUMVALUE = 5, /* an enum: a value lacks its suffix or its value */
+    INTROSPECTION_REASON_INCOMPLETE_MEMBER = 6,    /* a struct or a mapping: a member lacks its name or its type */
+    INTROSPECTION_REASON_NO_MEMBERS = 7,           /* a struct */
+    INTROSPECTION_REASON_NOT_TWO_MEMBERS = 8,      /* a mapping */
+    INTROSPECTION_REASON_KEY_NOT_BASIC = 9         /* a mapping */
+};
+
+/*
+ * Reads a document into rows, warnings and text.
+ *
+ * Room that is always enough for a document of n bytes: n / 4 rows and n / 4 warnings (4n and n words), n bytes of
+ * text. 4 times the rows and warnings together never exceed n, nor do the text bytes. Text takes the values that hold a
+ * reference, tab, LF or CR, as they are shown; all others are left in the document. So the rows are good for as long as
+ * the document and the text are there, unchanged.
+ *
+ * answer: number, place, rows, text bytes, warnings. Refusals: 2, 1, the first of 3 to 17 met in reading, then 18.
+ */
+void introspection_read(const uint8_t *document, size_t document_length, uint32_t *rows, size_t rows_length,
+                        uint32_t *warnings, size_t warnings_length, uint8_t *text, size_t text_length,
+                        uint64_t answer[5]);
+
+/*
+ * Writes value with `&`, `<`, `>`, `"`, `'`, tab, LF and CR turned into references. Output of 6 bytes for each of the
+ * value is always enough.
+ *
+ * answer: number, place, bytes written. Refusals: 2, 1, 21.
+ */
+void introspection_escape(const uint8_t *value, size_t value_length, uint8_t *output, size_t output_length,
+                          uint64_t answer[3]);
+
+/*
+ * Writes what an attribute value shows: its references as characters; CR LF, CR, LF and tab as a space. Output as long
+ * as the value is always enough.
+ *
+ * answer: number, place, bytes written. Refusals: 2, 1, 9 to 11, 18.
+ */
+void introspection_unescape(const uint8_t *value, size_t value_length, uint8_t *output, size_t output_length,
+                            uint64_t answer[3]);
+
+/*
+ * Writes the method, signal, annotation or arg of a row as XML, with the args and annotations in it; docstrings and tp
+ * types are not written. document, text and rows are as introspection_read left them, with the rows of its answer as
+ * rows_claimed; or made by the caller: the rows are checked first, and refused if they are not sound.
+ *
+ * answer: number, place, bytes written. Refusals: 2, 19, 20, 21. To learn the size, call with output_length 0: the
+ * number is then 21 and the place the bytes needed.
+ */
+void introspection_write(const uint8_t *document, size_t document_length, const uint8_t *text, size_t text_length,
+                         const uint32_t *rows, size_t rows_length, uint64_t rows_claimed, uint64_t row, uint8_t *output,
+                         size_t output_length, uint64_t answer[3]);
+
+/*
+ * The part of the document or of the text that a triple leads to: length bytes from start on in the buffer of its
+ * source, 1 the document, 2 the text.
+ *
+ * answer: 1 or 0, source, start, length. 0 is for a triple whose source is not 1 or 2 (an absent one) or that runs past
+ * its buffer; it leads to the empty beginning of the document, source 1, start 0, length 0. So the part may be used
+ * in any case.
+ */
+void introspection_lookup(const uint8_t *document, size_t document_length, const uint8_t *text, size_t text_length,
+                          uint32_t source, uint32_t start, uint32_t length, uint64_t answer[4]);
+
+#ifdef __cplusplus
+}
+#endif
+
+#endif

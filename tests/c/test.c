@@ -1,0 +1,499 @@
+/* Calls each function of include/introspection.h as a C program does. Buffers are made by malloc with just the length
+ * that is told, so that valgrind sees a byte too many. */
+#include "introspection.h"
+
+#include <stdio.h>
+#include <stdlib.h>
+#include <string.h>
+
+static unsigned passed, failed;
+
+static void check(int good, const char *what, int line)
+{
+    if (good) {
+        passed++;
+    } else {
+        failed++;
+        printf("tests/c/test.c:%d: failed: %s\n", line, what);
+    }
+}
+
+#define CHECK(what) check((what), #what, __LINE__)
+
+/* ---- lent buffers */
+
+/* No bytes: a null pointer. Otherwise the bytes are no zeros. */
+static void *lend(size_t length)
+{
+    void *p;
+    if (length == 0)
+        return NULL;
+    p = malloc(length);
+    if (p == NULL)
+        exit(2);
+    memset(p, 0xa5, length);
+    return p;
+}
+
+static uint8_t *copy_of(const char *bytes, size_t length)
+{
+    uint8_t *p = lend(length);
+    if (length != 0)
+        memcpy(p, bytes, length);
+    return p;
+}
+
+static int all_zero(const void *p, size_t from, size_t to)
+{
+    const uint8_t *b = p;
+    size_t i;
+    for (i = from; i < to; i++)
+        if (b[i] != 0)
+            return 0;
+    return 1;
+}
+
+static int same(const uint8_t *bytes, size_t length, const char *expected)
+{
+    return length == strlen(expected) && (length == 0 || memcmp(bytes, expected, length) == 0);
+}
+
+/* ---- reading */
+
+/* A document, the tables lent for it, and the answer. */
+struct reading {
+    uint8_t *document, *text;
+    uint32_t *rows, *warnings;
+    size_t document_length, text_length, rows_length, warnings_length;
+    uint64_t answer[5];
+};
+
+static struct reading read_with(const char *bytes, size_t length, size_t rows, size_t warnings, size_t text)
+{
+    struct reading r;
+    r.document = copy_of(bytes, length);
+    r.document_length = length;
+    r.rows = lend(rows * sizeof(uint32_t));
+    r.rows_length = rows;
+    r.warnings = lend(warnings * sizeof(uint32_t));
+    r.warnings_length = warnings;
+    r.text = lend(text);
+    r.text_length = text;
+    memset(r.answer, 0xa5, sizeof r.answer);
+    introspection_read(r.document, length, r.rows, rows, r.warnings, warnings, r.text, text, r.answer);
+    return r;
+}
+
+/* With the room that is always enough. */
+static struct reading read_all(const char *document)
+{
+    size_t n = strlen(document);
+    return read_with(document, n, n / 4 * INTROSPECTION_ROW_WORDS, n / 4 * INTROSPECTION_WARNING_WORDS, n);
+}
+
+static void end_reading(struct reading *r)
+{
+    free(r->document);
+    free(r->rows);
+    free(r->warnings);
+    free(r->text);
+}
+
+static int answers(const struct reading *r, uint64_t number, uint64_t place)
+{
+    return r->answer[0] == number && r->answer[1] == place;
+}
+
+static int refused_clean(const struct reading *r)
+{
+    return all_zero(r->answer + 2, 0, 3 * sizeof(uint64_t)) && all_zero(r->rows, 0, r->rows_length * 4)
+           && all_zero(r->warnings, 0, r->warnings_length * 4) && all_zero(r->text, 0, r->text_length);
+}
+
+static int rest_clean(const struct reading *r)
+{
+    return all_zero(r->rows, r->answer[2] * 64, r->rows_length * 4)
+           && all_zero(r->warnings, r->answer[4] * 16, r->warnings_length * 4)
+           && all_zero(r->text, r->answer[3], r->text_length);
+}
+
+/* Word k of row i. */
+static uint32_t word(const struct reading *r, size_t i, size_t k)
+{
+    return r->rows[i * INTROSPECTION_ROW_WORDS + k];
+}
+
+/* Whether the triple from word k on of row i leads to just these bytes. */
+static int shows(const struct reading *r, size_t i, size_t k, const char *expected)
+{
+    uint64_t a[4] = {9, 9, 9, 9};
+    const uint8_t *from;
+    introspection_lookup(r->document, r->document_length, r->text, r->text_length, word(r, i, k), word(r, i, k + 1),
+                         word(r, i, k + 2), a);
+    from = a[1] == INTROSPECTION_SOURCE_DOCUMENT ? r->document : r->text;
+    return a[0] == 1 && same(from + a[2], (size_t)a[3], expected);
+}
+
+static int is_absent(const struct reading *r, size_t i, size_t k)
+{
+    return word(r, i, k) == 0 && word(r, i, k + 1) == 0 && word(r, i, k + 2) == 0;
+}
+
+static size_t place_of(const char *document, const char *part)
+{
+    const char *p = strstr(document, part);
+    if (p == NULL)
+        exit(2);
+    return (size_t)(p - document);
+}
+
+/* The hinge's file: the second value of its enum lacks a value. */
+static const char hinge[] =
+    "<!DOCTYPE node>\n"
+    "<node name=\"/hinge\" xmlns:tp=\"urn:tp\">\n"
+    "  <tp:enum name=\"Latch\" type=\"u\">\n"
+    "    <tp:enumvalue suffix=\"Open\" value=\"0\"/>\n"
+    "    <tp:enumvalue suffix=\"Shut\"/>\n"
+    "  </tp:enum>\n"
+    "  <tp:struct name=\"Range\"><tp:member name=\"Low\" type=\"d\"/></tp:struct>\n"
+    "  <interface name=\"org.example.Hinge\">\n"
+    "    <method name=\"SetAngle\">\n"
+    "      <tp:docstring> Turns the hinge. </tp:docstring>\n"
+    "      <arg name=\"degrees\" type=\"d\" direction=\"in\" tp:type=\"Angle\"/>\n"
+    "      <annotation name=\"org.example.Label\" value=\"turn &lt;now&gt;\"/>\n"
+    "      <arg type=\"a{sv}\" direction=\"out\">\n"
+    "        <annotation name=\"org.example.Note\" value=\"\"/>\n"
+    "      </arg>\n"
+    "    </method>\n"
+    "    <property name=\"State\" type=\"u\" access=\"read\"/>\n"
+    "    <signal name=\"Moved\"><arg type=\"(dd)\"/></signal>\n"
+    "  </interface>\n"
+    "</node>\n";
+
+/* Whether row i is of a kind, in the row of its parent. */
+static int stands(const struct reading *r, size_t i, uint32_t kind, uint32_t parent)
+{
+    return word(r, i, INTROSPECTION_WORD_KIND) == kind && word(r, i, INTROSPECTION_WORD_PARENT) == parent + 1;
+}
+
+static void the_hinge(void)
+{
+    struct reading r = read_all(hinge);
+    CHECK(answers(&r, INTROSPECTION_ACCEPTED, 0));
+    CHECK(r.answer[2] == 12);
+    CHECK(r.answer[3] == strlen("turn <now>"));
+    CHECK(r.answer[4] == 1);
+    CHECK(rest_clean(&r));
+    /* the enum is left out whole, with its warning */
+    CHECK(r.warnings[0] == INTROSPECTION_REASON_INCOMPLETE_ENUMVALUE);
+    CHECK(r.warnings[1] == place_of(hinge, "<tp:enum "));
+    CHECK(r.warnings[2] == place_of(hinge, "tp:enum "));
+    CHECK(r.warnings[3] == strlen("tp:enum"));
+    /* the rest is there */
+    CHECK(word(&r, 0, INTROSPECTION_WORD_KIND) == INTROSPECTION_KIND_NODE);
+    CHECK(word(&r, 0, INTROSPECTION_WORD_PARENT) == 0);
+    CHECK(shows(&r, 0, INTROSPECTION_WORD_NAME, "/hinge"));
+    CHECK(stands(&r, 1, INTROSPECTION_KIND_STRUCT, 0));
+    CHECK(shows(&r, 1, INTROSPECTION_WORD_NAME, "Range"));
+    CHECK(stands(&r, 2, INTROSPECTION_KIND_MEMBER, 1));
+    CHECK(shows(&r, 2, INTROSPECTION_WORD_VALUE, "d"));
+    CHECK(stands(&r, 3, INTROSPECTION_KIND_INTERFACE, 0));
+    CHECK(shows(&r, 3, INTROSPECTION_WORD_NAME, "org.example.Hinge"));
+    CHECK(stands(&r, 4, INTROSPECTION_KIND_METHOD, 3));
+    CHECK(shows(&r, 4, INTROSPECTION_WORD_NAME, "SetAngle"));
+    CHECK(shows(&r, 4, INTROSPECTION_WORD_DOCSTRING, "Turns the hinge."));
+    CHECK(stands(&r, 5, INTROSPECTION_KIND_ARG, 4));
+    CHECK(shows(&r, 5, INTROSPECTION_WORD_VALUE, "d"));
+    CHECK(shows(&r, 5, INTROSPECTION_WORD_TP_TYPE, "Angle"));
+    CHECK(word(&r, 5, INTROSPECTION_WORD_DIRECTION) == INTROSPECTION_DIRECTION_IN);
+    CHECK(stands(&r, 6, INTROSPECTION_KIND_ANNOTATION, 4));
+    CHECK(word(&r, 6, INTROSPECTION_WORD_VALUE) == INTROSPECTION_SOURCE_TEXT);
+    CHECK(shows(&r, 6, INTROSPECTION_WORD_VALUE, "turn <now>"));
+    CHECK(stands(&r, 7, INTROSPECTION_KIND_ARG, 4));
+    CHECK(is_absent(&r, 7, INTROSPECTION_WORD_NAME));
+    CHECK(word(&r, 7, INTROSPECTION_WORD_DIRECTION) == INTROSPECTION_DIRECTION_OUT);
+    CHECK(stands(&r, 8, INTROSPECTION_KIND_ANNOTATION, 7));
+    CHECK(shows(&r, 8, INTROSPECTION_WORD_VALUE, ""));
+    CHECK(stands(&r, 9, INTROSPECTION_KIND_PROPERTY, 3));
+    CHECK(word(&r, 9, INTROSPECTION_WORD_ACCESS) == INTROSPECTION_ACCESS_READ);
+    CHECK(stands(&r, 10, INTROSPECTION_KIND_SIGNAL, 3));
+    CHECK(shows(&r, 10, INTROSPECTION_WORD_NAME, "Moved"));
+    CHECK(stands(&r, 11, INTROSPECTION_KIND_ARG, 10));
+    CHECK(word(&r, 11, INTROSPECTION_WORD_DIRECTION) == INTROSPECTION_DIRECTION_NONE);
+    end_reading(&r);
+}
+
+/* A document that is refused, with number and place, and zeros in every buffer. */
+static void refuses(const char *document, uint64_t number, uint64_t place, int line)
+{
+    struct reading r = read_all(document);
+    check(answers(&r, number, place), document, line);
+    check(refused_clean(&r), document, line);
+    end_reading(&r);
+}
+
+#define REFUSES(document, number, place) refuses((document), (number), (place), __LINE__)
+
+#define IN_INTERFACE "<node><interface name=\"a.b\">"
+
+static void refused_documents(void)
+{
+    REFUSES("<node>\xff</node>", INTROSPECTION_NOT_UTF8, 6);
+    REFUSES("no element", INTROSPECTION_NO_ROOT, 10);
+    REFUSES("<node><!-- open</node>", INTROSPECTION_MALFORMED_MARKUP, 10);
+    REFUSES("<node><node>", INTROSPECTION_UNCLOSED_ELEMENT, 12);
+    REFUSES("<node><node></x></node>", INTROSPECTION_CROSSED_CLOSE, 16);
+    REFUSES("<node a=\"1\" a=\"2\"/>", INTROSPECTION_DUPLICATE_ATTRIBUTE, 12);
+    REFUSES("<node name=\"a&amp\"/>", INTROSPECTION_UNTERMINATED_REFERENCE, 13);
+    REFUSES("<node name=\"&what;\"/>", INTROSPECTION_UNKNOWN_ENTITY, 12);
+    REFUSES("<node name=\"&#0;\"/>", INTROSPECTION_BAD_CHARACTER_REFERENCE, 12);
+    REFUSES("<node><interface/></node>", INTROSPECTION_ATTRIBUTE_MISSING, 7);
+    REFUSES("<node><interface name=\"a\"/></node>", INTROSPECTION_BAD_NAME, 7);
+    REFUSES(IN_INTERFACE "<property name=\"P\" type=\"z\" access=\"read\"/>", INTROSPECTION_BAD_SIGNATURE,
+            strlen(IN_INTERFACE) + 1);
+    REFUSES(IN_INTERFACE "<property name=\"P\" type=\"u\" access=\"r\"/>", INTROSPECTION_BAD_ACCESS,
+            strlen(IN_INTERFACE "<property name=\"P\" type=\"u\" access=\"r\"/>"));
+    REFUSES(IN_INTERFACE "<method name=\"M\"><arg type=\"u\" direction=\"up\"/>", INTROSPECTION_BAD_DIRECTION,
+            strlen(IN_INTERFACE "<method name=\"M\"><arg type=\"u\" direction=\"up\"/>"));
+}
+
+/* count times piece, ended by a zero byte. */
+static char *repeated(const char *piece, size_t count)
+{
+    size_t n = strlen(piece), i;
+    char *p = malloc(n * count + 1);
+    if (p == NULL)
+        exit(2);
+    for (i = 0; i < count; i++)
+        memcpy(p + i * n, piece, n);
+    p[n * count] = 0;
+    return p;
+}
+
+static void at_the_limits(void)
+{
+    struct reading r;
+    char *deep = repeated("<node>", 1025), *spaces = repeated(" ", INTROSPECTION_MAX_BYTES + 1), *tag;
+    size_t i, n = 0;
+    REFUSES(deep, INTROSPECTION_TOO_DEEP, 6 * 1025);
+    r = read_with(spaces, INTROSPECTION_MAX_BYTES + 1, 16, 4, 1);
+    CHECK(answers(&r, INTROSPECTION_TOO_LONG, INTROSPECTION_MAX_BYTES));
+    CHECK(refused_clean(&r));
+    end_reading(&r);
+    r = read_with(spaces, INTROSPECTION_MAX_BYTES, 16, 4, 1);
+    CHECK(answers(&r, INTROSPECTION_NO_ROOT, INTROSPECTION_MAX_BYTES));
+    end_reading(&r);
+    tag = malloc(8192);
+    if (tag == NULL)
+        exit(2);
+    n = (size_t)sprintf(tag, "<node");
+    for (i = 0; i < 257; i++)
+        n += (size_t)sprintf(tag + n, " a%u=\"\"", (unsigned)i);
+    sprintf(tag + n, "/>");
+    REFUSES(tag, INTROSPECTION_TOO_MANY_ATTRIBUTES, place_of(tag, "a256"));
+    free(deep);
+    free(spaces);
+    free(tag);
+}
+
+/* Each table one short of what the document takes; then just enough. */
+static void room(void)
+{
+    const char *d = "<node name=\"&lt;&gt;\"><x/><node/></node>";
+    size_t n = strlen(d);
+    struct reading r = read_with(d, n, 31, 4, 2);
+    CHECK(answers(&r, INTROSPECTION_NO_ROOM, n) && refused_clean(&r));
+    end_reading(&r);
+    r = read_with(d, n, 32, 3, 2);
+    CHECK(answers(&r, INTROSPECTION_NO_ROOM, n) && refused_clean(&r));
+    end_reading(&r);
+    r = read_with(d, n, 32, 4, 1);
+    CHECK(answers(&r, INTROSPECTION_NO_ROOM, n) && refused_clean(&r));
+    end_reading(&r);
+    r = read_with(d, n, 32, 4, 2);
+    CHECK(answers(&r, INTROSPECTION_ACCEPTED, 0));
+    CHECK(r.answer[2] == 2 && r.answer[3] == 2 && r.answer[4] == 1);
+    CHECK(same(r.text, 2, "<>") && r.warnings[0] == INTROSPECTION_REASON_UNSUPPORTED_ELEMENT);
+    end_reading(&r);
+    r = read_with(d, n, 32 + 15, 4 + 3, 9);
+    CHECK(answers(&r, INTROSPECTION_ACCEPTED, 0) && rest_clean(&r));
+    end_reading(&r);
+}
+
+/* ---- null pointers with length 0, in every place that has a buffer */
+
+static void nothing_lent(void)
+{
+    uint64_t a[5] = {9, 9, 9, 9, 9}, b[3] = {9, 9, 9}, c[4] = {9, 9, 9, 9};
+    const uint8_t *document = (const uint8_t *)"<node/>";
+    uint8_t out[2] = {7, 7};
+    introspection_read(NULL, 0, NULL, 0, NULL, 0, NULL, 0, a);
+    CHECK(a[0] == INTROSPECTION_NO_ROOT && a[1] == 0 && a[2] == 0 && a[3] == 0 && a[4] == 0);
+    introspection_read(document, 7, NULL, 0, NULL, 0, NULL, 0, a);
+    CHECK(a[0] == INTROSPECTION_NO_ROOM && a[1] == 7);
+    introspection_escape(NULL, 0, NULL, 0, b);
+    CHECK(b[0] == 0 && b[1] == 0 && b[2] == 0);
+    introspection_escape(NULL, 0, out, 2, b);
+    CHECK(b[0] == 0 && b[2] == 0 && all_zero(out, 0, 2));
+    introspection_escape(document, 7, NULL, 0, b);
+    CHECK(b[0] == INTROSPECTION_OUTPUT_SHORT && b[1] == 13 && b[2] == 0);
+    introspection_unescape(NULL, 0, NULL, 0, b);
+    CHECK(b[0] == 0 && b[1] == 0 && b[2] == 0);
+    introspection_unescape(document, 7, NULL, 0, b);
+    CHECK(b[0] == INTROSPECTION_NO_ROOM && b[1] == 7);
+    introspection_lookup(NULL, 0, NULL, 0, 1, 0, 0, c);
+    CHECK(c[0] == 1 && c[1] == 1 && c[2] == 0 && c[3] == 0);
+    introspection_lookup(NULL, 0, NULL, 0, 2, 0, 1, c);
+    CHECK(c[0] == 0 && c[1] == 1 && c[2] == 0 && c[3] == 0);
+    introspection_write(NULL, 0, NULL, 0, NULL, 0, 0, 0, NULL, 0, b);
+    CHECK(b[0] == INTROSPECTION_NOT_WRITABLE && b[1] == 0 && b[2] == 0);
+    introspection_write(NULL, 0, NULL, 0, NULL, 0, 1, 0, NULL, 0, b);
+    CHECK(b[0] == INTROSPECTION_UNSOUND_ROWS && b[1] == 0 && b[2] == 0);
+}
+
+/* ---- escaping */
+
+typedef void (*converts)(const uint8_t *, size_t, uint8_t *, size_t, uint64_t *);
+
+/* The answer, and in the output the expected bytes and zeros; zeros alone after a refusal. */
+static void convert(converts f, const char *value, size_t room, uint64_t number, uint64_t place, const char *expected,
+                    int line)
+{
+    size_t n = strlen(value), m = strlen(expected);
+    uint8_t *v = copy_of(value, n), *out = lend(room);
+    uint64_t a[3] = {9, 9, 9};
+    f(v, n, out, room, a);
+    check(a[0] == number && a[1] == place && a[2] == m, value, line);
+    check(m <= room && same(out, m, expected) && all_zero(out, m, room), value, line);
+    free(v);
+    free(out);
+}
+
+#define ESCAPES(value, room, number, place, expected) \
+    convert(introspection_escape, (value), (room), (number), (place), (expected), __LINE__)
+#define UNESCAPES(value, room, number, place, expected) \
+    convert(introspection_unescape, (value), (room), (number), (place), (expected), __LINE__)
+
+static void values(void)
+{
+    char *spaces = repeated(" ", INTROSPECTION_MAX_BYTES + 1);
+    ESCAPES("plain", 8, 0, 0, "plain");
+    ESCAPES("a<b & \"c'>\t\n\r", 64, 0, 0, "a&lt;b &amp; &quot;c&apos;&gt;&#9;&#10;&#13;");
+    ESCAPES("<<", 8, 0, 0, "&lt;&lt;");
+    ESCAPES("<<", 7, INTROSPECTION_OUTPUT_SHORT, 8, "");
+    ESCAPES("ab\xc3(", 9, INTROSPECTION_NOT_UTF8, 2, "");
+    ESCAPES(spaces, 4, INTROSPECTION_TOO_LONG, INTROSPECTION_MAX_BYTES, "");
+    UNESCAPES("a&lt;b &amp; &quot;c&apos;&gt;&#9;&#x0A;", 64, 0, 0, "a<b & \"c'>\t\n");
+    UNESCAPES("a\r\nb\tc\xe2\x82\xac", 10, 0, 0, "a b c\xe2\x82\xac");
+    UNESCAPES("a&b", 9, INTROSPECTION_UNTERMINATED_REFERENCE, 1, "");
+    UNESCAPES("ab&b;", 9, INTROSPECTION_UNKNOWN_ENTITY, 2, "");
+    UNESCAPES("&#xd800;", 9, INTROSPECTION_BAD_CHARACTER_REFERENCE, 0, "");
+    UNESCAPES("abc", 2, INTROSPECTION_NO_ROOM, 3, "");
+    UNESCAPES("\x80", 2, INTROSPECTION_NOT_UTF8, 0, "");
+    UNESCAPES(spaces, 4, INTROSPECTION_TOO_LONG, INTROSPECTION_MAX_BYTES, "");
+    free(spaces);
+}
+
+/* ---- looking up */
+
+static void look(uint32_t source, uint32_t start, uint32_t length, int yes, int line)
+{
+    uint8_t *document = copy_of("0123456789", 10), *text = copy_of("abc", 3);
+    uint64_t a[4] = {9, 9, 9, 9};
+    introspection_lookup(document, 10, text, 3, source, start, length, a);
+    if (yes)
+        check(a[0] == 1 && a[1] == source && a[2] == start && a[3] == length, "part", line);
+    else
+        check(a[0] == 0 && a[1] == 1 && a[2] == 0 && a[3] == 0, "no part", line);
+    free(document);
+    free(text);
+}
+
+static void parts(void)
+{
+    look(1, 2, 8, 1, __LINE__);
+    look(1, 2, 9, 0, __LINE__);
+    look(1, 10, 0, 1, __LINE__);
+    look(1, 11, 0, 0, __LINE__);
+    look(2, 0, 3, 1, __LINE__);
+    look(2, 1, 3, 0, __LINE__);
+    look(0, 0, 0, 0, __LINE__);
+    look(3, 0, 0, 0, __LINE__);
+    look(1, 0xffffffff, 0xffffffff, 0, __LINE__);
+    look(2, 0xffffffff, 1, 0, __LINE__);
+}
+
+/* ---- writing */
+
+static void write_row(const struct reading *r, uint64_t claimed, uint64_t row, size_t room, uint64_t number,
+                      uint64_t place, const char *expected, int line)
+{
+    size_t m = strlen(expected);
+    uint8_t *out = lend(room);
+    uint64_t a[3] = {9, 9, 9};
+    introspection_write(r->document, r->document_length, r->text, r->text_length, r->rows, r->rows_length, claimed, row,
+                        out, room, a);
+    check(a[0] == number && a[1] == place && a[2] == m, "number, place and bytes written", line);
+    check(m <= room && same(out, m, expected) && all_zero(out, m, room), "output", line);
+    free(out);
+}
+
+#define WRITES(claimed, row, room, number, place, expected) \
+    write_row(&r, (claimed), (row), (room), (number), (place), (expected), __LINE__)
+
+#define WRITTEN_METHOD \
+    "<method name=\"SetAngle\"><arg name=\"degrees\" type=\"d\" direction=\"in\"/>" \
+    "<arg type=\"a{sv}\" direction=\"out\"><annotation name=\"org.example.Note\" value=\"\"/></arg>" \
+    "<annotation name=\"org.example.Label\" value=\"turn &lt;now&gt;\"/></method>"
+
+static void writing(void)
+{
+    struct reading r = read_all(hinge);
+    const size_t whole = strlen(WRITTEN_METHOD);
+    WRITES(12, 4, whole, 0, 0, WRITTEN_METHOD);
+    WRITES(12, 4, whole + 9, 0, 0, WRITTEN_METHOD);
+    WRITES(12, 4, whole - 1, INTROSPECTION_OUTPUT_SHORT, whole, "");
+    WRITES(12, 4, 0, INTROSPECTION_OUTPUT_SHORT, whole, "");
+    WRITES(12, 5, 99, 0, 0, "<arg name=\"degrees\" type=\"d\" direction=\"in\"/>");
+    WRITES(12, 6, 99, 0, 0, "<annotation name=\"org.example.Label\" value=\"turn &lt;now&gt;\"/>");
+    WRITES(12, 10, 99, 0, 0, "<signal name=\"Moved\"><arg type=\"(dd)\"/></signal>");
+    WRITES(12, 3, 99, INTROSPECTION_NOT_WRITABLE, 3, "");
+    WRITES(12, 12, 99, INTROSPECTION_NOT_WRITABLE, 12, "");
+    WRITES(12, UINT64_MAX, 99, INTROSPECTION_NOT_WRITABLE, UINT64_MAX, "");
+    WRITES(INTROSPECTION_MAX_ROWS + 1, 4, 99, INTROSPECTION_UNSOUND_ROWS, INTROSPECTION_MAX_ROWS, "");
+    WRITES(UINT64_MAX, 4, 99, INTROSPECTION_UNSOUND_ROWS, INTROSPECTION_MAX_ROWS, "");
+    WRITES(r.rows_length / 16 + 1, 4, 99, INTROSPECTION_UNSOUND_ROWS, r.rows_length / 16, "");
+    WRITES(13, 4, 99, INTROSPECTION_UNSOUND_ROWS, 12, "");
+    r.rows[5 * INTROSPECTION_ROW_WORDS + INTROSPECTION_WORD_PARENT] = 6;
+    WRITES(12, 4, 99, INTROSPECTION_UNSOUND_ROWS, 5, "");
+    end_reading(&r);
+}
+
+static void writing_too_long(void)
+{
+    char *spaces = repeated(" ", INTROSPECTION_MAX_BYTES + 1);
+    uint64_t a[3] = {9, 9, 9};
+    uint8_t out[3] = {7, 7, 7};
+    introspection_write((uint8_t *)spaces, INTROSPECTION_MAX_BYTES + 1, NULL, 0, NULL, 0, 0, 0, out, 3, a);
+    CHECK(a[0] == INTROSPECTION_TOO_LONG && a[1] == INTROSPECTION_MAX_BYTES && a[2] == 0 && all_zero(out, 0, 3));
+    a[0] = 9;
+    out[0] = 7;
+    introspection_write(NULL, 0, (uint8_t *)spaces, INTROSPECTION_MAX_BYTES + 1, NULL, 0, 0, 0, out, 3, a);
+    CHECK(a[0] == INTROSPECTION_TOO_LONG && a[1] == INTROSPECTION_MAX_BYTES && a[2] == 0 && all_zero(out, 0, 3));
+    free(spaces);
+}
+
+int main(void)
+{
+    the_hinge();
+    refused_documents();
+    at_the_limits();
+    room();
+    nothing_lent();
+    values();
+    parts();
+    writing();
+    writing_too_long();
+    printf("%u passed, %u failed\n", passed, failed);
+    return failed != 0;
+}
