@@ -169,18 +169,20 @@ static double write_time(size_t row, int times) {
 }
 
 static void writing(void) {
-    static double seconds[MOST_ROUNDS];
+    static double first[MOST_ROUNDS], last[MOST_ROUNDS];
     static const size_t sizes[] = {100, 1000, 10000};
-    printf("\nwriting one method near the end of the tables, microseconds\n");
-    printf("  %10s %10s %10s %16s\n", "rows", "best", "median", "best, ns a row");
+    printf("\nwriting one method with two args, microseconds: best, median, nanoseconds for each row of the tables\n");
+    printf("  %10s %30s %30s\n", "rows", "the first method", "the last method");
     for (size_t i = 0; i < 3; i++) {
-        size_t row = rows_made(sizes[i]);
+        size_t row = rows_made(sizes[i]), count = row + 3;
         int times = (int)(0.01 / write_time(row, 20)) + 1;
-        for (int round = 0; round < rounds; round++)
-            seconds[round] = write_time(row, times);
-        double best = least(seconds, rounds);
-        printf("  %10zu %10.2f %10.2f %16.1f\n", row + 3, best * 1e6, median(seconds, rounds) * 1e6,
-               best * 1e9 / (double)(row + 3));
+        for (int round = 0; round < rounds; round++) {
+            first[round] = write_time(2, times);
+            last[round] = write_time(row, times);
+        }
+        printf("  %10zu %12.2f %8.2f %8.1f %12.2f %8.2f %8.1f\n", count, least(first, rounds) * 1e6,
+               median(first, rounds) * 1e6, least(first, rounds) * 1e9 / (double)count, least(last, rounds) * 1e6,
+               median(last, rounds) * 1e6, least(last, rounds) * 1e9 / (double)count);
     }
 }
 

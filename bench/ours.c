@@ -43,7 +43,7 @@ void ours_fitted(const unsigned char *bytes, size_t len, const size_t room[3]) {
 static char made[LIMIT];
 static size_t made_len, made_rows, made_text;
 
-// Reads a document of methods with two args each, so many rows in all; answers the row of a method near the end, or 0.
+// Reads a document of methods with two args each, so many rows in all; answers the row of the last method, or 0.
 size_t rows_made(size_t wanted) {
     uint64_t answer[5];
     made_len = (size_t)sprintf(made, "<node><interface name=\"org.example.Antenna\">\n");
