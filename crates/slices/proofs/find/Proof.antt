@@ -1,9 +1,10 @@
--- `slices::find` meets its contract. The invariant: what is left of the run from here is what was asked.
+-- `slices::find` meets its contract: what is left of the run from here is what was asked.
 -- Assumes nothing.
 use Prim.Native.Nat.{_-_}
 use lib.ListN.{length}
 use Rattle.slices.specs.Bytes.{other}
-use Rattle.slices.proofs.Runs.{Running, runs}
+use Rattle.slices.proofs.Runs.{Running}
+use Rattle.slices.proofs.Skips.{finds}
 use Rattle.slices.proofs.find.Statement.{statement}
 use Rattle.slices.proofs.find.Tie as tie
 
@@ -19,10 +20,11 @@ find-spec =
     (tie.spec
     Inv-loop
     μ-loop
-    (λ c. search runs)
-    (λ c. search runs)
-    (λ c. search runs)
-    (λ c. search runs)
-    (λ c. search runs)
-    (λ c. search runs)
-    (λ c. search runs))
+    (λ c κs. search finds)
+    (λ c. search finds)
+    (λ c. search finds)
+    (λ c. search finds)
+    (λ c. search finds)
+    (λ c. search finds)
+    (λ c. search finds)
+    (λ c. search finds))
