@@ -109,28 +109,23 @@ pub(crate) fn read(
 
 /// Escapes a value, and gives the bytes written.
 pub(crate) fn escape(value: &[u8], output: &mut [u8]) -> Result<usize, Error> {
-    let mut answer = [0; 3];
-    // SAFETY: the two slices are as the head of this file says; `answer` has the 3 words that this
-    // function writes.
-    unsafe {
-        introspection_escape(
-            value.as_ptr(),
-            value.len(),
-            output.as_mut_ptr(),
-            output.len(),
-            answer.as_mut_ptr(),
-        );
-    }
-    written(answer)
+    turned(introspection_escape, value, output)
 }
 
 /// Unescapes a value, and gives the bytes written.
 pub(crate) fn unescape(value: &[u8], output: &mut [u8]) -> Result<usize, Error> {
+    turned(introspection_unescape, value, output)
+}
+
+/// `introspection_escape` or `introspection_unescape`.
+type Turn = unsafe extern "C" fn(*const u8, usize, *mut u8, usize, *mut u64);
+
+fn turned(turn: Turn, value: &[u8], output: &mut [u8]) -> Result<usize, Error> {
     let mut answer = [0; 3];
-    // SAFETY: the two slices are as the head of this file says; `answer` has the 3 words that this
-    // function writes.
+    // SAFETY: `turn` is one of the two functions; the two slices are as the head of this file says;
+    // `answer` has the 3 words that both write.
     unsafe {
-        introspection_unescape(
+        turn(
             value.as_ptr(),
             value.len(),
             output.as_mut_ptr(),
