@@ -3,7 +3,8 @@
 use Prim.Native.Nat.{ℕ, suc, _+_, _-_, _≤_, _<_}
 use mathlib.Core.Path.{_≡_, refl, sym, ap, _∙_}
 use mathlib.Core.List.{List, [], _∷_, _++_, map, map-append, append-assoc}
-use mathlib.Core.Bool.{Bool, true, false}
+use mathlib.Core.Option.{Option, some}
+use mathlib.Core.Bool.{Bool, true, false, not}
 use borrow.Author.Needs.{needs}
 use borrow.Author.Tests.{le-leb, eqb-true, eqb-false, eq-eqb, ne-eqb}
 use native.Mathlib.Numerals.{add-one}
@@ -14,12 +15,11 @@ use lib.Seq.{drop-cons, length-take-le, getD-take, take-suc}
 use Rattle.slices.specs.Bytes.{if, all, same}
 use Rattle.references.specs.Unescape.{text, plain}
 use Rattle.document.specs.Tags.{Attr, Shown, Checked, good, fault, also, member, check}
-use Rattle.attributes.specs.One.{attrOf, Fit}
-use Rattle.attributes.specs.Lookup.{blank, partIs, nameIs, keyed, firstFrom, First}
-use Rattle.attributes.specs.Outcome.{Checkable, attrsOf, References, listed, IsJudged, Judges, Checks}
+use Rattle.attributes.specs.One.{part, attrOf, Fit}
+use Rattle.attributes.specs.Lookup.{blank, partIs, nameIs, keyed, wanted, firstBy, valueOf, valueIn, Picks}
+use Rattle.attributes.specs.Outcome.{Checkable, attrsOf, References, listed, IsJudged, there, Weighs, Judges, Checks}
+use Rattle.document.specs.declared.Value.{Value}
 use Rattle.attributes.specs.declared.Attribute.{Attribute}
-use Rattle.attributes.specs.declared.Place.{Place}
-use Rattle.attributes.specs.declared.Place.the-variants.{At, Nothing}
 use Rattle.attributes.specs.declared.Verdict.{Verdict}
 use Rattle.attributes.specs.declared.Verdict.the-variants.{Fault, Good}
 use Rattle.attributes.proofs.Shown.{plain-shows}
@@ -70,63 +70,76 @@ pub name-within : (p : List ℕ → Bool) (doc : List ℕ) (a : Attribute) → a
 unfolding partIs
 name-within p doc a h = rw (le-leb (a .name + a .«name_len») (length doc) h)
 
-abbrev hits : Place → Bool
-hits (At i) = true
-hits Nothing = false
+there-if : (t : Bool) (a : Attribute) (r : Option Attribute) → there (valueOf (some a)) ≡ true → there (valueOf (if t (some a) r)) ≡ if t true (there (valueOf r))
+there-if true a r h = h
+there-if false a r h = refl
 
-hits-if : (t : Bool) (i : ℕ) (r : Place) → hits (if t (At i) r) ≡ if t true (hits r)
-hits-if true i r = refl
-hits-if false i r = refl
+-- a value that is gathered is there
+fit-there : {doc : List ℕ} {from to : ℕ} (a : Attribute) → Fit doc from to a → there (valueOf (some a)) ≡ true
+fit-there {doc} a f = rw (f .kind) (go (all plain (attrOf doc a .raw)))
+  where
+    go : (t : Bool) → not (eqb (if t 1 2) 0) ≡ true
+    go true = refl
+    go false = refl
 
-first-listed : (doc key : List ℕ) (i : ℕ) (xs : List Attribute) → ((k : ℕ) → k < length xs → getD xs k blank .name + getD xs k blank .«name_len» ≤ length doc) → hits (firstFrom (nameIs (keyed key) doc) i xs) ≡ listed key (map (attrOf doc) xs)
-unfolding firstFrom
-first-listed doc key i [] h = refl
-first-listed doc key i (x ∷ xs) h =
-    hits-if (nameIs (keyed key) doc x) i (firstFrom (nameIs (keyed key) doc) (suc i) xs)
-    ∙ rw (name-within (keyed key) doc x (h 0 (omega arith)), first-listed doc key (suc i) xs (λ k l. h (suc k) (omega arith)))
+-- the first with a name that lies in the document is there where the name is listed
+first-listed : (doc : List ℕ) (at n : ℕ) (xs : List Attribute) → at + n ≤ length doc → ((k : ℕ) → k < length xs → Fit doc 0 (length doc) (getD xs k blank)) → there (valueOf (firstBy (nameIs (wanted doc at n false) doc) xs)) ≡ listed (part doc at n) (map (attrOf doc) xs)
+unfolding firstBy
+first-listed doc at n [] l h = refl
+first-listed doc at n (x ∷ xs) l h =
+    there-if (nameIs (wanted doc at n false) doc x) x (firstBy (nameIs (wanted doc at n false) doc) xs) (fit-there x (h 0 (omega arith)))
+    ∙ rw (name-within (wanted doc at n false) doc x (h 0 (omega arith) .name), le-leb (at + n) (length doc) l, first-listed doc at n xs l (λ k b. h (suc k) (omega arith)))
 
 -- ---- one attribute
 
-module _ {doc : List ℕ} {xs : List Attribute} {i : ℕ} (g : Checkable doc xs (suc i)) where
-  pub fit-here : Fit doc 0 (length doc) (getD xs i blank)
-  fit-here = g .fitted .rule i (omega arith)
+-- the attribute itself: duplicate, then reference
+module _ {doc : List ℕ} {a : Attribute} (f : Fit doc 0 (length doc) a) where
+  pub weigh-room : length doc ≤ 1048576 → (a .value + a .«value_len» ≤ length doc) × (length doc ≤ 1048576)
+  weigh-room s = (f .value, s)
 
-  pub judge-part : getD xs i blank .name + getD xs i blank .«name_len» ≤ length doc
-  judge-part = fit-here .name
+  module _ (before : Value) where
+    pub weigh-duplicate : (before .kind ≡ 0 → ⊥) → Weighs doc a before (Fault 8 (a .name))
+    weigh-duplicate h = record { is = λ c. rw (ne-eqb (before .kind) 0 h) }
 
-  pub judge-room : (getD xs i blank .value + getD xs i blank .«value_len» ≤ length doc) × (length doc ≤ 1048576)
-  judge-room = (fit-here .value, g .small)
+    module _ (e : before .kind ≡ 0) where
+      new : there before ≡ false
+      new = rw e
 
-  module _ (m : ℕ) (l : length xs ≡ m) (h : i < m) {r : Place} (f : First (keyed (take ((getD xs i blank .name + getD xs i blank .«name_len») - getD xs i blank .name) (drop (getD xs i blank .name) doc))) doc xs i r) where
-    first-here : hits r ≡ listed (attrOf doc (getD xs i blank) .name) (attrsOf doc xs i)
-    first-here =
-        let n : (getD xs i blank .name + getD xs i blank .«name_len») - getD xs i blank .name ≡ getD xs i blank .«name_len» = omega arith in
-        let e : length (take i xs) ≡ i = length-take-le i xs (omega arith) in
-        ap hits (rw n at (f .is))
-        ∙ first-listed doc (attrOf doc (getD xs i blank) .name) 0 (take i xs) (λ k b. rw (getD-take i xs k blank (omega arith)) (g .fitted .rule k (omega arith) .name))
-
-    pub judge-duplicate : {j : ℕ} → r ≡ At j → Judges doc xs i (Fault 8 (getD xs i blank .name))
-    judge-duplicate q = record { is = λ c. rw (sym first-here ∙ ap hits q) }
-
-    module _ (q : r ≡ Nothing) where
-      new : listed (attrOf doc (getD xs i blank) .name) (attrsOf doc xs i) ≡ false
-      new = sym first-here ∙ ap hits q
-
-      pub judge-plain : getD xs i blank .kind ≡ 1 → Judges doc xs i Good
-      judge-plain e = record { is = (attrOf doc (getD xs i blank) .raw, new, plain-shows _ (go (all plain (attrOf doc (getD xs i blank) .raw)) (sym (fit-here .kind) ∙ e))) }
+      pub weigh-plain : a .kind ≡ 1 → Weighs doc a before Good
+      weigh-plain k = record { is = (attrOf doc a .raw, new, plain-shows _ (go (all plain (attrOf doc a .raw)) (sym (f .kind) ∙ k))) }
         where
           go : (t : Bool) → _≡_ {A = ℕ} (if t 1 2) 1 → t ≡ true
           go true e = refl
           go false e = absurd (omega arith)
 
-      pub judge-reference : {v : Verdict} → References doc (getD xs i blank .value) (getD xs i blank .«value_len») v → Judges doc xs i v
-      judge-reference {v} c = go v c
+      pub weigh-reference : {v : Verdict} → References doc (a .value) (a .«value_len») v → Weighs doc a before v
+      weigh-reference {v} c = go v c
         where
-          go : (v : Verdict) → References doc (getD xs i blank .value) (getD xs i blank .«value_len») v → Judges doc xs i v
+          go : (v : Verdict) → References doc (a .value) (a .«value_len») v → Weighs doc a before v
           go Good c = record { is = (c .is .0, new, c .is .1) }
           go (Fault k p) c = record { is = λ d. rw (new, c .is .1, c .is .2) }
 
-pub ruleset judges = (judge-part, judge-room, judge-duplicate, judge-plain, judge-reference, needs)
+pub ruleset weighs = (weigh-room, weigh-duplicate, weigh-plain, weigh-reference, needs)
+
+-- after those before it
+module _ {doc : List ℕ} {xs : List Attribute} {i : ℕ} (h : i < length xs) (g : Checkable doc xs (suc i)) where
+  -- what `weigh` asks
+  pub judge-asks : Fit doc 0 (length doc) (getD xs i blank) × (length doc ≤ 1048576)
+  judge-asks = (g .fitted .rule i (omega arith), g .small)
+
+  -- what `first_named` asks
+  pub judge-below : i ≤ length xs
+  judge-below = omega arith
+
+  pub judge-is : {v : Value} {r : Verdict} → Picks (wanted doc (getD xs i blank .name) (getD xs i blank .«name_len») false) doc xs i v → Weighs doc (getD xs i blank) v r → Judges doc xs i r
+  unfolding valueIn
+  judge-is {v} {r} p w = record { is = rw (← seen) (w .is) }
+    where
+      seen : there v ≡ listed (attrOf doc (getD xs i blank) .name) (attrsOf doc xs i)
+      seen =
+          let e : length (take i xs) ≡ i = length-take-le i xs (omega arith) in
+          ap there (p .is)
+          ∙ first-listed doc (getD xs i blank .name) (getD xs i blank .«name_len») (take i xs) (judge-asks .0 .name) (λ k b. rw (getD-take i xs k blank (omega arith)) (g .fitted .rule k (omega arith)))
 
 -- ---- all attributes
 
@@ -154,8 +167,8 @@ onto-none : (c : Checked) → onto [] c ≡ c
 onto-none (good s) = refl
 onto-none (fault k p) = refl
 
-pub check-begins : {doc : List ℕ} {xs : List Attribute} {n : ℕ} (m : ℕ) → length xs ≡ m → n ≤ m → Checking doc xs n 0
-check-begins {doc} {xs} {n} m l h = record { shown = []; left = sym (onto-none (check [] (attrsOf doc xs n))); room = omega arith; within = omega arith }
+pub check-begins : {doc : List ℕ} {xs : List Attribute} {n : ℕ} → n ≤ length xs → Checking doc xs n 0
+check-begins {doc} {xs} {n} h = record { shown = []; left = sym (onto-none (check [] (attrsOf doc xs n))); room = omega arith; within = omega arith }
 
 pub checkable-to : {doc : List ℕ} {xs : List Attribute} {n i : ℕ} → Checkable doc xs n → i < n → Checkable doc xs (suc i)
 checkable-to g h = record { small = g .small; fitted = record { rule = λ k l. g .fitted .rule k (omega arith) } }
@@ -164,7 +177,7 @@ attrs-more : (doc : List ℕ) (xs : List Attribute) (i : ℕ) → i < length xs 
 attrs-more doc xs i h = rw (take-suc xs i blank h) (map-append (attrOf doc) (take i xs) (getD xs i blank ∷ []))
 
 module _ {doc : List ℕ} {xs : List Attribute} {n i : ℕ} (g : Checking doc xs n i) where
-  pub check-ends : n ≤ i → Checks doc xs n Good
+  check-ends : n ≤ i → Checks doc xs n Good
   check-ends h =
       let e : drop i (take n xs) ≡ [] = drop-of-length-le (take n xs) {i = i} (omega (arith, length-take-le n xs (g .room))) in
       record { is = (g .shown ++ [], g .left ∙ rw e) }
@@ -177,22 +190,41 @@ module _ {doc : List ℕ} {xs : List Attribute} {n i : ℕ} (g : Checking doc xs
         let b : i < length (take n xs) = omega arith in
         g .left ∙ rw (drop-cons (take n xs) i blank b, getD-take n xs i blank h)
 
-    module _ {v : Verdict} (j : Judges doc xs i v) where
-      pub check-fault : {k p : ℕ} → v ≡ Fault k p → Checks doc xs n (Fault k p)
-      check-fault {k} {p} e =
-          let d = (rw e at j) .is in
-          record { is = here ∙ rw (member-listed (attrOf doc (getD xs i blank) .name) (attrsOf doc xs i), d _) }
+    check-fault : {k p : ℕ} → Judges doc xs i (Fault k p) → Checks doc xs n (Fault k p)
+    check-fault j = record { is = here ∙ rw (member-listed (attrOf doc (getD xs i blank) .name) (attrsOf doc xs i), j .is _) }
 
-      pub check-more : v ≡ Good → Checking doc xs n (i + 1)
-      check-more e =
-          let d : IsJudged (attrOf doc (getD xs i blank)) (attrsOf doc xs i) Good = (rw e at j) .is in
-          record {
-            shown = g .shown ++ record { attr = attrOf doc (getD xs i blank); value = d .0 } ∷ [];
-            left =
-                here
-                ∙ rw (member-listed (attrOf doc (getD xs i blank) .name) (attrsOf doc xs i), d .1, d .2, onto-also (attrOf doc (getD xs i blank)) (d .0), onto-onto, add-one, attrs-more doc xs i (omega (arith, g .room)), back-more);
-            room = g .room;
-            within = omega arith;
-          }
+    pub check-more : Judges doc xs i Good → Checking doc xs n (i + 1)
+    check-more j =
+        let d = j .is in
+        record {
+          shown = g .shown ++ record { attr = attrOf doc (getD xs i blank); value = d .0 } ∷ [];
+          left =
+              here
+              ∙ rw (member-listed (attrOf doc (getD xs i blank) .name) (attrsOf doc xs i), d .1, d .2, onto-also (attrOf doc (getD xs i blank)) (d .0), onto-onto, add-one, attrs-more doc xs i (omega (arith, g .room)), back-more);
+          room = g .room;
+          within = omega arith;
+        }
 
-pub ruleset checks = (check-begins, checkable-to, check-ends, check-fault, check-more, needs)
+-- ---- a loop over the first n: a turn has its number
+
+pub record Turn (doc : List ℕ) (xs : List Attribute) (n : ℕ) : Type 0 where
+  pub i : ℕ
+  pub so : Checking doc xs n i
+
+abbrev pub turn-first : {doc : List ℕ} {xs : List Attribute} {n : ℕ} → n ≤ length xs → Turn doc xs n
+turn-first h = record { i = 0; so = check-begins h }
+
+module _ {doc : List ℕ} {xs : List Attribute} {n : ℕ} (t : Turn doc xs n) where
+  pub turn-end : n ≤ t .i → Checks doc xs n Good
+  turn-end h = check-ends (t .so) h
+
+  module _ (h : t .i < n) where
+    -- what `judge` asks
+    pub turn-asks : Checkable doc xs n → (t .i < length xs) × Checkable doc xs (suc (t .i))
+    turn-asks g = (omega (arith, t .so .room), checkable-to g h)
+
+    pub turn-fault : {k p : ℕ} → Judges doc xs (t .i) (Fault k p) → Checks doc xs n (Fault k p)
+    turn-fault j = check-fault (t .so) h j
+
+    abbrev pub turn-more : Judges doc xs (t .i) Good → Turn doc xs n
+    turn-more j = record { i = t .i + 1; so = check-more (t .so) h j }

@@ -6,15 +6,17 @@ use mathlib.Core.List.{List, [], _∷_}
 use mathlib.Core.Bool.{Bool, true, false, not, _&&_}
 use borrow.Author.Needs.{needs}
 use borrow.Author.Tests.{le-leb, lt-leb}
+use native.Mathlib.Decide.{decLe}
 use native.Mathlib.Omega.{arith}
 use native.Mathlib.Nat.{zero-add}
+use lib.Dec.{leb}
 use lib.ListN.{length, take, drop, length-drop}
-use lib.Seq.{take-all}
-use Rattle.slices.specs.Bytes.{bytes, other, span, past, empty, same, starts}
+use lib.Seq.{take-all, length-take-le}
+use Rattle.slices.specs.Bytes.{bytes, other, span, past, empty, same}
 use Rattle.slices.specs.Run.{Run}
-use Rattle.slices.proofs.Runs.{past-drop, same-short, same-long}
+use Rattle.slices.proofs.Runs.{past-drop, same-short}
 use Rattle.document.specs.Tags.{isTpType}
-use Rattle.attributes.specs.Lookup.{partIs, keyed}
+use Rattle.attributes.specs.Lookup.{partIs, keyedAt, wanted}
 use Rattle.attributes.proofs.Found.{empty-none, empty-some}
 
 -- a part that runs past the document is of no kind
@@ -29,17 +31,34 @@ part-within p doc at n r h e =
     let m : (at + n) - at ≡ n = omega arith in
     (rw m at e) ∙ rw (le-leb (at + n) (length doc) h)
 
--- a key: length first, then bytes
-module _ (doc : List ℕ) (at n : ℕ) (key : List ℕ) (h : at + n ≤ length doc) where
-  pub key-other : (length (take ((at + n) - at) (drop at doc)) ≡ length key → ⊥) → false ≡ partIs (keyed key) doc at n
-  key-other e = part-within (keyed key) doc at n false h (same-short (take ((at + n) - at) (drop at doc)) key e)
-
-  pub key-same : (r : Bool) → length (take ((at + n) - at) (drop at doc)) ≡ length key → r ≡ starts key (take ((at + n) - at) (drop at doc)) → r ≡ partIs (keyed key) doc at n
-  key-same r l e = part-within (keyed key) doc at n r h (same-long (take ((at + n) - at) (drop at doc)) key r l e)
-
 and-false : (t : Bool) → false ≡ (t && false)
 and-false true = refl
 and-false false = refl
+
+-- a key: length first, then bytes
+module _ (doc keys : List ℕ) (at n key len : ℕ) where
+  -- one that runs past the keys is no name
+  pub key-past : length keys < key + len → false ≡ partIs (keyedAt keys key len) doc at n
+  unfolding partIs
+  key-past h = rw (lt-leb (key + len) (length keys) h) (and-false (leb (at + n) (length doc)))
+
+  -- nor is one of another length
+  pub key-other : (n ≡ len → ⊥) → false ≡ partIs (keyedAt keys key len) doc at n
+  key-other e = go (decLe (at + n) (length doc)) (decLe (key + len) (length keys))
+    where
+      go : Dec (at + n ≤ length doc) → Dec (key + len ≤ length keys) → false ≡ partIs (keyedAt keys key len) doc at n
+      go (no h) k = part-past (keyedAt keys key len) doc at n (omega arith)
+      go (yes h) (no k) = key-past (omega arith)
+      go (yes h) (yes k) =
+          let a : length (take n (drop at doc)) ≡ n = length-take-le n (drop at doc) (rw length-drop (omega arith)) in
+          let b : length (take len (drop key keys)) ≡ len = length-take-le len (drop key keys) (rw length-drop (omega arith)) in
+          let m : (at + n) - at ≡ n = omega arith in
+          part-within (keyedAt keys key len) doc at n false h (rw (m, le-leb (key + len) (length keys) k) (same-short (take n (drop at doc)) (take len (drop key keys)) (λ q. e (omega arith))))
+
+  pub key-same : (r : Bool) → at + n ≤ length doc → key + len ≤ length keys → r ≡ same (take ((at + n) - at) (drop at doc)) (take ((key + len) - key) (drop key keys)) → r ≡ partIs (keyedAt keys key len) doc at n
+  key-same r h k e =
+      let m : (key + len) - key ≡ len = omega arith in
+      part-within (keyedAt keys key len) doc at n r h ((rw m at e) ∙ rw (le-leb (key + len) (length keys) k))
 
 -- a prefix, a colon and `type` take six bytes
 pub tp-short : (name : List ℕ) → length name < 6 → false ≡ isTpType name
@@ -63,4 +82,12 @@ module _ {name : List ℕ} {colon : ℕ} (n : Run (other 58) name 0 colon) where
       let a : take (length name - colon) (drop colon name) ≡ drop colon name = take-all (length name - colon) (drop colon name) (rw length-drop (omega arith)) in
       (rw a at e) ∙ rw (empty-some (span (other 58) name) (rw long (omega arith)), past-drop, long)
 
-pub ruleset keys = (part-past, part-within, key-other, key-same, tp-short, tp-bare, tp-prefixed, needs)
+-- one or the other
+module _ (doc keys : List ℕ) (at n key len : ℕ) (tp r : Bool) where
+  pub named-tp : tp ≡ true → r ≡ partIs isTpType doc at n → r ≡ partIs (wanted keys key len tp) doc at n
+  named-tp e q = rw e q
+
+  pub named-key : tp ≡ false → r ≡ partIs (keyedAt keys key len) doc at n → r ≡ partIs (wanted keys key len tp) doc at n
+  named-key e q = rw e q
+
+pub ruleset keys = (part-past, part-within, key-past, key-other, key-same, tp-short, tp-bare, tp-prefixed, named-tp, named-key, needs)

@@ -5,7 +5,6 @@ use mathlib.Core.Path.{_≡_, refl, sym, ap, _∙_}
 use mathlib.Core.List.{List, [], _∷_, map}
 use mathlib.Core.Option.{Option, none, some}
 use mathlib.Core.Bool.{Bool, true, false}
-use native.Mathlib.Nat.{sub-self, sub-zero}
 use native.Mathlib.Omega.{arith}
 use lib.ListN.{length, take, drop, getD, length-drop}
 use lib.Seq.{length-take-le, getD-take}
@@ -14,49 +13,12 @@ use Rattle.references.specs.Unescape.{Text, text, wrong, unescape}
 use Rattle.document.specs.Tags.{Attr, Shown, Checked, good, fault, also, member, check, lookup, isTpType, tpType}
 use Rattle.document.specs.Outcome.{Held, ValueIs, ValueFits, ValuesFit, ValuesAre}
 use Rattle.attributes.specs.One.{attrOf, kindFrom, Fit}
-use Rattle.attributes.specs.Lookup.{blank, nameIs, keyed, firstFrom, atPlace, valueOf, valueIn, valuesIn}
+use Rattle.attributes.specs.Lookup.{blank, nameIs, keyed, firstBy, valueOf, valueIn, valuesIn}
 use Rattle.attributes.specs.Outcome.{Fitted, attrsOf}
 use Rattle.attributes.specs.declared.Attribute.{Attribute}
-use Rattle.attributes.specs.declared.Place.{Place}
-use Rattle.attributes.specs.declared.Place.the-variants.{At, Nothing}
-use Rattle.attributes.proofs.First.{found-from}
 use Rattle.attributes.proofs.Checking.{name-within}
 
--- ---- the first of a kind, itself
-
-abbrev pickBy : (Attribute → Bool) → List Attribute → Option Attribute
-pickBy p [] = none
-pickBy p (y ∷ ys) = let r = pickBy p ys in if (p y) (some y) r
-
-abbrev atFrom : ℕ → List Attribute → Place → Option Attribute
-atFrom i ys (At j) = some (getD ys (j - i) blank)
-atFrom i ys Nothing = none
-
-past-first : (i : ℕ) (y : Attribute) (ys : List Attribute) (r : Place) → ((j : ℕ) → r ≡ At j → suc i ≤ j) → atFrom i (y ∷ ys) r ≡ atFrom (suc i) ys r
-past-first i y ys (At j) h =
-    let b : suc i ≤ j = h j refl in
-    let e : j - i ≡ suc (j - suc i) = omega arith in
-    rw e
-past-first i y ys Nothing h = refl
-
-picked-from : (p : Attribute → Bool) (i : ℕ) (ys : List Attribute) → atFrom i ys (firstFrom p i ys) ≡ pickBy p ys
-unfolding firstFrom
-picked-from p i [] = refl
-picked-from p i (y ∷ ys) = go (p y) (picked-from p (suc i) ys)
-  where
-    go : (t : Bool) → atFrom (suc i) ys (firstFrom p (suc i) ys) ≡ pickBy p ys → atFrom i (y ∷ ys) (if t (At i) (firstFrom p (suc i) ys)) ≡ if t (some y) (pickBy p ys)
-    go true e = rw sub-self
-    go false e = past-first i y ys (firstFrom p (suc i) ys) (λ j q. found-from p (suc i) ys j q .0) ∙ e
-
-at-zero : (ys : List Attribute) (r : Place) → atPlace ys r ≡ atFrom 0 ys r
-at-zero ys (At j) = rw sub-zero
-at-zero ys Nothing = refl
-
-picked : (p : List ℕ → Bool) (doc : List ℕ) (ys : List Attribute) → valueIn p doc ys ≡ valueOf (pickBy (nameIs p doc) ys)
-unfolding valueIn
-picked p doc ys = rw (at-zero ys (firstFrom (nameIs p doc) 0 ys), picked-from (nameIs p doc) 0 ys)
-
--- ---- the same over what is shown
+-- ---- the first of a kind, over what is shown
 
 abbrev shownBy : (List ℕ → Bool) → List Shown → Option Shown
 shownBy p [] = none
@@ -107,7 +69,8 @@ module _ (p : List ℕ → Bool) (doc : List ℕ) (from to : ℕ) (b : to ≤ le
     shows = u;
   }
 
-  value-is : (ys : List Attribute) (ss : List Shown) → Showing doc ys ss → AllFit doc from to ys → ValueIs doc (valueOf (pickBy (nameIs p doc) ys)) (shownBy p ss)
+  value-is : (ys : List Attribute) (ss : List Shown) → Showing doc ys ss → AllFit doc from to ys → ValueIs doc (valueIn p doc ys) (shownBy p ss)
+  unfolding valueIn firstBy
   value-is [] [] h f = refl
   value-is [] (s ∷ ss) h f = absurd h
   value-is (y ∷ ys) [] h f = absurd h
@@ -117,15 +80,16 @@ module _ (p : List ℕ → Bool) (doc : List ℕ) (from to : ℕ) (b : to ≤ le
       let e : p (s .attr .name) ≡ p (attrOf doc y .name) = ap (λ (a : Attr). p (a .name)) (h .0) in
       rw (n, e) (go (p (attrOf doc y .name)) g (value-is ys ss (h .2) (λ k l. f (suc k) (omega arith))))
     where
-      go : (t : Bool) → Fit doc from to y → ValueIs doc (valueOf (pickBy (nameIs p doc) ys)) (shownBy p ss) → ValueIs doc (valueOf (if t (some y) (pickBy (nameIs p doc) ys))) (if t (some s) (shownBy p ss))
+      go : (t : Bool) → Fit doc from to y → ValueIs doc (valueIn p doc ys) (shownBy p ss) → ValueIs doc (valueOf (if t (some y) (firstBy (nameIs p doc) ys))) (if t (some s) (shownBy p ss))
       go true g i = held y s g (h .0) (h .1)
       go false g i = i
 
-  value-fits : from ≤ to → (ys : List Attribute) → AllFit doc from to ys → ValueFits from to (valueOf (pickBy (nameIs p doc) ys))
+  value-fits : from ≤ to → (ys : List Attribute) → AllFit doc from to ys → ValueFits from to (valueIn p doc ys)
+  unfolding valueIn firstBy
   value-fits l [] f = record { until = omega arith; short = omega arith }
   value-fits l (y ∷ ys) f = go (nameIs p doc y) (f 0 (omega arith)) (value-fits l ys (λ k b. f (suc k) (omega arith)))
     where
-      go : (t : Bool) → Fit doc from to y → ValueFits from to (valueOf (pickBy (nameIs p doc) ys)) → ValueFits from to (valueOf (if t (some y) (pickBy (nameIs p doc) ys)))
+      go : (t : Bool) → Fit doc from to y → ValueFits from to (valueIn p doc ys) → ValueFits from to (valueOf (if t (some y) (firstBy (nameIs p doc) ys)))
       go true g i = record { until = g .value; short = g .short }
       go false g i = i
 
@@ -136,7 +100,7 @@ module _ {doc : List ℕ} {from to : ℕ} {xs : List Attribute} {n : ℕ} (g : F
       rw (getD-take n xs k blank (omega arith)) (g .rule k (omega arith))
 
   fits-one : (p : List ℕ → Bool) → from ≤ to → ValueFits from to (valueIn p doc (take n xs))
-  fits-one p h = rw picked (value-fits p doc from to b h (take n xs) all-fit)
+  fits-one p h = value-fits p doc from to b h (take n xs) all-fit
 
   pub values-fit : from ≤ to → ValuesFit from to (valuesIn doc (take n xs))
   unfolding valuesIn
@@ -152,7 +116,7 @@ module _ {doc : List ℕ} {from to : ℕ} {xs : List Attribute} {n : ℕ} (g : F
 
   module _ {ss : List Shown} (c : check [] (attrsOf doc xs n) ≡ good ss) where
     is-one : (p : List ℕ → Bool) → ValueIs doc (valueIn p doc (take n xs)) (shownBy p ss)
-    is-one p = rw picked (value-is p doc from to b (take n xs) ss (check-shown doc [] (take n xs) ss c) all-fit)
+    is-one p = value-is p doc from to b (take n xs) ss (check-shown doc [] (take n xs) ss c) all-fit
 
     is-keyed : (key : List ℕ) → ValueIs doc (valueIn (keyed key) doc (take n xs)) (lookup key ss)
     is-keyed key = rw lookup-shown (is-one (keyed key))

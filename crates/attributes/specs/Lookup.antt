@@ -1,20 +1,18 @@
 -- The first attribute of a kind, its value, and the values of a tag.
 -- Assumes nothing.
-use Prim.Native.Nat.{ℕ, suc, _+_}
+use Prim.Native.Nat.{ℕ, _+_}
 use mathlib.Core.Path.{_≡_}
 use mathlib.Core.List.{List, [], _∷_}
 use mathlib.Core.Option.{Option, none, some}
-use mathlib.Core.Bool.{Bool, _&&_}
+use mathlib.Core.Bool.{Bool, true, false, _&&_}
 use lib.Dec.{leb}
-use lib.ListN.{length, take, getD}
+use lib.ListN.{length, take}
 use Rattle.slices.specs.Bytes.{if, bytes, same}
 use Rattle.document.specs.Tags.{isTpType}
 use Rattle.document.specs.declared.Value.{Value}
 use Rattle.document.specs.declared.Values.{Values}
 use Rattle.attributes.specs.One.{part}
 use Rattle.attributes.specs.declared.Attribute.{Attribute}
-use Rattle.attributes.specs.declared.Place.{Place}
-use Rattle.attributes.specs.declared.Place.the-variants.{At, Nothing}
 
 -- the struct that stands for no attribute
 abbrev pub blank : Attribute
@@ -32,21 +30,23 @@ nameIs p doc a = partIs p doc (a .name) (a .«name_len»)
 abbrev pub keyed : List ℕ → List ℕ → Bool
 keyed key n = same n key
 
--- the first one's number is i
-unfoldable pub firstFrom : (Attribute → Bool) → ℕ → List Attribute → Place
-firstFrom p i [] = Nothing
-firstFrom p i (a ∷ xs) = let r = firstFrom p (suc i) xs in if (p a) (At i) r
+-- the name is the key that is so many bytes of the keys from a place on, and lies in them
+abbrev pub keyedAt : List ℕ → ℕ → ℕ → List ℕ → Bool
+keyedAt keys key len n = leb (key + len) (length keys) && keyed (part keys key len) n
 
--- the number of the first attribute whose name is of a kind
-abbrev pub firstOf : (List ℕ → Bool) → List ℕ → List Attribute → Place
-firstOf p doc xs = firstFrom (nameIs p doc) 0 xs
+-- what is asked of a name: that it is a tp type's, or the key
+abbrev pub wanted : List ℕ → ℕ → ℕ → Bool → List ℕ → Bool
+wanted keys key len true n = isTpType n
+wanted keys key len false n = keyedAt keys key len n
 
-abbrev pub nothing : Option Attribute
-nothing = none
+-- the keys of a tag's values, but for the tp type
+pub record KeyTable (keys : List ℕ) : Type 0 where
+  pub is : keys ≡ bytes "nametypevalueaccessdirectionsuffix"
 
-abbrev pub atPlace : List Attribute → Place → Option Attribute
-atPlace xs (At i) = some (getD xs i blank)
-atPlace xs Nothing = none
+-- the first attribute that is asked for
+unfoldable pub firstBy : (Attribute → Bool) → List Attribute → Option Attribute
+firstBy p [] = none
+firstBy p (a ∷ xs) = let r = firstBy p xs in if (p a) (some a) r
 
 -- the value, kind 0 where there is none
 abbrev pub valueOf : Option Attribute → Value
@@ -55,7 +55,7 @@ valueOf (some a) = record { at = a .value; len = a .«value_len»; kind = a .kin
 
 -- the value of the first attribute whose name is of a kind
 unfoldable pub valueIn : (List ℕ → Bool) → List ℕ → List Attribute → Value
-valueIn p doc xs = valueOf (atPlace xs (firstOf p doc xs))
+valueIn p doc xs = valueOf (firstBy (nameIs p doc) xs)
 
 unfoldable pub valuesIn : List ℕ → List Attribute → Values
 valuesIn doc xs = record {
@@ -68,11 +68,7 @@ valuesIn doc xs = record {
   tp = valueIn isTpType doc xs;
 }
 
--- what a search of the first n of an array says
-pub record First (p : List ℕ → Bool) (doc : List ℕ) (xs : List Attribute) (n : ℕ) (r : Place) : Type 0 where
-  pub is : r ≡ firstOf p doc (take n xs)
-
--- what a lookup in the first n of an array says
+-- what a lookup in the first n of the attributes says
 pub record Picks (p : List ℕ → Bool) (doc : List ℕ) (xs : List Attribute) (n : ℕ) (v : Value) : Type 0 where
   pub is : v ≡ valueIn p doc (take n xs)
 

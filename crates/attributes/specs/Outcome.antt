@@ -3,7 +3,8 @@
 use Prim.Native.Nat.{ℕ, _+_, _≤_, _<_}
 use mathlib.Core.Path.{_≡_}
 use mathlib.Core.List.{List, [], _∷_, map}
-use mathlib.Core.Bool.{Bool, true, false}
+use mathlib.Core.Bool.{Bool, true, false, not}
+use lib.Dec.{eqb}
 use lib.ListN.{length, take, drop, getD}
 use Rattle.slices.specs.Bytes.{if, span, past, same}
 use Rattle.scan.specs.Classes.{white}
@@ -12,22 +13,23 @@ use Rattle.document.specs.Tags.{Attr, Shown, Checked, good, fault, also, check,
 use Rattle.document.specs.Tokens as tokens
 use Rattle.document.specs.Tokens.{last, tagEnd, withAttrs}
 use Rattle.document.specs.Outcome.{ValuesAre, ValuesFit}
+use Rattle.document.specs.declared.Value.{Value}
 use Rattle.attributes.specs.One.{part, attrOf, Fit}
 use Rattle.attributes.specs.Lookup.{blank, valuesIn}
 use Rattle.attributes.specs.declared.Attribute.{Attribute}
 use Rattle.attributes.specs.declared.Verdict.{Verdict}
 use Rattle.attributes.specs.declared.Attrs.{Attrs}
 
--- the first n of an array fit between two places
+-- the first n of the attributes fit between two places
 pub record Fitted (doc : List ℕ) (from to : ℕ) (ys : List Attribute) (n : ℕ) : Type 0 where
   pub rule : (k : ℕ) → k < n → Fit doc from to (getD ys k blank)
 
--- the first n of an array lie in the document, which is within the limit
+-- the first n of the attributes lie in the document, which is within the limit
 pub record Checkable (doc : List ℕ) (ys : List Attribute) (n : ℕ) : Type 0 where
   pub small : length doc ≤ 1048576
   pub fitted : Fitted doc 0 (length doc) ys n
 
--- the attributes that the first n of an array stand for
+-- what the first n of them stand for
 abbrev pub attrsOf : List ℕ → List Attribute → ℕ → List Attr
 attrsOf doc ys n = map (attrOf doc) (take n ys)
 
@@ -44,14 +46,20 @@ abbrev pub listed : List ℕ → List Attr → Bool
 listed n [] = false
 listed n (x ∷ xs) = let r = listed n xs in if (same (x .name) n) true r
 
--- the check of one attribute after others: duplicate before reference
-abbrev pub IsJudged : Attr → List Attr → Verdict → Type 0
-IsJudged x before Verdict.Good = (t : List ℕ) × (listed (x .name) before ≡ false) × (unescape (x .raw) ≡ text t)
-IsJudged x before (Verdict.Fault k p) =
-    (c : Checked) → if (listed (x .name) before) (fault 8 (x .at)) (also x (unescape (x .raw)) c) ≡ fault k p
+-- the check of one attribute, whose name came before or not: duplicate before reference
+abbrev pub IsJudged : Attr → Bool → Verdict → Type 0
+IsJudged x seen Verdict.Good = (t : List ℕ) × (seen ≡ false) × (unescape (x .raw) ≡ text t)
+IsJudged x seen (Verdict.Fault k p) = (c : Checked) → if seen (fault 8 (x .at)) (also x (unescape (x .raw)) c) ≡ fault k p
+
+-- a value that is there
+abbrev pub there : Value → Bool
+there v = not (eqb (v .kind) 0)
+
+pub record Weighs (doc : List ℕ) (a : Attribute) (before : Value) (r : Verdict) : Type 0 where
+  pub is : IsJudged (attrOf doc a) (there before) r
 
 pub record Judges (doc : List ℕ) (ys : List Attribute) (i : ℕ) (r : Verdict) : Type 0 where
-  pub is : IsJudged (attrOf doc (getD ys i blank)) (attrsOf doc ys i) r
+  pub is : IsJudged (attrOf doc (getD ys i blank)) (listed (attrOf doc (getD ys i blank) .name) (attrsOf doc ys i)) r
 
 -- the check of all
 abbrev pub IsChecked : List Attr → Verdict → Type 0

@@ -1,18 +1,16 @@
 // The attributes of a start tag: gathered, checked one by one, and looked up. `attributes` is the entry.
 ghost use mathlib.Core.Path.{_≡_};
-ghost use mathlib.Core.Option.{some};
 ghost use Prim.Native.Nat.{_+_, _≤_};
 ghost use lib.ListN.{length, take, drop};
 ghost use Rattle.scan.specs.Classes.{Classes};
 ghost use Rattle.references.specs.Unescape.{special};
 ghost use Rattle.document.specs.Tags.{attribute, equals, openQuote};
 ghost use Rattle.attributes.specs.One.{Quotes, Named, Finds};
-ghost use Rattle.attributes.specs.Lookup.{nothing, valueOf};
 ghost use Rattle.attributes.specs.Outcome.{References, Gathers};
-use document::Value;
 use document::Values;
 
 mod few;
+mod gathered;
 mod many;
 mod names;
 
@@ -35,12 +33,6 @@ pub enum One {
 pub struct Inside {
     pub end: usize,
     pub kind: u32,
-}
-
-// The first attribute that is asked for, by its number.
-pub enum Place {
-    At(usize),
-    Nothing,
 }
 
 // What checking comes to: a fault's number and place, or none.
@@ -160,28 +152,6 @@ fn attribute_at(doc: &[u8], classes: &[u8; 256], from: usize) -> One
     equals_at(doc, classes, name, end - name, at)
 }
 
-// No value.
-fn no_value() -> Value
-    ensures { λ r. ⌜ r ≡ valueOf nothing ⌝ }
-{
-    Value {
-        at: 0,
-        len: 0,
-        kind: 0,
-    }
-}
-
-// The value of an attribute.
-fn value_of(a: Attribute) -> Value
-    ensures { λ r. ⌜ r ≡ valueOf (some a) ⌝ }
-{
-    Value {
-        at: a.value as usize,
-        len: a.value_len as usize,
-        kind: a.kind,
-    }
-}
-
 // Whether the references of a raw value are good.
 fn references_of(doc: &[u8], at: usize, n: usize) -> Verdict
     requires { ⌜ (at + n ≤ length (now doc)) × (length (now doc) ≤ 1048576) ⌝ }
@@ -201,5 +171,5 @@ pub fn attributes(doc: &[u8], classes: &[u8; 256], from: usize) -> Attrs
     requires { ⌜ (from ≤ length (now doc)) × (length (now doc) ≤ 1048576) × Classes (now classes) ⌝ }
     ensures { λ r. ⌜ Gathers (now (doc .entry)) from r ⌝ }
 {
-    few::gather(doc, classes, from)
+    few::gather(doc, classes, b"nametypevalueaccessdirectionsuffix", from)
 }

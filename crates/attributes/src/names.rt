@@ -1,39 +1,26 @@
-// Names of attributes: whether one is a key, or that of a tp type; the first that is a key.
+// Names of attributes: whether one is a key, or that of a tp type.
 ghost use mathlib.Core.Path.{_≡_};
 ghost use Rattle.document.specs.Tags.{isTpType};
-ghost use Rattle.attributes.specs.Lookup.{partIs, keyed, firstOf};
-use crate::Attribute;
-use crate::Place;
+ghost use Rattle.attributes.specs.Lookup.{partIs, keyedAt, wanted};
 
-// Whether the n bytes from a place on are the key: length first, then bytes.
-pub fn is_key(doc: &[u8], at: u32, n: u32, key: &[u8]) -> bool
-    ensures { λ r. ⌜ r ≡ partIs (keyed (now (key .entry))) (now (doc .entry)) at n ⌝ }
+// Whether the n bytes from a place on are the key, so many bytes of the keys from its place on: length first, then bytes.
+fn is_key(doc: &[u8], at: u32, n: u32, keys: &[u8], key: u32, len: u32) -> bool
+    ensures { λ r. ⌜ r ≡ partIs (keyedAt (now (keys .entry)) key len) (now (doc .entry)) «at» n ⌝ }
 {
+    if n != len {
+        return false;
+    }
     let from = at as usize;
     let to = from + n as usize;
     if doc.len() < to {
         return false;
     }
-    let name = &doc[from..to];
-    if name.len() != key.len() {
+    let begin = key as usize;
+    let end = begin + len as usize;
+    if keys.len() < end {
         return false;
     }
-    slices::starts_at(name, 0, key)
-}
-
-// The first of the attributes with the key.
-pub fn first_named(doc: &[u8], attrs: &[Attribute], key: &[u8]) -> Place
-    ensures { λ r. ⌜ r ≡ firstOf (keyed (now (key .entry))) (now (doc .entry)) (now (attrs .entry)) ⌝ }
-{
-    let mut i: usize = 0;
-    while i < attrs.len() {
-        let a = attrs[i];
-        if is_key(doc, a.name, a.name_len, key) {
-            return Place::At(i);
-        }
-        i += 1;
-    }
-    Place::Nothing
+    slices::equal(&doc[from..to], &keys[begin..end])
 }
 
 // A prefix that is not empty, the first colon, then exactly `type`.
@@ -51,8 +38,8 @@ fn has_tp_type(name: &[u8]) -> bool
 }
 
 // Whether the n bytes from a place on are the name of a tp type.
-pub fn is_tp_type(doc: &[u8], at: u32, n: u32) -> bool
-    ensures { λ r. ⌜ r ≡ partIs isTpType (now (doc .entry)) at n ⌝ }
+fn is_tp_type(doc: &[u8], at: u32, n: u32) -> bool
+    ensures { λ r. ⌜ r ≡ partIs isTpType (now (doc .entry)) «at» n ⌝ }
 {
     let from = at as usize;
     let to = from + n as usize;
@@ -60,4 +47,14 @@ pub fn is_tp_type(doc: &[u8], at: u32, n: u32) -> bool
         return false;
     }
     has_tp_type(&doc[from..to])
+}
+
+// Whether the n bytes from a place on are the name of a tp type, where that is asked, or else the key.
+pub fn is_named(doc: &[u8], at: u32, n: u32, keys: &[u8], key: u32, len: u32, tp: bool) -> bool
+    ensures { λ r. ⌜ r ≡ partIs (wanted (now (keys .entry)) key len tp) (now (doc .entry)) «at» n ⌝ }
+{
+    if tp {
+        return is_tp_type(doc, at, n);
+    }
+    is_key(doc, at, n, keys, key, len)
 }

@@ -8,8 +8,8 @@ pub enum Verdict {
 
 // The raw value of an attribute: kind 0 is absent, 1 shown as it stands, 2 changed.
 pub struct Value {
-    pub at: usize,
-    pub len: usize,
+    pub at: u32,
+    pub len: u32,
     pub kind: u32,
 }
 

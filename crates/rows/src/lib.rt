@@ -33,8 +33,8 @@ fn raw(doc: &[u8], v: Value) -> &[u8]
     requires { ⌜ Lies (now doc) v ⌝ }
     ensures { λ r. ⌜ Raw (now (doc .entry)) v (now r) ⌝ }
 {
-    let at = v.at;
-    let end = at + v.len;
+    let at = v.at as usize;
+    let end = at + v.len as usize;
     &doc[at..end]
 }
 
@@ -46,8 +46,8 @@ fn place(doc: &[u8], text: &mut [u8], v: Value, n: usize) -> Placed
     if v.kind == 1 {
         return Placed {
             source: 1,
-            start: v.at as u32,
-            len: v.len as u32,
+            start: v.at,
+            len: v.len,
             text: n,
         };
     }

@@ -9,10 +9,8 @@ place-spec =
     tie.close
     (tie.spec
     (λ c. search placing)
-    (λ c. search placing)
-    (λ c. search placing)
-    (λ c. search placing)
-    (λ c. search placing)
+    (λ c κs. search placing)
+    (λ c κs. search placing)
     (λ c. search placing)
     (λ c. search placing)
     (λ c. search placing)

@@ -12,4 +12,6 @@ raw-spec =
     (λ c. search placing)
     (λ c. search placing)
     (λ c. search placing)
+    (λ c. search placing)
+    (λ c. search placing)
     (λ c. search placing))

@@ -7,10 +7,10 @@ use Rattle.attributes.proofs.few.gather.Statement.{statement}
 use Rattle.attributes.proofs.few.gather.Tie as tie
 
 abbrev Inv-loop : tie.InvT-loop
-Inv-loop doc classes from attrs₀ n₀ at₀ attrs n at = Gathering 8 doc from attrs n at
+Inv-loop doc classes keys from attrs₀ n₀ at₀ attrs n at = Gathering 6 doc from attrs n at
 
 abbrev μ-loop : tie.MeasureT-loop
-μ-loop doc classes from attrs₀ n₀ at₀ attrs n at = length doc - at
+μ-loop doc classes keys from attrs₀ n₀ at₀ attrs n at = length doc - at
 
 pub gather-spec : {M : Type 1} → statement M
 gather-spec =
@@ -20,6 +20,7 @@ gather-spec =
     μ-loop
     (λ c. search gathers)
     (λ c κs. search gathers)
+    (λ c. search gathers)
     (λ c. search gathers)
     (λ c κs. search gathers)
     (λ c. search gathers)

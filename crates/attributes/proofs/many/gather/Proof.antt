@@ -7,10 +7,10 @@ use Rattle.attributes.proofs.many.gather.Statement.{statement}
 use Rattle.attributes.proofs.many.gather.Tie as tie
 
 abbrev Inv-loop : tie.InvT-loop
-Inv-loop doc classes from attrs₀ n₀ at₀ attrs n at = Gathering 256 doc from attrs n at
+Inv-loop doc classes keys from attrs₀ n₀ at₀ attrs n at = Gathering 256 doc from attrs n at
 
 abbrev μ-loop : tie.MeasureT-loop
-μ-loop doc classes from attrs₀ n₀ at₀ attrs n at = length doc - at
+μ-loop doc classes keys from attrs₀ n₀ at₀ attrs n at = length doc - at
 
 pub gather-spec : {M : Type 1} → statement M
 gather-spec =
