@@ -13,7 +13,7 @@ struct reader {
 };
 
 static const struct reader readers[] = {
-    {"this library", "tables", "all", "attributes", "names, signatures, element rules; n/32 rows lent, n/4 if refused", ours_usual},
+    {"this library", "tables", "all", "attributes", "names, signatures, element rules; n/48 rows lent, n/4 if refused", ours_usual},
     {"this, room for any", "tables", "all", "attributes", "the same; n/4 rows lent, which are cleared", ours_any},
     {"quick-xml", "events", "attributes", "attributes", "values as str; texts as bytes", quick_values},
     {"quick-xml, texts", "events", "attributes, text", "attributes, text", "values and texts as str", quick_texts},
@@ -126,7 +126,7 @@ static void growing(const struct set *sets) {
         double each[SIZES];
         for (int k = 0; k < SIZES; k++)
             each[k] = least(fit ? fitted[k] : usual[k], rounds * 4);
-        printf("  %-30s %8.2f %8.3f %8.3f %12.2f\n", fit ? "as many as the document has" : "n/32 rows", 1.0,
+        printf("  %-30s %8.2f %8.3f %8.3f %12.2f\n", fit ? "as many as the document has" : "n/48 rows", 1.0,
                each[1] / each[0], each[2] / each[0], each[0]);
     }
 }

@@ -24,7 +24,7 @@ long ours_any(const unsigned char *bytes, size_t len) {
 
 // Tables for an ordinary document first, and those for any where they do not suffice.
 long ours_usual(const unsigned char *bytes, size_t len) {
-    long n = lend(bytes, len, len / 32, len / 128, len / 8);
+    long n = lend(bytes, len, len / 48, len / 128, len / 8);
     return n == -INTROSPECTION_NO_ROOM ? ours_any(bytes, len) : n;
 }
 

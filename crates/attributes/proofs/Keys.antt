@@ -5,11 +5,11 @@ use mathlib.Core.Path.{_≡_, refl, sym, _∙_}
 use mathlib.Core.List.{List, [], _∷_}
 use mathlib.Core.Bool.{Bool, true, false, not, _&&_}
 use borrow.Author.Needs.{needs}
-use borrow.Author.Tests.{le-leb, lt-leb}
+use borrow.Author.Tests.{le-leb, lt-leb, eqb-true, eqb-false, eq-eqb, ne-eqb}
 use native.Mathlib.Decide.{decLe}
 use native.Mathlib.Omega.{arith}
 use native.Mathlib.Nat.{zero-add}
-use lib.Dec.{leb}
+use lib.Dec.{leb, eqb}
 use lib.ListN.{length, take, drop, length-drop}
 use lib.Seq.{take-all, length-take-le}
 use Rattle.slices.specs.Bytes.{bytes, other, span, past, empty, same}
@@ -30,6 +30,14 @@ unfolding partIs
 part-within p doc at n r h e =
     let m : (at + n) - at ≡ n = omega arith in
     (rw m at e) ∙ rw (le-leb (at + n) (length doc) h)
+
+flag-none : (u : Bool) → not u ≡ true → u ≡ false
+flag-none false e = refl
+flag-none true e = sym e
+
+flag-some : (u : Bool) → not u ≡ false → u ≡ true
+flag-some true e = refl
+flag-some false e = sym e
 
 and-false : (t : Bool) → false ≡ (t && false)
 and-false true = refl
@@ -60,27 +68,48 @@ module _ (doc keys : List ℕ) (at n key len : ℕ) where
       let m : (key + len) - key ≡ len = omega arith in
       part-within (keyedAt keys key len) doc at n r h ((rw m at e) ∙ rw (le-leb (key + len) (length keys) k))
 
--- a prefix, a colon and `type` take six bytes
-pub tp-short : (name : List ℕ) → length name < 6 → false ≡ isTpType name
-tp-short name h = go (span (other 58) name) refl
-  where
-    go : (s : List ℕ) → span (other 58) name ≡ s → false ≡ isTpType name
-    go [] e = rw e
-    go (b ∷ s) e =
-        let n : length (past (other 58) name) ≡ length name - suc (length s) = rw (past-drop, e) (length-drop (suc (length s)) name) in
-        rw (← same-short (past (other 58) name) (bytes ":type") (λ q. absurd (omega arith))) (and-false (not (empty (span (other 58) name))))
+-- a tp type's name: its last five bytes are `:type`, and the first colon is theirs, after a byte at least
+module _ (name : List ℕ) where
+  -- the first colon stands elsewhere
+  tp-elsewhere : (length name - length (span (other 58) name) ≡ 5 → ⊥) → false ≡ isTpType name
+  tp-elsewhere h =
+      let n : length (past (other 58) name) ≡ length name - length (span (other 58) name) = rw past-drop (length-drop (length (span (other 58) name)) name) in
+      rw (← same-short (past (other 58) name) (bytes ":type") (λ q. h (sym n ∙ q))) (and-false (not (empty (span (other 58) name))))
 
-module _ {name : List ℕ} {colon : ℕ} (n : Run (other 58) name 0 colon) where
-  long : length (span (other 58) name) ≡ colon
-  long = sym (n .ends ∙ zero-add _)
+  pub tp-short : length name < 6 → false ≡ isTpType name
+  tp-short h = go (span (other 58) name) refl
+    where
+      go : (s : List ℕ) → span (other 58) name ≡ s → false ≡ isTpType name
+      go [] e = rw e
+      go (b ∷ s) e = tp-elsewhere (λ q. let r : length name - suc (length s) ≡ 5 = rw e at q in absurd (omega arith))
 
-  pub tp-bare : colon ≡ 0 → false ≡ isTpType name
-  tp-bare e = rw (empty-none (span (other 58) name) (long ∙ e))
+  module _ {u : Bool} (e : u ≡ same (take (length name - (length name - 5)) (drop (length name - 5) name)) (bytes ":type")) (h : 6 ≤ length name) where
+    -- it is theirs
+    here : length (span (other 58) name) ≡ length name - 5 → u ≡ same (past (other 58) name) (bytes ":type")
+    here q =
+        let a : take (length name - (length name - 5)) (drop (length name - 5) name) ≡ drop (length name - 5) name = take-all (length name - (length name - 5)) (drop (length name - 5) name) (rw length-drop (omega arith)) in
+        (rw a at e) ∙ rw (past-drop, q)
 
-  pub tp-prefixed : {r : Bool} → (colon ≡ 0 → ⊥) → r ≡ same (take (length name - colon) (drop colon name)) (bytes ":type") → r ≡ isTpType name
-  tp-prefixed {r} h e =
-      let a : take (length name - colon) (drop colon name) ≡ drop colon name = take-all (length name - colon) (drop colon name) (rw length-drop (omega arith)) in
-      (rw a at e) ∙ rw (empty-some (span (other 58) name) (rw long (omega arith)), past-drop, long)
+    pub tp-other : not u ≡ true → false ≡ isTpType name
+    tp-other f = go (eqb (length (span (other 58) name)) (length name - 5)) refl
+      where
+        go : (t : Bool) → eqb (length (span (other 58) name)) (length name - 5) ≡ t → false ≡ isTpType name
+        go false o = tp-elsewhere (λ q. eqb-false (length (span (other 58) name)) (length name - 5) o (omega arith))
+        go true o =
+            let n = eqb-true (length (span (other 58) name)) (length name - 5) o in
+            rw (sym (here n) ∙ flag-none u f) (and-false (not (empty (span (other 58) name))))
+
+    pub tp-last : {colon : ℕ} → Run (other 58) name 0 colon → not u ≡ false → eqb colon (length name - 5) ≡ isTpType name
+    tp-last {colon} r f = go (eqb (length (span (other 58) name)) (length name - 5)) refl
+      where
+        long : length (span (other 58) name) ≡ colon
+        long = sym (r .ends ∙ zero-add _)
+
+        go : (t : Bool) → eqb (length (span (other 58) name)) (length name - 5) ≡ t → eqb colon (length name - 5) ≡ isTpType name
+        go false o = ne-eqb colon (length name - 5) (λ q. eqb-false (length (span (other 58) name)) (length name - 5) o (long ∙ q)) ∙ tp-elsewhere (λ q. eqb-false (length (span (other 58) name)) (length name - 5) o (omega arith))
+        go true o =
+            let n = eqb-true (length (span (other 58) name)) (length name - 5) o in
+            eq-eqb colon (length name - 5) (sym long ∙ n) ∙ rw (empty-some (span (other 58) name) (rw n (omega arith)), sym (here n) ∙ flag-some u f)
 
 -- one or the other
 module _ (doc keys : List ℕ) (at n key len : ℕ) (tp r : Bool) where
@@ -90,4 +119,4 @@ module _ (doc keys : List ℕ) (at n key len : ℕ) (tp r : Bool) where
   pub named-key : tp ≡ false → r ≡ partIs (keyedAt keys key len) doc at n → r ≡ partIs (wanted keys key len tp) doc at n
   named-key e q = rw e q
 
-pub ruleset keys = (part-past, part-within, key-past, key-other, key-same, tp-short, tp-bare, tp-prefixed, named-tp, named-key, needs)
+pub ruleset keys = (part-past, part-within, key-past, key-other, key-same, tp-short, tp-other, tp-last, named-tp, named-key, needs)

@@ -23,18 +23,18 @@ fn is_key(doc: &[u8], at: u32, n: u32, keys: &[u8], key: u32, len: u32) -> bool
     slices::equal(&doc[from..to], &keys[begin..end])
 }
 
-// A prefix that is not empty, the first colon, then exactly `type`.
+// A prefix that is not empty, the first colon, then exactly `type`. Most names do not end so, which is asked first.
 fn has_tp_type(name: &[u8]) -> bool
     ensures { λ r. ⌜ r ≡ isTpType (now (name .entry)) ⌝ }
 {
     if name.len() < 6 {
         return false;
     }
-    let colon = slices::find(name, 0, 58);
-    if colon == 0 {
+    let colon = name.len() - 5;
+    if !slices::equal(&name[colon..], b":type") {
         return false;
     }
-    slices::equal(&name[colon..], b":type")
+    slices::find(name, 0, 58) == colon
 }
 
 // Whether the n bytes from a place on are the name of a tp type.

@@ -132,6 +132,10 @@ no-part k =
 pub child-definition : {doc hs : List ℕ} {docs : Bool} {c : StartTag} {i : ℕ} {f : Fill} {b b′ : Lent} {t : Bool} {r : Answer} → i < f .rows → HoldsDefinitions hs → Among (c .kind) definitions t → t ≡ true → Begins doc (c .kind) c (i + 1) f b b′ r → Child doc hs docs c i f b b′ r
 child-definition {c = c} l d a e h = let y = sym (a .is) ∙ e in child-begins l refl (d .is (c .kind) y) (no-part (c .kind) y) h
 
-pub ruleset children = (child-begins, none-empty, none-more, child-else, child-parent, needs)
+-- the same where the answer is taken apart
+pub child-taken : {doc hs : List ℕ} {docs : Bool} {c : StartTag} {i : ℕ} {f : Fill} {b b′ : Lent} {m : ℕ} {v r : Answer} → i < f .rows → c .kind ≡ m → among m hs ≡ true → among m (10 ∷ 12 ∷ 14 ∷ []) ≡ false → Begins doc m c (i + 1) f b b′ v → v ≡ r → Child doc hs docs c i f b b′ r
+child-taken {hs = hs} {docs = docs} l k a x h e = rw e at (child-begins {hs = hs} {docs = docs} l k a x h)
 
-pub ruleset interfaces = (child-definition, interface-holds, definition-kind, among-none, method-member, signal-member, child-begins, none-more, child-else, child-parent, needs)
+pub ruleset children = (child-taken, child-begins, none-empty, none-more, child-else, child-parent, needs)
+
+pub ruleset interfaces = (child-definition, interface-holds, definition-kind, among-none, method-member, signal-member, child-taken, child-begins, none-more, child-else, child-parent, needs)

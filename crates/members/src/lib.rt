@@ -224,7 +224,15 @@ fn callable_child(
 {
     let kind = c.kind;
     if kind == 7 {
-        return arg(doc, classes, rows, warnings, text, c, i + 1, f);
+        // by its parts: a copy of the whole answer is a delay for each
+        match arg(doc, classes, rows, warnings, text, c, i + 1, f) {
+            Answer::Fault(number, place) => {
+                return Answer::Fault(number, place);
+            }
+            Answer::Done(g) => {
+                return Answer::Done(g);
+            }
+        }
     }
     if kind == 6 {
         return annotation(doc, classes, rows, warnings, text, c, i + 1, f);
@@ -342,7 +350,15 @@ fn interface_child(
         return member(doc, classes, rows, warnings, text, c, 3, i + 1, f);
     }
     if kind == 4 {
-        return property(doc, classes, rows, warnings, text, c, i + 1, f);
+        // by its parts: a copy of the whole answer is a delay for each
+        match property(doc, classes, rows, warnings, text, c, i + 1, f) {
+            Answer::Fault(number, place) => {
+                return Answer::Fault(number, place);
+            }
+            Answer::Done(g) => {
+                return Answer::Done(g);
+            }
+        }
     }
     if kind == 5 {
         return member(doc, classes, rows, warnings, text, c, 5, i + 1, f);

@@ -13,7 +13,7 @@ use Rattle.slices.specs.Bytes.{if, all}
 use Rattle.slices.proofs.Runs.{both, by-byte}
 use Rattle.names.specs.Names.{elementByte, element, elements, grown, every, interfaceName, memberName}
 use Rattle.names.specs.Signature.{Open, State, basicCode, begins, byte, accepts, signature}
-use Rattle.names.specs.Plain.{nameByte, signatureByte, plainByte, covers}
+use Rattle.names.specs.Plain.{dottedByte, signatureByte, plainByte, covers}
 use Rattle.names.proofs.Names.{and-both, element-class}
 use Rattle.names.proofs.Checks.{accepts-bad}
 
@@ -46,7 +46,7 @@ not-large q f b e = go (decLt b 128)
     go (yes k) = k
     go (no k) = absurd (subst T (f b (omega arith)) (subst T (sym e) tt))
 
-name-large : (b : ℕ) → 128 ≤ b → nameByte b ≡ false
+name-large : (b : ℕ) → 128 ≤ b → dottedByte b ≡ false
 name-large b h =
     rw (le-leb 65 b (omega arith), lt-leb b 90 (omega arith), le-leb 97 b (omega arith), lt-leb b 122 (omega arith), le-leb 48 b (omega arith), lt-leb b 57 (omega arith), ne-eqb b 95 (λ q. omega arith), ne-eqb b 46 (λ q. omega arith))
 
@@ -59,14 +59,14 @@ code-large b h =
     rw (basic-large b h, ne-eqb b 118 (λ q. omega arith), ne-eqb b 97 (λ q. omega arith), ne-eqb b 40 (λ q. omega arith), ne-eqb b 41 (λ q. omega arith), ne-eqb b 123 (λ q. omega arith), ne-eqb b 125 (λ q. omega arith))
 
 -- what names consist of
-name-of : (b : ℕ) → elementByte b ≡ true → nameByte b ≡ true
+name-of : (b : ℕ) → elementByte b ≡ true → dottedByte b ≡ true
 name-of b e = rw e
 
-all-name : (s : List ℕ) → all elementByte s ≡ true → all nameByte s ≡ true
+all-name : (s : List ℕ) → all elementByte s ≡ true → all dottedByte s ≡ true
 all-name [] e = refl
 all-name (b ∷ s) e = let t = both (elementByte b) (all elementByte s) e in rw (name-of b (t .0)) (all-name s (t .1))
 
-pub member-bytes : (s : List ℕ) → memberName s ≡ true → all nameByte s ≡ true
+pub member-bytes : (s : List ℕ) → memberName s ≡ true → all dottedByte s ≡ true
 unfolding memberName
 member-bytes s e = all-name s (element-class s (and-both (element s) (leb (length s) 255) e .0))
 
@@ -76,18 +76,18 @@ every-class (e ∷ es) h =
     let t = both (element e) (every element es) h in
     rw (element-class e (t .0)) (every-class es (t .1))
 
-elements-bytes : (s : List ℕ) → every (all elementByte) (elements s) ≡ true → all nameByte s ≡ true
+elements-bytes : (s : List ℕ) → every (all elementByte) (elements s) ≡ true → all dottedByte s ≡ true
 elements-bytes [] h = refl
-elements-bytes (b ∷ s) h = by-byte (λ (x : ℕ). every (all elementByte) (if (eqb x 46) ([] ∷ elements s) (grown x (elements s))) ≡ true → all nameByte (x ∷ s) ≡ true) b 46 (elements-bytes s) (λ n k. one (elements s) (elements-bytes s) (rw n at k)) h
+elements-bytes (b ∷ s) h = by-byte (λ (x : ℕ). every (all elementByte) (if (eqb x 46) ([] ∷ elements s) (grown x (elements s))) ≡ true → all dottedByte (x ∷ s) ≡ true) b 46 (elements-bytes s) (λ n k. one (elements s) (elements-bytes s) (rw n at k)) h
   where
-    one : (es : List (List ℕ)) → (every (all elementByte) es ≡ true → all nameByte s ≡ true) → every (all elementByte) (grown b es) ≡ true → all nameByte (b ∷ s) ≡ true
+    one : (es : List (List ℕ)) → (every (all elementByte) es ≡ true → all dottedByte s ≡ true) → every (all elementByte) (grown b es) ≡ true → all dottedByte (b ∷ s) ≡ true
     one [] i k = let t = both (elementByte b) true (both (all elementByte (b ∷ [])) true k .0) in rw (name-of b (t .0)) (i refl)
     one (e ∷ es) i k =
         let u = both (all elementByte (b ∷ e)) (every (all elementByte) es) k in
         let t = both (elementByte b) (all elementByte e) (u .0) in
         rw (name-of b (t .0)) (i (rw (t .1) (u .1)))
 
-pub interface-bytes : (s : List ℕ) → interfaceName s ≡ true → all nameByte s ≡ true
+pub interface-bytes : (s : List ℕ) → interfaceName s ≡ true → all dottedByte s ≡ true
 unfolding interfaceName
 interface-bytes s e =
     let t = and-both (every element (elements s) && leb 2 (length (elements s))) (leb (length s) 255) e in
@@ -156,8 +156,8 @@ unfolding signature
 signature-bytes s e = accepts-bytes s [] (and-both (accepts s (State.good [])) (leb (length s) 255) e .0)
 
 -- a class that has every byte of names has every byte of a name, and so for signatures
-pub name-all : (p : ℕ → Bool) → covers 128 nameByte p ≡ true → (s : List ℕ) → all nameByte s ≡ true → all p s ≡ true
-name-all p = all-covers nameByte p (not-large nameByte name-large)
+pub name-all : (p : ℕ → Bool) → covers 128 dottedByte p ≡ true → (s : List ℕ) → all dottedByte s ≡ true → all p s ≡ true
+name-all p = all-covers dottedByte p (not-large dottedByte name-large)
 
 pub signature-all : (p : ℕ → Bool) → covers 128 signatureByte p ≡ true → (s : List ℕ) → all signatureByte s ≡ true → all p s ≡ true
 signature-all p = all-covers signatureByte p (not-large signatureByte code-large)

@@ -8,8 +8,8 @@ use Rattle.names.specs.Names.{elementByte}
 use Rattle.names.specs.Signature.{basicCode}
 
 -- a byte of an element, or a dot
-abbrev pub nameByte : ℕ → Bool
-nameByte b = elementByte b || eqb b 46
+abbrev pub dottedByte : ℕ → Bool
+dottedByte b = elementByte b || eqb b 46
 
 -- a code of a basic type, v a ( ) { }
 abbrev pub signatureByte : ℕ → Bool

@@ -8,7 +8,7 @@ ghost use Rattle.names.specs.Signature.{basicSignature, signature};
 ghost use Rattle.document.specs.Elements.{accessOf, directionOf, someSignature};
 ghost use Rattle.rows.specs.Outcome.{Lies, Raw, Places, placed, RowFits, RowPut, WarningFits, WarningPut, Changed, Tests};
 
-mod texts;
+pub mod texts;
 
 use document::Fill;
 use document::Value;

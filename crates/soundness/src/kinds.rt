@@ -1,6 +1,6 @@
 // Kinds of rows: what may stand in what, and which words a kind uses.
 ghost use mathlib.Core.Path.{_≡_};
-ghost use Rattle.document.specs.Elements.{mayHold, someSignature};
+ghost use Rattle.document.specs.Elements.{mayHold};
 ghost use Rattle.items.specs.Sound.{validName, validValue, validWord};
 ghost use Rattle.soundness.specs.Outcome.{mayLackName, usesValue, usesTp};
 
@@ -117,16 +117,6 @@ pub fn valid_name(kind: u32, s: &[u8]) -> bool
     }
 }
 
-// A signature that is not empty.
-fn some_signature(s: &[u8]) -> bool
-    ensures { λ r. ⌜ r ≡ someSignature (now (s .entry)) ⌝ }
-{
-    if s.len() == 0 {
-        return false;
-    }
-    names::signature(s)
-}
-
 // Whether a text is a value or a signature that a kind may have.
 pub fn valid_value(kind: u32, s: &[u8]) -> bool
     ensures { λ r. ⌜ r ≡ validValue kind (now (s .entry)) ⌝ }
@@ -134,9 +124,9 @@ pub fn valid_value(kind: u32, s: &[u8]) -> bool
     match kind {
         4 => names::signature(s),
         7 => names::signature(s),
-        8 => some_signature(s),
-        9 => some_signature(s),
-        12 => some_signature(s),
+        8 => rows::texts::some_signature(s),
+        9 => rows::texts::some_signature(s),
+        12 => rows::texts::some_signature(s),
         _ => true,
     }
 }

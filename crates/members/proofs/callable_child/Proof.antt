@@ -9,6 +9,7 @@ callable-child-spec =
     tie.close
     (tie.spec
     (λ c. search children)
+    (λ c κs. search children)
     (λ c. search children)
     (λ c. search children)
     (λ c. search children)
@@ -20,7 +21,12 @@ callable-child-spec =
     (λ c. search children)
     (λ c. search children)
     (λ c. search children)
+    (λ c κs. search children)
     (λ c. search children)
+    (λ c. search children)
+    (λ c. search children)
+    (λ c. search children)
+    (λ c κs. search children)
     (λ c. search children)
     (λ c. search children)
     (λ c. search children))

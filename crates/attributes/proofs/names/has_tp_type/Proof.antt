@@ -9,11 +9,12 @@ has-tp-type-spec =
     tie.close
     (tie.spec
     (λ c. search keys)
+    (λ c. search keys)
+    (λ c. search keys)
+    (λ c. search keys)
+    (λ c. search keys)
+    (λ c. search keys)
     (λ c κs. search keys)
-    (λ c. search keys)
-    (λ c. search keys)
-    (λ c. search keys)
-    (λ c. search keys)
     (λ c. search keys)
     (λ c κs. search keys)
     (λ c. search keys))
