@@ -13,11 +13,11 @@ use lib.ListN.{length, drop, getD, drop-of-length-le}
 use lib.Seq.{drop-cons}
 use Rattle.slices.specs.Bytes.{if, other, span, past, empty}
 use Rattle.slices.specs.Run.{Run}
-use Rattle.slices.proofs.Runs.{Running, run-begins, run-more, run-stops, run-ends, past-at, other-true, other-false}
+use Rattle.slices.proofs.Runs.{Running, run-begins, run-more, run-stops, run-ends, other-true, other-false}
+use Rattle.slices.proofs.Ends.{run-span, run-rest, run-empty, run-some}
 use Rattle.scan.specs.Classes.{white, nameByte}
 use Rattle.scan.specs.Ignorable.{quote}
 use Rattle.references.specs.Unescape.{special}
-use Rattle.references.proofs.Pieces.{run-span}
 use Rattle.document.specs.Tags.{Found as Finding, attribute, equals, openQuote}
 use Rattle.attributes.specs.One.{part, kindFrom, Fit, Quotes, Named, Finds}
 use Rattle.attributes.specs.declared.Attribute.{Attribute}
@@ -90,24 +90,6 @@ module _ {q : ℕ} {doc : List ℕ} {from at kind : ℕ} (g : Quoting q doc from
 -- what answers every need of the loop over a value
 pub ruleset quotes = (quote-high, special-above, special-ampersand, special-tab, special-feed, special-below, quote-begins, quote-closes, quote-ends, quote-special, quote-plain, needs)
 
--- what follows a run that ends at a place
-run-past : {p : ℕ → Bool} {s : List ℕ} {from r : ℕ} → Run p s from r → past p (drop from s) ≡ drop r s
-run-past {p} {s} {from} {r} n = past-at p s from ∙ rw (← n .ends)
-
-pub empty-none : (s : List ℕ) → length s ≡ 0 → empty s ≡ true
-empty-none [] e = refl
-empty-none (b ∷ s) e = absurd (omega arith)
-
-pub empty-some : (s : List ℕ) → 0 < length s → empty s ≡ false
-empty-some [] h = absurd (omega arith)
-empty-some (b ∷ s) h = refl
-
-run-empty : {p : ℕ → Bool} {s : List ℕ} {from r : ℕ} → Run p s from r → r ≤ from → empty (span p (drop from s)) ≡ true
-run-empty {p} {s} {from} {r} n h = empty-none (span p (drop from s)) (omega (arith, n .ends))
-
-run-some : {p : ℕ → Bool} {s : List ℕ} {from r : ℕ} → Run p s from r → from < r → empty (span p (drop from s)) ≡ false
-run-some {p} {s} {from} {r} n h = empty-some (span p (drop from s)) (omega (arith, n .ends))
-
 -- what fits between two places fits between two that are further apart
 pub fit-wide : {doc : List ℕ} {from from′ to to′ : ℕ} {a : Attribute} → from′ ≤ from → to ≤ to′ → Fit doc from to a → Fit doc from′ to′ a
 fit-wide h l f = record {
@@ -143,7 +125,7 @@ module _ {doc : List ℕ} {name n at : ℕ} (g : Named doc name n at) where
 
     module _ (f : t ≡ true) {v : Inside} (c : Quotes (getD doc at 0) doc (at + 1) v) where
       to-close : past (other (getD doc at 0)) (drop (suc at) doc) ≡ drop (v .end) doc
-      to-close = rw add-one at (run-past (c .run))
+      to-close = rw add-one at (run-rest (c .run))
 
       pub value-unclosed : length doc ≤ v .end → Finds (openQuote name (part doc name n)) doc at Absent
       value-unclosed l = record {
@@ -182,7 +164,7 @@ module _ {doc : List ℕ} {name n at : ℕ} (g : Named doc name n at) where
   pub equals-found : {q : ℕ} {r : One} → at < length doc → getD doc at 0 ≡ 61 → Run white doc (at + 1) q → Finds (openQuote name (part doc name n)) doc q r → Finds (equals name (part doc name n)) doc at r
   equals-found {q} {r} h e w c =
       let p : suc at + length (span white (drop (suc at) doc)) ≡ q = sym (rw add-one at (w .ends)) in
-      let m : past white (drop (suc at) doc) ≡ drop q doc = rw add-one at (run-past w) in
+      let m : past white (drop (suc at) doc) ≡ drop q doc = rw add-one at (run-rest w) in
       carries r (omega (arith, w .onward)) (rw (drop-cons doc at 0 h, e, m, p)) c
 
   pub named-on : {q : ℕ} → at < length doc → Run white doc (at + 1) q → Named doc name n q
@@ -197,14 +179,14 @@ module _ {doc : List ℕ} {from name : ℕ} (w : Run white doc from name) where
   module _ (h : from < name) {end : ℕ} (n : Run nameByte doc name end) where
     pub none-named : end ≤ name → Finds attribute doc from Absent
     unfolding attribute
-    none-named l = record { onward = tt; is = rw (run-some w h, run-past w, run-empty n l) }
+    none-named l = record { onward = tt; is = rw (run-some w h, run-rest w, run-empty n l) }
 
     module _ (l : name < end) {at : ℕ} (v : Run white doc end at) where
       pub attribute-found : {r : One} → Finds (equals name (part doc name (end - name))) doc at r → Finds attribute doc from r
       unfolding attribute
       attribute-found {r} c =
           carries r (omega (arith, w .onward, n .onward, v .onward))
-          (rw (run-some w h, run-past w, ← w .ends, run-some n l, run-past n, run-past v, ← n .ends, ← v .ends, run-span n))
+          (rw (run-some w h, run-rest w, ← w .ends, run-some n l, run-rest n, run-rest v, ← n .ends, ← v .ends, run-span n))
           c
 
 pub named-before : {doc : List ℕ} {from name end at : ℕ} → length doc ≤ 1048576 → Run white doc from name → Run nameByte doc name end → Run white doc end at → Named doc name (end - name) at

@@ -5,7 +5,7 @@ use mathlib.Core.Path.{_≡_, refl, sym, _∙_}
 use mathlib.Core.List.{List, [], _∷_}
 use mathlib.Core.Bool.{Bool, true, false, not, _&&_}
 use borrow.Author.Needs.{needs}
-use borrow.Author.Tests.{le-leb, lt-leb, eqb-true, eqb-false, eq-eqb, ne-eqb}
+use borrow.Author.Tests.{le-leb, lt-leb, eqb-true, eqb-false, eq-eqb, ne-eqb, not-true, not-false}
 use native.Mathlib.Decide.{decLe}
 use native.Mathlib.Omega.{arith}
 use native.Mathlib.Nat.{zero-add}
@@ -14,10 +14,10 @@ use lib.ListN.{length, take, drop, length-drop}
 use lib.Seq.{take-all, length-take-le}
 use Rattle.slices.specs.Bytes.{bytes, other, span, past, empty, same}
 use Rattle.slices.specs.Run.{Run}
+use Rattle.slices.proofs.Ends.{empty-some}
 use Rattle.slices.proofs.Runs.{past-drop, same-short}
 use Rattle.document.specs.Tags.{isTpType}
 use Rattle.attributes.specs.Lookup.{partIs, keyedAt, wanted}
-use Rattle.attributes.proofs.Found.{empty-none, empty-some}
 
 -- a part that runs past the document is of no kind
 pub part-past : (p : List ℕ → Bool) (doc : List ℕ) (at n : ℕ) → length doc < at + n → false ≡ partIs p doc at n
@@ -30,14 +30,6 @@ unfolding partIs
 part-within p doc at n r h e =
     let m : (at + n) - at ≡ n = omega arith in
     (rw m at e) ∙ rw (le-leb (at + n) (length doc) h)
-
-flag-none : (u : Bool) → not u ≡ true → u ≡ false
-flag-none false e = refl
-flag-none true e = sym e
-
-flag-some : (u : Bool) → not u ≡ false → u ≡ true
-flag-some true e = refl
-flag-some false e = sym e
 
 and-false : (t : Bool) → false ≡ (t && false)
 and-false true = refl
@@ -97,7 +89,7 @@ module _ (name : List ℕ) where
         go false o = tp-elsewhere (λ q. eqb-false (length (span (other 58) name)) (length name - 5) o (omega arith))
         go true o =
             let n = eqb-true (length (span (other 58) name)) (length name - 5) o in
-            rw (sym (here n) ∙ flag-none u f) (and-false (not (empty (span (other 58) name))))
+            rw (sym (here n) ∙ not-true u f) (and-false (not (empty (span (other 58) name))))
 
     pub tp-last : {colon : ℕ} → Run (other 58) name 0 colon → not u ≡ false → eqb colon (length name - 5) ≡ isTpType name
     tp-last {colon} r f = go (eqb (length (span (other 58) name)) (length name - 5)) refl
@@ -109,7 +101,7 @@ module _ (name : List ℕ) where
         go false o = ne-eqb colon (length name - 5) (λ q. eqb-false (length (span (other 58) name)) (length name - 5) o (long ∙ q)) ∙ tp-elsewhere (λ q. eqb-false (length (span (other 58) name)) (length name - 5) o (omega arith))
         go true o =
             let n = eqb-true (length (span (other 58) name)) (length name - 5) o in
-            eq-eqb colon (length name - 5) (sym long ∙ n) ∙ rw (empty-some (span (other 58) name) (rw n (omega arith)), sym (here n) ∙ flag-some u f)
+            eq-eqb colon (length name - 5) (sym long ∙ n) ∙ rw (empty-some (span (other 58) name) (rw n (omega arith)), sym (here n) ∙ not-false u f)
 
 -- one or the other
 module _ (doc keys : List ℕ) (at n key len : ℕ) (tp r : Bool) where

@@ -1,6 +1,5 @@
 // The attributes of a tag, gathered and lent as a slice: the first equal name, the values, and the check one by one.
 ghost use Prim.Native.Nat.{suc, _≤_, _<_};
-ghost use mathlib.Core.Path.{_≡_};
 ghost use lib.ListN.{length};
 ghost use Rattle.attributes.specs.Lookup.{wanted, KeyTable, Picks, PicksAll};
 ghost use Rattle.attributes.specs.One.{Fit};

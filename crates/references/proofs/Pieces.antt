@@ -12,30 +12,13 @@ use lib.ListN.{length, drop, take, getD, length-drop, drop-of-length-le}
 use lib.Seq.{drop-cons, length-take-le}
 use Rattle.slices.specs.Bytes.{if, other, span, past, empty}
 use Rattle.slices.specs.Run.{Run}
-use Rattle.slices.proofs.Runs.{past-at}
+use Rattle.slices.proofs.Ends.{run-span, run-rest}
 use Rattle.references.specs.Unescape.{reference, referred, piece}
 use Rattle.references.specs.Outcome.{referenceOf, Pieces}
 use Rattle.references.specs.declared.Reference.{Reference}
 use Rattle.references.specs.declared.Reference.the-variants.{Character, Bad}
 use Rattle.references.specs.declared.Piece.the-variants.{Byte, Char, Wrong}
 use Rattle.references.proofs.Entities.{good}
-
--- a run, by its two ends
-span-take : (p : ℕ → Bool) (l : List ℕ) → span p l ≡ take (length (span p l)) l
-span-take p [] = refl
-span-take p (b ∷ l) = go (p b) (span-take p l)
-  where
-    go : (t : Bool) → span p l ≡ take (length (span p l)) l → if t (b ∷ span p l) [] ≡ take (length (if t (b ∷ span p l) [])) (b ∷ l)
-    go true e = ap (_∷_ b) e
-    go false e = refl
-
-pub run-span : {p : ℕ → Bool} {s : List ℕ} {from r : ℕ} → Run p s from r → span p (drop from s) ≡ take (r - from) (drop from s)
-run-span {p} {s} {from} {r} n =
-    let e : r - from ≡ length (span p (drop from s)) = omega (arith, n .ends) in
-    rw e (span-take p (drop from s))
-
-run-after : {p : ℕ → Bool} {s : List ℕ} {from r : ℕ} → Run p s from r → past p (drop from s) ≡ drop r s
-run-after {p} {s} {from} n = past-at p s from ∙ rw (← n .ends)
 
 some : (v : List ℕ) (end : ℕ) → end < length v → empty (drop end v) ≡ false
 some v end h = rw (drop-cons v end 0 h)
@@ -51,11 +34,11 @@ module _ (v : List ℕ) (at : ℕ) where
     unfolding piece
     to-end h =
         let k : length (take (end - (at + 1)) (drop (at + 1) v)) ≡ end - (at + 1) = length-take-le (end - (at + 1)) (drop (at + 1) v) (rw length-drop (omega (arith, n .within))) in
-        rw (b, ← add-one at, run-after n, h, run-span n, k)
+        rw (b, ← add-one at, run-rest n, h, run-span n, k)
 
     pub piece-unclosed : length v ≤ end → Pieces v at (Wrong 9)
     unfolding piece
-    piece-unclosed h = record { is = rw (b, ← add-one at, run-after n, drop-of-length-le v h) }
+    piece-unclosed h = record { is = rw (b, ← add-one at, run-rest n, drop-of-length-le v h) }
 
     module _ (h : end < length v) {r : Reference} (e : referenceOf r ≡ reference (take (end - (at + 1)) (drop (at + 1) v))) where
       pub piece-bad : {m : ℕ} → r ≡ Bad m → Pieces v at (Wrong m)

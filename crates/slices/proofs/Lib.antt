@@ -1,4 +1,5 @@
 -- The laws on lists of bytes.
 -- Assumes nothing.
 pub mod Runs
+pub mod Ends
 pub mod Skips

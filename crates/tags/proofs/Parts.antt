@@ -1,4 +1,4 @@
--- Runs by their two places, closing tags, and the end of a start tag.
+-- Closing tags, and the end of a start tag.
 -- Assumes nothing.
 use Prim.Native.Nat.{ℕ, suc, _+_, _-_, _≤_, _<_}
 use mathlib.Core.Path.{_≡_, refl, ap, _∙_}
@@ -12,7 +12,7 @@ use lib.ListN.{length, take, drop, getD, drop-of-length-le}
 use lib.Seq.{drop-cons}
 use Rattle.slices.specs.Bytes.{if, span, past, empty}
 use Rattle.slices.specs.Run.{Run}
-use Rattle.slices.proofs.Runs.{past-at}
+use Rattle.slices.proofs.Ends.{run-length, run-span, run-rest, run-empty, run-some}
 use Rattle.scan.specs.Classes.{white, nameByte}
 use Rattle.document.specs.Tags.{Shown}
 use Rattle.document.specs.Tokens.{tagEnd, slashEnd, closeEnd, closing}
@@ -20,51 +20,18 @@ use Rattle.document.specs.declared.Token.{Token}
 use Rattle.tags.specs.declared.TagEnd.{TagEnd}
 use Rattle.tags.specs.Outcome.{TagStart, TagAt, Ends}
 
--- the list of a run is what stands between its places
-span-take : (p : ℕ → Bool) (l : List ℕ) → span p l ≡ take (length (span p l)) l
-span-take p [] = refl
-span-take p (b ∷ l) = go (p b) (span-take p l)
-  where
-    go : (t : Bool) → span p l ≡ take (length (span p l)) l → if t (b ∷ span p l) [] ≡ take (length (if t (b ∷ span p l) [])) (b ∷ l)
-    go true e = ap (_∷_ b) e
-    go false e = refl
-
-empty-none : (l : List ℕ) → length l ≡ 0 → empty l ≡ true
-empty-none [] e = refl
-empty-none (b ∷ l) e = absurd (omega arith)
-
-empty-some : (l : List ℕ) → 0 < length l → empty l ≡ false
-empty-some [] e = absurd (omega arith)
-empty-some (b ∷ l) e = refl
-
-module _ {p : ℕ → Bool} {doc : List ℕ} {from to : ℕ} (n : Run p doc from to) where
-  pub run-length : length (span p (drop from doc)) ≡ to - from
-  run-length = omega (arith, n .ends)
-
-  pub run-list : span p (drop from doc) ≡ take (to - from) (drop from doc)
-  run-list = rw (← run-length) (span-take p (drop from doc))
-
-  pub run-rest : past p (drop from doc) ≡ drop to doc
-  run-rest = past-at p doc from ∙ rw (← n .ends)
-
-  pub run-empty : to ≡ from → empty (span p (drop from doc)) ≡ true
-  run-empty e = empty-none (span p (drop from doc)) (omega (arith, run-length))
-
-  pub run-some : (to ≡ from → ⊥) → empty (span p (drop from doc)) ≡ false
-  run-some h = empty-some (span p (drop from doc)) (omega (arith, run-length, n .onward))
-
 -- closing tags
 module _ {doc : List ℕ} {lt m : ℕ} (s : TagStart doc lt) (n : Run nameByte doc (lt + 2) m) where
   pub close-nameless : m ≡ lt + 2 → TagAt doc lt (closing (drop (lt + 2) doc) lt) (Token.Fault 4 (lt + 1))
   unfolding closing
-  close-nameless e = record { onward = tt; is = rw (run-empty n e, add-one) }
+  close-nameless e = record { onward = tt; is = rw (run-empty n (omega arith), add-one) }
 
   module _ (h : m ≡ lt + 2 → ⊥) {e : ℕ} (w : Run white doc m e) where
     close-named : closing (drop (lt + 2) doc) lt ≡ closeEnd lt (take (m - (lt + 2)) (drop (lt + 2) doc)) (drop e doc) e
     unfolding closing
     close-named =
         let q : suc (suc lt) + length (span nameByte (drop (lt + 2) doc)) ≡ m = omega (arith, run-length n, n .onward) in
-        rw (run-some n h, run-rest n, run-rest w, q, ← w .ends, run-list n)
+        rw (run-some n (omega (arith, n .onward)), run-rest n, run-rest w, q, ← w .ends, run-span n)
 
     pub close-unended : length doc ≤ e → TagAt doc lt (closing (drop (lt + 2) doc) lt) (Token.Fault 4 (lt + 1))
     close-unended l = record { onward = tt; is = close-named ∙ rw (drop-of-length-le doc l, add-one) }

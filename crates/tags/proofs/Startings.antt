@@ -10,6 +10,7 @@ use native.Mathlib.Omega.{arith}
 use lib.ListN.{length, take, drop, length-take, length-drop}
 use Rattle.slices.specs.Bytes.{span}
 use Rattle.slices.specs.Run.{Run}
+use Rattle.slices.proofs.Ends.{run-length, run-span, run-rest, run-empty, run-some}
 use Rattle.scan.specs.Classes.{nameByte}
 use Rattle.document.specs.Tags.{gather}
 use Rattle.document.specs.Tokens.{withAttrs, opening}
@@ -22,7 +23,6 @@ use Rattle.attributes.specs.declared.Attrs.{Attrs}
 use Rattle.attributes.specs.Outcome.{Gathers}
 use Rattle.tags.specs.declared.TagEnd.{TagEnd}
 use Rattle.tags.specs.Outcome.{TagAt, Ends}
-use Rattle.tags.proofs.Parts.{run-length, run-list, run-rest, run-empty, run-some}
 
 -- what fits between two places fits between places further apart
 value-fits : {from to from′ to′ : ℕ} {v : Value} → from′ ≤ from → to ≤ to′ → ValueFits from to v → ValueFits from′ to′ v
@@ -46,14 +46,14 @@ attributes-end {doc} {m} {r} {from} {v} g q = let d : Gathers doc m (Attrs.All f
 module _ {doc : List ℕ} (lt : ℕ) {m : ℕ} (n : Run nameByte doc (lt + 1) m) where
   pub start-nameless : m ≡ lt + 1 → TagAt doc lt (opening (drop (lt + 1) doc) lt) (Token.Fault 4 (lt + 1))
   unfolding opening
-  start-nameless e = record { onward = tt; is = rw (run-empty n e, add-one) }
+  start-nameless e = record { onward = tt; is = rw (run-empty n (omega arith), add-one) }
 
   module _ (h : m ≡ lt + 1 → ⊥) {r : Attrs} (g : Gathers doc m r) where
     start-named : opening (drop (lt + 1) doc) lt ≡ withAttrs lt (take (m - (lt + 1)) (drop (lt + 1) doc)) (gather 256 (drop m doc) m)
     unfolding opening
     start-named =
         let q : suc lt + length (span nameByte (drop (lt + 1) doc)) ≡ m = omega (arith, run-length n, n .onward) in
-        rw (run-some n h, run-rest n, q, run-list n)
+        rw (run-some n (omega (arith, n .onward)), run-rest n, q, run-span n)
 
     pub start-fault : {k p : ℕ} → r ≡ Attrs.Fault k p → TagAt doc lt (opening (drop (lt + 1) doc) lt) (Token.Fault k p)
     start-fault q = record { onward = tt; is = start-named ∙ (rw q at g) .is lt (take (m - (lt + 1)) (drop (lt + 1) doc)) }
