@@ -48,9 +48,9 @@ fn node_child(
 {
     let kind = c.kind;
     if kind == 2 {
-        return members::interface(doc, classes, rows, warnings, text, c, i + 1, f);
+        return interfaces::interface(doc, classes, rows, warnings, text, c, i + 1, f);
     }
-    if members::is_definition(kind) {
+    if interfaces::is_definition(kind) {
         return telepathy::definition(doc, classes, rows, warnings, text, c, i + 1, f);
     }
     skip::docstring_or_skip(doc, classes, rows, warnings, c, i, f)

@@ -1,4 +1,4 @@
--- `members::interface_children` meets its contract: the run has come from the start to the present place. The measure is what is left of the document.
+-- `interfaces::interface_children` meets its contract: the run has come from the start to the present place. The measure is what is left of the document.
 -- Assumes nothing.
 use Prim.Native.Nat.{_-_}
 use mathlib.Core.Path.{_≡_}
@@ -7,8 +7,8 @@ use mathlib.Core.Bool.{true}
 use lib.ListN.{length}
 use Rattle.document.specs.Outcome.{lent}
 use Rattle.document.proofs.Loops.{Sofar, loops}
-use Rattle.members.proofs.interface_children.Statement.{statement}
-use Rattle.members.proofs.interface_children.Tie as tie
+use Rattle.interfaces.proofs.interface_children.Statement.{statement}
+use Rattle.interfaces.proofs.interface_children.Tie as tie
 
 abbrev Inv-loop : tie.InvT-loop
 Inv-loop doc classes rows₀ warnings₀ text₀ at len i g₀ rows warnings text g = Sofar doc (3 ∷ 4 ∷ 5 ∷ 6 ∷ 8 ∷ 9 ∷ 11 ∷ 13 ∷ []) true at len i g₀ (lent rows₀ warnings₀ text₀) g (lent rows warnings text) × (length rows ≡ length rows₀) × (length warnings ≡ length warnings₀) × (length text ≡ length text₀)
