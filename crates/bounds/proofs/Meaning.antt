@@ -23,7 +23,7 @@ final-told : (len : ℕ) (s : State Shown) → Final len s → Told 17 len s
 final-told len begun h = h
 final-told len (reading fs u) h = h
 final-told len (accepted u) h = h
-final-told len (refused n p) h = record {
+final-told len (refused x) h = record {
   number = (omega (arith, h .some), h .number);
   place = h .place;
   long = λ e. absurd (omega (arith, h .some));
@@ -57,7 +57,7 @@ module _ (len : ℕ) (r : Room) where
       either (Told 18 len) (ltb (r .rows / 16) (length (u .rows)) || ltb (r .warnings / 4) (length (u .warnings)) || ltb (r .text) (length (texts (u .rows))))
       (λ t. record { number = (omega arith, omega arith); place = omega arith; long = λ e. absurd (omega arith); short = λ e. refl })
       (λ t. h)
-  fitted-told (refused n p) h = record { number = (h .number .0, omega (arith, h .number .1)); place = h .place; long = h .long; short = h .short }
+  fitted-told (refused x) h = record { number = (h .number .0, omega (arith, h .number .1)); place = h .place; long = h .long; short = h .short }
 
   pub fitted-enough : (s : State Shown) → Told 17 len s → 4 * len ≤ r .rows → len ≤ r .warnings → len ≤ r .text → fitted len r s ≡ s
   fitted-enough begun h a b c = refl
@@ -68,4 +68,4 @@ module _ (len : ℕ) (r : Room) where
         le-ltb (r .warnings / 4) (length (u .warnings)) (omega (arith, h .few)),
         le-ltb (r .text) (length (texts (u .rows))) (omega (arith, h .text)),
       )
-  fitted-enough (refused n p) h a b c = refl
+  fitted-enough (refused x) h a b c = refl

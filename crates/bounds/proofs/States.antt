@@ -42,14 +42,14 @@ abbrev pub Kept : ℕ → ℕ → State Shown → Type 0
 Kept top at begun = Unit {0}
 Kept top at (reading fs u) = Holds at fs u
 Kept top at (accepted u) = Fits top u
-Kept top at (refused n p) = Met top n p
+Kept top at (refused x) = Met top (x .number) (x .place)
 
 -- a document has been read to its end
 abbrev pub Final : ℕ → State Shown → Type 0
 Final top begun = ⊥
 Final top (reading fs u) = ⊥
 Final top (accepted u) = Fits top u
-Final top (refused n p) = Met top n p
+Final top (refused x) = Met top (x .number) (x .place)
 
 -- ---- frames
 
@@ -169,7 +169,7 @@ module _ (doc : List ℕ) (top : ℕ) where
       where
         go : (o : Opened Shown) → Opens t g o → Kept top q (opened whole doc k t o fs u)
         go (opens r) b = entered-kept k r fs u b h
-        go (refuses n p) b = b
+        go (refuses x) b = b
 
     unsupported-kept : (fs : List Frame) (u : Tables Shown) → Holds at fs u → Kept top q (unsupported whole doc t fs u)
     unfolding unsupported
@@ -233,7 +233,7 @@ module _ (doc : List ℕ) (top : ℕ) where
     step-kept (reading [] u) t l h g = record { few = omega (arith, h .few); text = omega (arith, h .text) }
     step-kept (reading (f ∷ fs) u) t l h g = step-turn f fs u t h g
     step-kept (accepted u) t l h g = h
-    step-kept (refused n p) t l h g = h
+    step-kept (refused x) t l h g = h
 
   -- ---- the last token
 
@@ -249,4 +249,4 @@ module _ (doc : List ℕ) (top : ℕ) where
   step-final at (reading (f ∷ fs) u) (fault n p) l h g = g
   step-final at (reading (f ∷ fs) u) (end p) l h g = record { some = omega arith; number = omega arith; place = omega arith }
   step-final at (accepted u) t l h g = h
-  step-final at (refused n p) t l h g = h
+  step-final at (refused x) t l h g = h

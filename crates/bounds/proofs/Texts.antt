@@ -77,7 +77,7 @@ module _ (j k : List ℕ) (a : same j k ≡ false) (b : isTpType j ≡ false) (c
 module _ {from top : ℕ} (t : Tag) {q : ℕ} (g : Starts from top t q) where
   abbrev pub Opens : Opened Shown → Type 0
   Opens (opens r) = t .at + length (rowText r) < q
-  Opens (refuses n p) = Met top n p
+  Opens (refuses x) = Met top (x .number) (x .place)
 
   row-opens : (k p : ℕ) (n v tp : Option Shown) (w : ℕ) → size n + size v + size tp ≤ textTotal (t .attrs) → Opens (opens (row whole k p n v tp w))
   row-opens k p n v tp w h = omega (arith, row-size k p n v tp w, g .text)

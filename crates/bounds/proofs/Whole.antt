@@ -9,6 +9,7 @@ use Rattle.document.specs.Tags.{Shown}
 use Rattle.document.specs.Rows.{Tables}
 use Rattle.document.specs.Reading.{accepted, refused}
 use Rattle.document.specs.Whole.{Room, meaning, read}
+use Rattle.document.specs.declared.Refusal as told
 use Rattle.bounds.specs.Bounds.{Fits, Refusal, Told}
 use Rattle.bounds.proofs.Meaning.{meaning-is, fitted-told, fitted-enough}
 
@@ -19,7 +20,7 @@ module _ (doc : List ℕ) where
   pub room : {u : Tables Shown} → meaning doc ≡ accepted u → Fits (length doc) u
   room e = rw e at meaning-told
 
-  pub refusal : {n p : ℕ} → meaning doc ≡ refused n p → Refusal 17 (length doc) n p
+  pub refusal : {x : told.Refusal} → meaning doc ≡ refused x → Refusal 17 (length doc) (x .number) (x .place)
   refusal e = rw e at meaning-told
 
   module _ (r : Room) where
@@ -30,7 +31,7 @@ module _ (doc : List ℕ) where
     pub read-room : {u : Tables Shown} → read doc r ≡ accepted u → Fits (length doc) u
     read-room e = rw e at read-told
 
-    pub read-refusal : {n p : ℕ} → read doc r ≡ refused n p → Refusal 18 (length doc) n p
+    pub read-refusal : {x : told.Refusal} → read doc r ≡ refused x → Refusal 18 (length doc) (x .number) (x .place)
     read-refusal e = rw e at read-told
 
     pub room-enough : 4 * length doc ≤ r .rows → length doc ≤ r .warnings → length doc ≤ r .text → read doc r ≡ meaning doc

@@ -24,4 +24,4 @@ abbrev pub Told : ℕ → ℕ → State Shown → Type 0
 Told most len begun = ⊥
 Told most len (reading fs u) = ⊥
 Told most len (accepted u) = Fits len u
-Told most len (refused n p) = Refusal most len n p
+Told most len (refused x) = Refusal most len (x .number) (x .place)

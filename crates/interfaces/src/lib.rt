@@ -54,8 +54,8 @@ fn interface_child(
     if kind == 4 {
         // by its parts: a copy of the whole answer is a delay for each
         match property(doc, classes, rows, warnings, text, c, i + 1, f) {
-            Answer::Fault(number, place) => {
-                return Answer::Fault(number, place);
+            Answer::Fault(refusal) => {
+                return Answer::Fault(refusal);
             }
             Answer::Done(g) => {
                 return Answer::Done(g);
@@ -92,8 +92,8 @@ fn interface_children(
     let mut g = f;
     loop {
         match step(doc, classes, g.at, at, len) {
-            Next::Fault(number, place) => {
-                return Answer::Fault(number, place);
+            Next::Fault(refusal) => {
+                return Answer::Fault(refusal);
             }
             Next::Close(_, end) => {
                 return Answer::Done(Fill {
@@ -111,8 +111,8 @@ fn interface_children(
                     text: g.text,
                 };
                 match interface_child(doc, classes, rows, warnings, text, c, i, h) {
-                    Answer::Fault(number, place) => {
-                        return Answer::Fault(number, place);
+                    Answer::Fault(refusal) => {
+                        return Answer::Fault(refusal);
                     }
                     Answer::Done(k) => {
                         g = k;
@@ -138,7 +138,7 @@ pub fn interface(
     ensures { λ r. ⌜ Begins (now (doc .entry)) 2 c parent f (lent (now (rows .entry)) (now (warnings .entry)) (now (text .entry))) (lent (now (rows .exit)) (now (warnings .exit)) (now (text .exit))) r ⌝ }
 {
     match elements::interface_row(doc, rows, text, c, parent, f) {
-        Answer::Fault(number, place) => Answer::Fault(number, place),
+        Answer::Fault(refusal) => Answer::Fault(refusal),
         Answer::Done(g) => {
             if c.closes {
                 return Answer::Done(g);

@@ -32,8 +32,8 @@ fn bare(
     let mut g = f;
     loop {
         match step(doc, classes, g.at, at, len) {
-            Next::Fault(number, place) => {
-                return Answer::Fault(number, place);
+            Next::Fault(refusal) => {
+                return Answer::Fault(refusal);
             }
             Next::Close(_, end) => {
                 return Answer::Done(Fill {
@@ -51,8 +51,8 @@ fn bare(
                     text: g.text,
                 };
                 match unsupported(doc, classes, warnings, c, h) {
-                    Answer::Fault(number, place) => {
-                        return Answer::Fault(number, place);
+                    Answer::Fault(refusal) => {
+                        return Answer::Fault(refusal);
                     }
                     Answer::Done(k) => {
                         g = k;
@@ -78,7 +78,7 @@ pub fn annotation(
     ensures { λ r. ⌜ Begins (now (doc .entry)) 6 c parent f (lent (now (rows .entry)) (now (warnings .entry)) (now (text .entry))) (lent (now (rows .exit)) (now (warnings .exit)) (now (text .exit))) r ⌝ }
 {
     match elements::annotation_row(doc, rows, text, c, parent, f) {
-        Answer::Fault(number, place) => Answer::Fault(number, place),
+        Answer::Fault(refusal) => Answer::Fault(refusal),
         Answer::Done(g) => {
             if c.closes {
                 return Answer::Done(g);
@@ -126,8 +126,8 @@ fn annotated(
     let mut g = f;
     loop {
         match step(doc, classes, g.at, at, len) {
-            Next::Fault(number, place) => {
-                return Answer::Fault(number, place);
+            Next::Fault(refusal) => {
+                return Answer::Fault(refusal);
             }
             Next::Close(_, end) => {
                 return Answer::Done(Fill {
@@ -145,8 +145,8 @@ fn annotated(
                     text: g.text,
                 };
                 match annotated_child(doc, classes, rows, warnings, text, c, i, h) {
-                    Answer::Fault(number, place) => {
-                        return Answer::Fault(number, place);
+                    Answer::Fault(refusal) => {
+                        return Answer::Fault(refusal);
                     }
                     Answer::Done(k) => {
                         g = k;
@@ -172,7 +172,7 @@ pub fn arg(
     ensures { λ r. ⌜ Begins (now (doc .entry)) 7 c parent f (lent (now (rows .entry)) (now (warnings .entry)) (now (text .entry))) (lent (now (rows .exit)) (now (warnings .exit)) (now (text .exit))) r ⌝ }
 {
     match elements::arg_row(doc, rows, text, c, parent, f) {
-        Answer::Fault(number, place) => Answer::Fault(number, place),
+        Answer::Fault(refusal) => Answer::Fault(refusal),
         Answer::Done(g) => {
             if c.closes {
                 return Answer::Done(g);
@@ -197,7 +197,7 @@ pub fn property(
     ensures { λ r. ⌜ Begins (now (doc .entry)) 4 c parent f (lent (now (rows .entry)) (now (warnings .entry)) (now (text .entry))) (lent (now (rows .exit)) (now (warnings .exit)) (now (text .exit))) r ⌝ }
 {
     match elements::property_row(doc, rows, text, c, parent, f) {
-        Answer::Fault(number, place) => Answer::Fault(number, place),
+        Answer::Fault(refusal) => Answer::Fault(refusal),
         Answer::Done(g) => {
             if c.closes {
                 return Answer::Done(g);
@@ -225,8 +225,8 @@ fn callable_child(
     if kind == 7 {
         // by its parts: a copy of the whole answer is a delay for each
         match arg(doc, classes, rows, warnings, text, c, i + 1, f) {
-            Answer::Fault(number, place) => {
-                return Answer::Fault(number, place);
+            Answer::Fault(refusal) => {
+                return Answer::Fault(refusal);
             }
             Answer::Done(g) => {
                 return Answer::Done(g);
@@ -257,8 +257,8 @@ fn callable(
     let mut g = f;
     loop {
         match step(doc, classes, g.at, at, len) {
-            Next::Fault(number, place) => {
-                return Answer::Fault(number, place);
+            Next::Fault(refusal) => {
+                return Answer::Fault(refusal);
             }
             Next::Close(_, end) => {
                 return Answer::Done(Fill {
@@ -276,8 +276,8 @@ fn callable(
                     text: g.text,
                 };
                 match callable_child(doc, classes, rows, warnings, text, c, i, h) {
-                    Answer::Fault(number, place) => {
-                        return Answer::Fault(number, place);
+                    Answer::Fault(refusal) => {
+                        return Answer::Fault(refusal);
                     }
                     Answer::Done(k) => {
                         g = k;
@@ -304,7 +304,7 @@ pub fn member(
     ensures { λ r. ⌜ Begins (now (doc .entry)) kind c parent f (lent (now (rows .entry)) (now (warnings .entry)) (now (text .entry))) (lent (now (rows .exit)) (now (warnings .exit)) (now (text .exit))) r ⌝ }
 {
     match elements::member_row(doc, rows, text, c, kind, parent, f) {
-        Answer::Fault(number, place) => Answer::Fault(number, place),
+        Answer::Fault(refusal) => Answer::Fault(refusal),
         Answer::Done(g) => {
             if c.closes {
                 return Answer::Done(g);
