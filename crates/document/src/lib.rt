@@ -1,9 +1,9 @@
 // The structs that the reader's functions share. What a document means is in specs/.
 
-// Why a document is refused: the number and the place.
+// Why a document is refused: the place, and the number.
 pub struct Refusal {
-    pub number: u32,
     pub place: usize,
+    pub number: u32,
 }
 
 // A refusal, or how many rows, text bytes and warnings were read.

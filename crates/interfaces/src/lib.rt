@@ -2,6 +2,7 @@
 use document::Answer;
 use document::Fill;
 use document::Next;
+use document::Refusal;
 use document::StartTag;
 use members::annotation;
 use members::member;
@@ -55,7 +56,10 @@ fn interface_child(
         // by its parts: a copy of the whole answer is a delay for each
         match property(doc, classes, rows, warnings, text, c, i + 1, f) {
             Answer::Fault(refusal) => {
-                return Answer::Fault(refusal);
+                return Answer::Fault(Refusal {
+                    place: refusal.place,
+                    number: refusal.number,
+                });
             }
             Answer::Done(g) => {
                 return Answer::Done(g);
@@ -112,7 +116,10 @@ fn interface_children(
                 };
                 match interface_child(doc, classes, rows, warnings, text, c, i, h) {
                     Answer::Fault(refusal) => {
-                        return Answer::Fault(refusal);
+                        return Answer::Fault(Refusal {
+                            place: refusal.place,
+                            number: refusal.number,
+                        });
                     }
                     Answer::Done(k) => {
                         g = k;

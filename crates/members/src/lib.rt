@@ -2,6 +2,7 @@
 use document::Answer;
 use document::Fill;
 use document::Next;
+use document::Refusal;
 use document::StartTag;
 use skip::docstring_or_skip;
 use skip::unsupported;
@@ -52,7 +53,10 @@ fn bare(
                 };
                 match unsupported(doc, classes, warnings, c, h) {
                     Answer::Fault(refusal) => {
-                        return Answer::Fault(refusal);
+                        return Answer::Fault(Refusal {
+                            place: refusal.place,
+                            number: refusal.number,
+                        });
                     }
                     Answer::Done(k) => {
                         g = k;
@@ -146,7 +150,10 @@ fn annotated(
                 };
                 match annotated_child(doc, classes, rows, warnings, text, c, i, h) {
                     Answer::Fault(refusal) => {
-                        return Answer::Fault(refusal);
+                        return Answer::Fault(Refusal {
+                            place: refusal.place,
+                            number: refusal.number,
+                        });
                     }
                     Answer::Done(k) => {
                         g = k;
@@ -226,7 +233,10 @@ fn callable_child(
         // by its parts: a copy of the whole answer is a delay for each
         match arg(doc, classes, rows, warnings, text, c, i + 1, f) {
             Answer::Fault(refusal) => {
-                return Answer::Fault(refusal);
+                return Answer::Fault(Refusal {
+                    place: refusal.place,
+                    number: refusal.number,
+                });
             }
             Answer::Done(g) => {
                 return Answer::Done(g);
@@ -277,7 +287,10 @@ fn callable(
                 };
                 match callable_child(doc, classes, rows, warnings, text, c, i, h) {
                     Answer::Fault(refusal) => {
-                        return Answer::Fault(refusal);
+                        return Answer::Fault(Refusal {
+                            place: refusal.place,
+                            number: refusal.number,
+                        });
                     }
                     Answer::Done(k) => {
                         g = k;
