@@ -10,3 +10,5 @@ pub mod Answers
 pub mod Shapes
 pub mod Formed
 pub mod RoundTrip
+pub mod Normal
+pub mod Joining

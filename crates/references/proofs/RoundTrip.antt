@@ -17,7 +17,7 @@ use Rattle.references.specs.Escape.{escaped, escape}
 use Rattle.references.specs.Unescape.{Text, text, reference, piece, shownFrom, unescape, plain}
 use Rattle.references.specs.Entries.{checked, escaping, unescaping}
 use Rattle.references.proofs.Numbers.{never}
-use Rattle.references.proofs.Escapes.{by-escape, escape-least}
+use Rattle.references.proofs.Escapes.{by-escape}
 use Rattle.references.proofs.Shapes.{plain-shows}
 use Rattle.references.proofs.Formed.{escape-formed}
 
@@ -102,15 +102,15 @@ escape-tagless = escape-without 60 refl refl
 
 -- ---- at the entries
 
-formed-checked : (v : List ℕ) (o : Text) → illFormed v ≡ length v → length v ≤ 1048576 → checked v o ≡ o
+pub formed-checked : (v : List ℕ) (o : Text) → illFormed v ≡ length v → length v ≤ 1048576 → checked v o ≡ o
 formed-checked v o f h = rw (le-ltb 1048576 (length v) h, f, le-ltb (length v) (length v) (omega arith))
 
-module _ (v : List ℕ) (f : illFormed v ≡ length v) (h : length (escape v) ≤ 1048576) where
-  pub escaping-done : (room : ℕ) → length (escape v) ≤ room → escaping v room ≡ text (escape v)
+module _ (v : List ℕ) (f : illFormed v ≡ length v) where
+  pub escaping-done : (room : ℕ) → length v ≤ 1048576 → length (escape v) ≤ room → escaping v room ≡ text (escape v)
   unfolding escaping
-  escaping-done room k = formed-checked v _ f (omega (arith, escape-least v)) ∙ rw (le-ltb room (length (escape v)) k)
+  escaping-done room h k = formed-checked v _ f h ∙ rw (le-ltb room (length (escape v)) k)
 
   -- what was escaped comes back
-  pub unescaping-done : (room : ℕ) → length v ≤ room → unescaping (escape v) room ≡ text v
+  pub unescaping-done : (room : ℕ) → length (escape v) ≤ 1048576 → length v ≤ room → unescaping (escape v) room ≡ text v
   unfolding unescaping
-  unescaping-done room k = formed-checked (escape v) _ (escape-formed v f) h ∙ rw (unescape-escape v, le-ltb room (length v) k)
+  unescaping-done room h k = formed-checked (escape v) _ (escape-formed v f) h ∙ rw (unescape-escape v, le-ltb room (length v) k)
