@@ -9,21 +9,25 @@ use native.Mathlib.Nat.{add-zero}
 use native.Mathlib.Numerals.{add-one}
 use native.Mathlib.Omega.{arith}
 use lib.Dec.{eqb, ltb}
-use lib.ListN.{length, length-append}
+use lib.ListN.{length, take, length-append}
 use Rattle.slices.specs.Bytes.{if}
 use Rattle.slices.proofs.Runs.{by-byte}
 use Rattle.utf8.specs.WellFormed.{illFormed}
 use Rattle.utf8.proofs.Sequences.{below}
 use Rattle.utf8.proofs.Texts.{bounded, whole, append-formed, after-whole}
-use Rattle.references.specs.Characters.{utf8}
-use Rattle.references.specs.Unescape.{Reference, character, fault, reference, Piece, shows, bad, referred, piece, Text, text, wrong, before, joined, shownFrom, unescape}
+use Rattle.utf8.specs.Encoding.{utf8}
+use Rattle.answers.specs.Text.{Text, text, wrong, Says}
+use Rattle.answers.specs.declared.TextAnswer.{TextAnswer}
+use Rattle.answers.proofs.Answers.{no-text, done-text, refused-wrong}
+use Rattle.references.specs.Escape.{escape}
+use Rattle.references.specs.Unescape.{Reference, character, fault, reference, Piece, shows, bad, referred, piece, before, joined, shownFrom, unescape}
 use Rattle.references.specs.Normal.{leads}
-use Rattle.references.specs.Entries.{fitting, unescaping}
-use Rattle.references.specs.Joining.{splitLine, movedOn, EscapingJoins, UnescapingJoins}
+use Rattle.references.specs.Entries.{fitting, escaping, unescaping}
+use Rattle.references.specs.Joining.{splitLine, movedOn, UnescapeJoins, EscapingJoins, UnescapingJoins, Joined, RefusedAt, EscapeEntriesJoin, UnescapeEntriesJoin}
 use Rattle.references.proofs.Values.{before-nil, before-before}
 use Rattle.references.proofs.Escapes.{escape-append}
 use Rattle.references.proofs.Shapes.{after-text}
-use Rattle.references.proofs.RoundTrip.{formed-checked, escaping-done}
+use Rattle.references.proofs.RoundTrip.{formed-checked, escaping-done, escaping-text}
 use Rattle.references.proofs.Normal.{closed, unclosed, Cut, cut, skip-shown}
 
 -- ---- a place counted from further on
@@ -52,9 +56,6 @@ split-later [] l m h = h
 split-later (b ∷ s) l m h = split-later s l m (split-next b (s ++ l) m h)
 
 -- ---- the pieces
-
-no-text : {A : Type 0} (n p : ℕ) (t : List ℕ) → wrong n p ≡ text t → A
-no-text n p t e = let z : _≡_ {A = ℕ} 0 1 = cc in absurd (omega arith)
 
 abbrev Joins : ℕ → Type 0
 Joins n = (a b : List ℕ) (at : ℕ) (s : List ℕ) → length a ≤ n → splitLine a b ≡ false → shownFrom 0 a at ≡ text s → shownFrom 0 (a ++ b) at ≡ before s (shownFrom 0 b (at + length a))
@@ -128,8 +129,7 @@ joins : (n : ℕ) → Joins n
 joins zero = no-joins
 joins (suc n) = some-joins n (joins n)
 
--- a piece that is accepted, and one after it that does not complete its line end: what both show, or the second's fault moved on
-pub unescape-join : (a b s : List ℕ) → unescape a ≡ text s → splitLine a b ≡ false → unescape (a ++ b) ≡ before s (movedOn (length a) (unescape b))
+pub unescape-join : UnescapeJoins
 unfolding unescape
 unescape-join a b s e h = joins (length a) a b 0 s (omega arith) h e ∙ ap (before s) moved
   where
@@ -200,3 +200,35 @@ pub unescaping-joins : UnescapingJoins
 unescaping-joins a b s m n room e g h =
     let k = shown a m (omega (arith, length-append a b)) s e in
     record { accepted = joined-shown a b s n room (k .0) (k .1) g h; refused = joined-wrong a b s n room (k .0) (k .1) g h }
+
+-- ---- answers and bytes
+
+joined-says : {o : Text} {x y z t u : List ℕ} {m n : ℕ} {r : TextAnswer} → Says o (length z) z r → o ≡ text (t ++ u) → length t ≡ m → length u ≡ n → take m x ≡ t → take n y ≡ u → Joined x y z m n r
+joined-says s e i j k l = record {
+  answer = s .answer ∙ rw (e, length-append, i, j);
+  left = s .left ∙ rw (e, k, l, length-append, i, j);
+}
+
+refused-says : {o : Text} {z : List ℕ} {k p : ℕ} {r : TextAnswer} → Says o (length z) z r → o ≡ wrong k p → RefusedAt k p z r
+refused-says s e = record { answer = s .answer ∙ rw e; left = s .left ∙ rw e }
+
+pub escape-entries : EscapeEntriesJoin
+escape-entries a b x y z p q r m n sa sb sz e f h k =
+    let c = done-text sa e in
+    let d = done-text sb f in
+    let i = escaping-text a (length x) (c .0) (c .1) in
+    let j = escaping-text b (length y) (d .0) (d .1) in
+    let l : length (escape a ++ escape b) ≤ length z = rw length-append (omega (arith, c .2, d .2, ap length (i .1), ap length (j .1))) in
+    let o : escaping (a ++ b) (length z) ≡ text (escape a ++ escape b) = rw (escape-append a b) at (escaping-done (a ++ b) (append-formed a b (i .0) (j .0)) (length z) h (rw (escape-append a b) l)) in
+    joined-says sz (o ∙ rw (i .1, j .1)) (c .2) (d .2) (c .3) (d .3)
+
+pub unescape-entries : UnescapeEntriesJoin
+unescape-entries a b x y z p q r m sa sb sz e g h =
+    let c = done-text sa e in
+    let w = unescaping-joins a b (c .0) (length x) (length y) (length z) (c .1) g h in
+    record {
+      accepted = λ n f k.
+          let d = done-text sb f in
+          joined-says sz (w .accepted (d .0) (d .1) (rw length-append (omega (arith, c .2, d .2)))) (c .2) (d .2) (c .3) (d .3);
+      refused = λ k i v f. refused-says sz (w .refused k i v (refused-wrong sb f));
+    }

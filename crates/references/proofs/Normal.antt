@@ -1,19 +1,20 @@
 -- The definition is 2.11 over the whole value, then 3.3.3.
 -- Assumes nothing.
-use Prim.Native.Nat.{ℕ, zero, suc, _+_, _≤_, _<_}
+use Prim.Native.Nat.{ℕ, zero, suc, _+_, _≤_}
 use mathlib.Core.Path.{_≡_, refl, sym, ap, _∙_}
-use mathlib.Core.List.{List, [], _∷_, _++_, append-assoc}
-use mathlib.Core.Bool.{Bool, true, false, not, _&&_, _||_}
+use mathlib.Core.List.{List, [], _∷_, _++_}
+use mathlib.Core.Bool.{Bool, true, false, not, _||_, and-false}
 use borrow.Author.Tests.{ne-eqb, eqb-false, eqb-true}
 use native.Mathlib.Numerals.{add-one}
 use native.Mathlib.Omega.{arith}
 use lib.Dec.{eqb}
-use lib.ListN.{length, drop, length-append}
+use lib.ListN.{length, length-append}
 use Rattle.slices.specs.Bytes.{if, bytes, other, span, past, all, empty, same}
 use Rattle.slices.proofs.Runs.{both, by-byte, span-stops, past-stops}
-use Rattle.references.specs.Unescape.{Reference, character, fault, decimalDigit, hexDigit, number, ofCode, ofDigits, ofNumber, charReference, reference, Piece, shows, bad, referred, afterAmpersand, afterCr, piece, Text, text, wrong, before, joined, shownFrom, unescape}
-use Rattle.references.specs.Characters.{utf8}
-use Rattle.references.specs.Normal.{leads, lineEnds, space, normal, Value, value, refused, after, continued, normalFrom, normalised, outcome}
+use Rattle.utf8.specs.Encoding.{utf8}
+use Rattle.answers.specs.Text.{Text, text, wrong}
+use Rattle.references.specs.Unescape.{Reference, character, fault, decimalDigit, hexDigit, ofDigits, ofNumber, charReference, reference, shows, bad, referred, afterAmpersand, piece, before, joined, shownFrom, unescape}
+use Rattle.references.specs.Normal.{lineEnds, named, refers, normal, after, continued, normalFrom, normalised, outcome, FollowsRecommendation}
 
 -- a CR comes to a LF and something after it
 cr-first : (l : List ℕ) → (x : List ℕ) × (lineEnds (13 ∷ l) ≡ 10 ∷ x)
@@ -40,13 +41,9 @@ module _ (p : ℕ → Bool) (e : p 10 ≡ false) (f : p 13 ≡ false) where
   digits-ends : (base : ℕ) (l : List ℕ) → ofDigits base p (lineEnds l) ≡ ofDigits base p l
   digits-ends base l = go (all p l) refl
     where
-      none : (t : Bool) → t && false ≡ false
-      none true = refl
-      none false = refl
-
       go : (t : Bool) → all p l ≡ t → ofDigits base p (lineEnds l) ≡ ofDigits base p l
       go true h = rw (same-ends l h)
-      go false h = rw (all-ends l, h, none (not (empty (lineEnds l))), none (not (empty l)))
+      go false h = rw (all-ends l, h, and-false (not (empty (lineEnds l))), and-false (not (empty l)))
 
 -- ---- a reference is the same after 2.11
 
@@ -111,6 +108,15 @@ unclosed s h = rw (past-all s h)
     past-all [] h = refl
     past-all (b ∷ s) h = let t = both (other 59 b) (all (other 59) s) h in rw (t .0) (past-all s (t .1))
 
+-- what the two definitions take a reference to be
+named-is : (e : List ℕ) → named e ≡ reference e
+unfolding reference
+named-is [] = refl
+named-is (b ∷ l) = by-byte (λ y. named (y ∷ l) ≡ reference (y ∷ l)) b 35 refl (λ n. rw n)
+
+refers-is : (l : List ℕ) → refers l ≡ afterAmpersand l
+refers-is l = rw (named-is (span (other 59) l))
+
 -- a text up to its first `;`, and what follows it
 pub data Cut : List ℕ → Type 0 where
   none : (l : List ℕ) → all (other 59) l ≡ true → Cut l
@@ -158,9 +164,9 @@ module _ (n : ℕ) (i : Agree n) (at : ℕ) where
   -- a reference, or a `&` without one
   ampersand : (l : List ℕ) → Cut l → length l ≤ n → outcome (shownFrom 0 (38 ∷ l) at) ≡ normalFrom 0 (lineEnds (38 ∷ l))
   unfolding piece normal
-  ampersand l (Cut.none k h) m = rw (unclosed k h, unclosed (lineEnds k) (all-other k ∙ h))
+  ampersand l (Cut.none k h) m = rw (refers-is (lineEnds k) ∙ unclosed (lineEnds k) (all-other k ∙ h), unclosed k h)
   ampersand l (Cut.some s r h) m =
-      rw (ends-before s r, closed s r h, closed (lineEnds s) (lineEnds r) (all-other s ∙ h), reference-ends s) (go (reference s))
+      rw (ends-before s r, refers-is (lineEnds s ++ 59 ∷ lineEnds r) ∙ closed (lineEnds s) (lineEnds r) (all-other s ∙ h), closed s r h, reference-ends s) (go (reference s))
     where
       go : (x : Reference) → outcome (joined (referred x (suc (length s))) at (λ w. shownFrom w (s ++ 59 ∷ r) (suc at))) ≡ continued (referred x (suc (length (lineEnds s)))) (λ w. normalFrom w (lineEnds s ++ 59 ∷ lineEnds r))
       go (fault k) = refl
@@ -207,7 +213,6 @@ agree : (n : ℕ) → Agree n
 agree zero = no-bytes
 agree (suc n) = some-bytes n (agree n)
 
--- the definition's result, or its refusal's number, is that of 2.11 over the whole value and then 3.3.3
-pub unescape-normal : (v : List ℕ) → outcome (unescape v) ≡ normalised v
+pub unescape-normal : FollowsRecommendation
 unfolding unescape normalised
 unescape-normal v = agree (length v) v 0 (omega arith)

@@ -8,5 +8,6 @@ pub mod Normal
 pub mod Joining
 pub mod Outcome
 pub mod Entries
+pub mod RoundTrip
 pub mod Admission
 pub mod Cases

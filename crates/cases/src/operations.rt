@@ -1,5 +1,5 @@
 // What each operation answers to its text.
-use references::Answer;
+use answers::TextAnswer;
 use scan::Scan;
 use tables::Triple;
 
@@ -64,22 +64,22 @@ pub fn of_text(out: &mut [u8], n: usize, word: &[u8], t: &[u8]) -> usize {
 }
 
 // What escaping or unescaping answers.
-fn put_answer(out: &mut [u8], n: usize, answer: Answer) -> usize {
+fn put_answer(out: &mut [u8], n: usize, answer: TextAnswer) -> usize {
     match answer {
-        Answer::Refused(number, place) => output::put_refused(out, n, number, place),
-        Answer::Done(count) => output::put_done(out, n, count),
+        TextAnswer::Refused(number, place) => output::put_refused(out, n, number, place),
+        TextAnswer::Done(count) => output::put_done(out, n, count),
     }
 }
 
 // The same, and the whole buffer after it.
-fn answered(out: &mut [u8], n: usize, answer: Answer, buffer: &[u8]) -> usize {
+fn answered(out: &mut [u8], n: usize, answer: TextAnswer, buffer: &[u8]) -> usize {
     let m = put_answer(out, n, answer);
     let k = output::put(out, m, b' ');
     notation::shown::put_text(out, k, buffer)
 }
 
 // Escapes or unescapes a text.
-fn change(escapes: bool, t: &[u8], buffer: &mut [u8]) -> Answer {
+fn change(escapes: bool, t: &[u8], buffer: &mut [u8]) -> TextAnswer {
     if escapes {
         return references::escape(t, buffer);
     }

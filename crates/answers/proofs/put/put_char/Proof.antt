@@ -1,8 +1,8 @@
--- `references::put::put_char` meets its contract.
+-- `answers::put::put_char` meets its contract.
 -- Assumes nothing.
-use Rattle.references.proofs.Putting.{puts}
-use Rattle.references.proofs.put.put_char.Statement.{statement}
-use Rattle.references.proofs.put.put_char.Tie as tie
+use Rattle.answers.proofs.Putting.{puts}
+use Rattle.answers.proofs.put.put_char.Statement.{statement}
+use Rattle.answers.proofs.put.put_char.Tie as tie
 
 pub put-char-spec : {M : Type 1} → statement M
 put-char-spec =

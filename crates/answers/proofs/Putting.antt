@@ -4,17 +4,15 @@ use Prim.Native.Nat.{ℕ, _+_, _/_, _%_, _≤_, _<_}
 use mathlib.Core.Path.{_≡_, refl, sym, _∙_}
 use mathlib.Core.List.{List, [], _∷_, _++_, append-nil, append-assoc}
 use borrow.Author.Needs.{needs}
-use borrow.Author.Tests.{lt-ltb, le-ltb, ne-eqb}
+use borrow.Author.Tests.{lt-ltb, le-ltb}
 use native.Mathlib.Nat.{add-zero}
 use native.Mathlib.Numerals.{add-one}
 use native.Mathlib.Omega.{arith}
 use lib.ListN.{length, take, getD, length-append}
 use lib.Seq.{take-suc, take-all}
-use Rattle.slices.specs.Bytes.{bytes}
 use Rattle.tables.specs.Table.{Put}
-use Rattle.references.specs.Characters.{utf8}
-use Rattle.references.specs.Escape.{escaped}
-use Rattle.references.specs.Outcome.{Puts}
+use Rattle.utf8.specs.Encoding.{utf8}
+use Rattle.answers.specs.Puts.{Puts}
 
 pub puts-none : {n : ℕ} {t : List ℕ} → Puts [] n t t n
 puts-none {n} = record { counts = sym (add-zero n); stands = λ xs r. rw append-nil r }
@@ -72,12 +70,4 @@ module _ {c n r : ℕ} {t t′ : List ℕ} where
     unfolding utf8
     char-four l p = rw (le-ltb c 0x80 (omega arith), le-ltb c 0x800 h, le-ltb c 0x10000 l) (puts-then p q)
 
--- a byte as it is escaped
-module _ {b n r : ℕ} {t t′ : List ℕ} where
-  pub reference-one : {ys : List ℕ} (k : ℕ) → b ≡ k → ys ≡ escaped k → Puts ys n t t′ r → Puts (escaped b) n t t′ r
-  reference-one k e f p = rw (e, ← f) p
-
-  pub reference-none : (b ≡ 38 → ⊥) → (b ≡ 60 → ⊥) → (b ≡ 62 → ⊥) → (b ≡ 34 → ⊥) → (b ≡ 39 → ⊥) → (b ≡ 9 → ⊥) → (b ≡ 10 → ⊥) → (b ≡ 13 → ⊥) → Put 1 (b ∷ []) n t t′ r → Puts (escaped b) n t t′ r
-  reference-none e1 e2 e3 e4 e5 e6 e7 e8 p = rw (ne-eqb b 38 e1, ne-eqb b 60 e2, ne-eqb b 62 e3, ne-eqb b 34 e4, ne-eqb b 39 e5, ne-eqb b 9 e6, ne-eqb b 10 e7, ne-eqb b 13 e8) (puts-one p)
-
-pub ruleset puts = (put-begins, put-more, put-ends, put-pair, char-one, char-two, char-three, char-four, reference-one, reference-none, needs)
+pub ruleset puts = (put-begins, put-more, put-ends, put-pair, char-one, char-two, char-three, char-four, needs)

@@ -1,11 +1,11 @@
--- `references::put::put_bytes` meets its contract: the bytes before here are put.
+-- `answers::put::put_bytes` meets its contract: the bytes before here are put.
 -- Assumes nothing.
 use Prim.Native.Nat.{_-_}
 use lib.ListN.{length}
-use Rattle.references.proofs.Putting.{Putting}
-use Rattle.references.proofs.Putting.{puts}
-use Rattle.references.proofs.put.put_bytes.Statement.{statement}
-use Rattle.references.proofs.put.put_bytes.Tie as tie
+use Rattle.answers.proofs.Putting.{Putting}
+use Rattle.answers.proofs.Putting.{puts}
+use Rattle.answers.proofs.put.put_bytes.Statement.{statement}
+use Rattle.answers.proofs.put.put_bytes.Tie as tie
 
 abbrev Inv-loop : tie.InvT-loop
 Inv-loop out₀ n bytes i₀ m₀ out i m = Putting bytes n out₀ out i m

@@ -1,8 +1,8 @@
--- `references::finish` meets its contract.
+-- `answers::finish` meets its contract.
 -- Assumes nothing.
-use Rattle.references.proofs.Answers.{steps}
-use Rattle.references.proofs.finish.Statement.{statement}
-use Rattle.references.proofs.finish.Tie as tie
+use Rattle.answers.proofs.Answers.{steps}
+use Rattle.answers.proofs.finish.Statement.{statement}
+use Rattle.answers.proofs.finish.Tie as tie
 
 pub finish-spec : {M : Type 1} → statement M
 finish-spec =

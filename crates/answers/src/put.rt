@@ -1,11 +1,9 @@
 // Bytes put at a count into a lent text that may be full.
-
 ghost use mathlib.Core.List.{[], _∷_};
 ghost use Prim.Native.Nat.{_+_, _<_, _^_};
 ghost use lib.ListN.{length};
-ghost use Rattle.references.specs.Characters.{utf8};
-ghost use Rattle.references.specs.Escape.{escaped};
-ghost use Rattle.references.specs.Outcome.{Puts};
+ghost use Rattle.utf8.specs.Encoding.{utf8};
+ghost use Rattle.answers.specs.Puts.{Puts};
 
 pub fn put_bytes(out: &mut [u8], n: usize, bytes: &[u8]) -> usize
     requires { ⌜ n + length (now bytes) < 2 ^ 62 ⌝ }
@@ -53,36 +51,4 @@ pub fn put_char(out: &mut [u8], n: usize, c: u32) -> usize
         (0x80 + c / 4096 % 64) as u8,
     );
     put_two(out, m, third, last)
-}
-
-// A byte as it is escaped.
-pub fn put_reference(out: &mut [u8], n: usize, b: u8) -> usize
-    requires { ⌜ n + 6 < 2 ^ 62 ⌝ }
-    ensures { λ r. ⌜ Puts (escaped b) n (now (out .entry)) (now (out .exit)) r ⌝ }
-{
-    if b == 38 {
-        return put_bytes(out, n, b"&amp;");
-    }
-    if b == 60 {
-        return put_bytes(out, n, b"&lt;");
-    }
-    if b == 62 {
-        return put_bytes(out, n, b"&gt;");
-    }
-    if b == 34 {
-        return put_bytes(out, n, b"&quot;");
-    }
-    if b == 39 {
-        return put_bytes(out, n, b"&apos;");
-    }
-    if b == 9 {
-        return put_bytes(out, n, b"&#9;");
-    }
-    if b == 10 {
-        return put_bytes(out, n, b"&#10;");
-    }
-    if b == 13 {
-        return put_bytes(out, n, b"&#13;");
-    }
-    tables::put_byte(out, n, b)
 }
