@@ -9,7 +9,7 @@ use lib.Dec.{eqb, leb, ltb}
 use Rattle.slices.specs.Bytes.{if, bytes, same}
 use Rattle.names.specs.Names.{interfaceName, memberName, propertyName}
 use Rattle.names.specs.Signature.{signature}
-use Rattle.names.proofs.Names.{and-both}
+use Rattle.slices.proofs.Runs.{and-both}
 use Rattle.document.specs.Tags.{Shown, tpType}
 use Rattle.document.specs.Tokens.{Tag}
 use Rattle.document.specs.Rows.{Row}

@@ -12,7 +12,8 @@ use lib.Seq.{take-at, drop-at}
 use Rattle.slices.specs.Bytes.{if, all}
 use Rattle.tables.specs.Triple.{inside, part, shown}
 use Rattle.tables.specs.declared.Triple.{Triple}
-use Rattle.references.specs.Unescape.{text, plain}
+use Rattle.answers.specs.Text.{text}
+use Rattle.references.specs.Unescape.{plain}
 use Rattle.document.specs.Tags.{Shown}
 use Rattle.document.specs.Rows.{Doc, Row, textOf, triple, docTriple, rowText, rowWords}
 use Rattle.rows.proofs.Shown.{unescape-plain}

@@ -8,7 +8,8 @@ use lib.Dec.{eqb}
 use lib.ListN.{length, take, drop, getD}
 use Rattle.slices.specs.Bytes.{if, span, past, same}
 use Rattle.scan.specs.Classes.{white}
-use Rattle.references.specs.Unescape.{text, wrong, unescape}
+use Rattle.answers.specs.Text.{text, wrong}
+use Rattle.references.specs.Unescape.{unescape}
 use Rattle.document.specs.Tags.{Attr, Shown, Checked, good, fault, also, check, gather}
 use Rattle.document.specs.Tokens as tokens
 use Rattle.document.specs.Tokens.{last, tagEnd, withAttrs}

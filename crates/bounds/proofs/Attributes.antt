@@ -10,7 +10,8 @@ use lib.ListN.{length}
 use Rattle.slices.specs.Bytes.{other, span, past, empty}
 use Rattle.scan.specs.Classes.{white, nameByte}
 use Rattle.scan.specs.Ignorable.{quote}
-use Rattle.references.specs.Unescape.{Text, text, wrong, unescape}
+use Rattle.answers.specs.Text.{Text, text, wrong}
+use Rattle.references.specs.Unescape.{unescape}
 use Rattle.references.proofs.Shapes.{unescape-short}
 use Rattle.document.specs.Tags.{Attr, Found, absent, found, closeQuote, openQuote, equals, named, spaced, attribute, Gathered, gathered, tooMany, with, another, noMore, gather, Shown, Checked, good, also, member, check}
 use Rattle.document.specs.Tags as tags

@@ -5,12 +5,11 @@ use mathlib.Core.Path.{_≡_, refl, ap}
 use mathlib.Core.List.{List, [], _∷_}
 use mathlib.Core.Option.{Option, none, some}
 use mathlib.Core.Bool.{Bool, true, false, not}
-use borrow.Author.Tests.{eqb-true}
 use native.Mathlib.Omega.{arith}
 use lib.Dec.{eqb}
 use lib.ListN.{length, length-append}
 use Rattle.slices.specs.Bytes.{if, bytes, all, same}
-use Rattle.slices.proofs.Runs.{both}
+use Rattle.slices.proofs.Runs.{same-equal}
 use Rattle.names.specs.Names.{interfaceName, memberName, propertyName}
 use Rattle.names.specs.Signature.{signature}
 use Rattle.references.specs.Unescape.{plain}
@@ -37,12 +36,6 @@ row-size k p n v tp w =
     rw (length-append, length-append) (omega (arith, text-size n, text-size v, text-size tp))
 
 -- ---- attributes of different names are different attributes
-
-same-equal : (a b : List ℕ) → same a b ≡ true → a ≡ b
-same-equal [] [] e = refl
-same-equal [] (y ∷ b) e = cc
-same-equal (x ∷ a) [] e = cc
-same-equal (x ∷ a) (y ∷ b) e = let t = both (eqb x y) (same a b) e in rw (eqb-true x y (t .0), same-equal a b (t .1))
 
 -- of a value that is there or not, before which others stand
 module _ (s : Shown) (o p q : Option Shown) (m : ℕ) (i : size o + size p + size q ≤ m) where

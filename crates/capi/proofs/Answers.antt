@@ -7,10 +7,9 @@ use mathlib.Core.Bool.{Bool}
 use borrow.Author.Needs.{needs}
 use Rattle.tables.specs.declared.Triple.{Triple}
 use Rattle.tables.specs.Triple.{inside, resolved}
-use Rattle.references.specs.Unescape.{Text}
-use Rattle.references.specs.Entries.{answerOf}
-use Rattle.references.specs.declared.Answer.{Answer}
-use Rattle.references.specs.declared.Answer.the-variants as answer
+use Rattle.answers.specs.Text.{Text, answerOf}
+use Rattle.answers.specs.declared.TextAnswer.{TextAnswer}
+use Rattle.answers.specs.declared.TextAnswer.the-variants as answer
 use Rattle.document.specs.Tags.{Shown}
 use Rattle.document.specs.Reading.{State}
 use Rattle.document.specs.Whole.{verdictOf}
@@ -29,7 +28,7 @@ module _ {v : Verdict} where
   pub read-words : (s : State Shown) {ws : List ℕ} → ws ≡ verdictWords v → v ≡ verdictOf s → ws ≡ readWords s
   read-words s h e = h ∙ ap verdictWords e
 
-module _ {a : Answer} where
+module _ {a : TextAnswer} where
   pub answer-refused : {n p : ℕ} → a ≡ answer.Refused n p → (n ∷ p ∷ 0 ∷ []) ≡ answerWords a
   answer-refused e = rw e refl
 

@@ -6,10 +6,9 @@ use mathlib.Core.Bool.{Bool}
 use Rattle.slices.specs.Bytes.{if}
 use Rattle.tables.specs.Triple.{inside, resolved}
 use Rattle.tables.specs.declared.Triple.{Triple}
-use Rattle.references.specs.Unescape.{Text}
-use Rattle.references.specs.Entries.{answerOf}
-use Rattle.references.specs.declared.Answer.{Answer}
-use Rattle.references.specs.declared.Answer.the-variants as answer
+use Rattle.answers.specs.Text.{Text, answerOf}
+use Rattle.answers.specs.declared.TextAnswer.{TextAnswer}
+use Rattle.answers.specs.declared.TextAnswer.the-variants as answer
 use Rattle.document.specs.Tags.{Shown}
 use Rattle.document.specs.Reading.{State}
 use Rattle.document.specs.Whole.{verdictOf}
@@ -22,7 +21,7 @@ verdictWords (verdict.Refused x) = x .number ∷ x .place ∷ 0 ∷ 0 ∷ 0 ∷ 
 verdictWords (verdict.Accepted rows text warnings) = 0 ∷ 0 ∷ rows ∷ text ∷ warnings ∷ []
 
 -- number, place, bytes written
-abbrev pub answerWords : Answer → List ℕ
+abbrev pub answerWords : TextAnswer → List ℕ
 answerWords (answer.Refused n p) = n ∷ p ∷ 0 ∷ []
 answerWords (answer.Done n) = 0 ∷ 0 ∷ n ∷ []
 

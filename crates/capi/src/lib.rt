@@ -1,11 +1,12 @@
 // The library for C: the public entries, each answer written into the array that is lent last (include/introspection.h).
+use answers::TextAnswer;
 use document::Verdict;
-use references::Answer;
 use tables::Triple;
 ghost use mathlib.Core.Path.{_≡_};
 ghost use lib.ListN.{length};
 ghost use Rattle.tables.specs.declared.Triple.{Triple};
-ghost use Rattle.references.specs.Entries.{escaping, unescaping, leftOf};
+ghost use Rattle.answers.specs.Text.{leftOf};
+ghost use Rattle.references.specs.Entries.{escaping, unescaping};
 ghost use Rattle.document.specs.Whole.{read, rowsLeft, warningsLeft, textLeft};
 ghost use Rattle.items.specs.Writing.{writing};
 ghost use Rattle.reader.specs.Entry.{room};
@@ -22,12 +23,12 @@ fn verdict_words(v: Verdict) -> [u64; 5]
     }
 }
 
-fn answer_words(a: Answer) -> [u64; 3]
+fn answer_words(a: TextAnswer) -> [u64; 3]
     ensures { λ r. ⌜ r ≡ answerWords a ⌝ }
 {
     match a {
-        Answer::Refused(number, place) => [number as u64, place as u64, 0],
-        Answer::Done(written) => [0, 0, written as u64],
+        TextAnswer::Refused(number, place) => [number as u64, place as u64, 0],
+        TextAnswer::Done(written) => [0, 0, written as u64],
     }
 }
 

@@ -1,5 +1,5 @@
 // Runs the cases on standard input, one to a line, and writes a line for each: crates/cases/stdin says how a case is written.
-mod answers;
+mod operations;
 mod whole;
 
 use tables::Triple;
@@ -16,7 +16,7 @@ fn roomy(
     let room = notation::number(s);
     let k = notation::text::expand(first, output::after(s, room.after));
     let buffer = output::front_mut(second, room.value as usize);
-    answers::changed(out, n, escapes, output::front(first, k), buffer)
+    operations::changed(out, n, escapes, output::front(first, k), buffer)
 }
 
 // A case of lookup: source, start, length, the document, `|`, the text buffer.
@@ -35,7 +35,7 @@ fn lookup(out: &mut [u8], n: usize, s: &[u8], first: &mut [u8], second: &mut [u8
         start: notation::low(start.value),
         len: notation::low(len.value),
     };
-    answers::lookup(
+    operations::lookup(
         out,
         n,
         output::front(first, d),
@@ -57,7 +57,7 @@ fn case(out: &mut [u8], n: usize, s: &[u8], first: &mut [u8], second: &mut [u8])
         4 => whole::words(out, n, rest),
         _ => {
             let k = notation::text::expand(first, rest);
-            answers::of_text(out, n, word, output::front(first, k))
+            operations::of_text(out, n, word, output::front(first, k))
         }
     }
 }

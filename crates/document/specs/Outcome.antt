@@ -10,7 +10,8 @@ use lib.ListN.{length, take, drop, getD}
 use Rattle.slices.specs.Bytes.{if, bytes, all}
 use Rattle.utf8.specs.WellFormed.{illFormed}
 use Rattle.tables.specs.Table.{Rep}
-use Rattle.references.specs.Unescape.{text, unescape, plain}
+use Rattle.answers.specs.Text.{text}
+use Rattle.references.specs.Unescape.{unescape, plain}
 use Rattle.document.specs.Tags.{Shown, lookup, tpType}
 use Rattle.document.specs.Tokens.{Tag, start, close, fault, end, more, last, next}
 use Rattle.document.specs.Rows.{Row, Warning, Tables, wordsFrom, texts, warned}

@@ -7,8 +7,7 @@ use mathlib.Core.Bool.{_||_}
 use lib.Dec.{ltb}
 use lib.ListN.{length}
 use Rattle.slices.specs.Bytes.{if}
-use Rattle.references.specs.Unescape.{Text, text, wrong}
-use Rattle.references.specs.Entries.{roomy}
+use Rattle.answers.specs.Text.{Text, text, wrong, roomy}
 use Rattle.items.specs.Sound.{Soundness, sound, unsound, soundness}
 use Rattle.items.specs.Written.{Item, written}
 use Rattle.items.specs.Content.{contentAt}

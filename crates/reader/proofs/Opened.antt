@@ -5,7 +5,7 @@ use mathlib.Core.Path.{_≡_, refl, sym, _∙_, ap}
 use mathlib.Core.List.{List, [], _∷_}
 use mathlib.Core.Bool.{Bool, true, false}
 use borrow.Author.Needs.{needs}
-use borrow.Author.Tests.{le-leb, lt-leb, eqb-true}
+use borrow.Author.Tests.{le-leb, lt-leb}
 use native.Mathlib.Decide.{decLt}
 use native.Mathlib.Numerals.{add-one}
 use native.Mathlib.Omega.{arith}
@@ -15,7 +15,7 @@ use lib.Dec.{leb, eqb}
 use lib.ListN.{length, take, drop, getD, set, length-set}
 use lib.Seq.{getD-set-same, getD-set-other}
 use Rattle.slices.specs.Bytes.{if, bytes, same}
-use Rattle.slices.proofs.Runs.{both}
+use Rattle.slices.proofs.Runs.{same-equal}
 use Rattle.document.specs.Tags.{Shown}
 use Rattle.document.specs.Tokens.{Tag}
 use Rattle.document.specs.Rows.{Row, Tables}
@@ -33,15 +33,6 @@ use Rattle.reader.specs.declared.Walk.{Walk}
 use Rattle.reader.specs.declared.Turn.{Turn}
 use Rattle.reader.specs.declared.Turn.the-variants.{Fault, Done, On}
 use Rattle.reader.proofs.Frames.{frames-length, frames-closed, frames-push}
-
--- lists that compare equal are equal
-same-equal : (a b : List ℕ) → same a b ≡ true → a ≡ b
-same-equal [] [] e = refl
-same-equal [] (y ∷ b) e = let z : _≡_ {A = ℕ} 0 1 = cc in absurd (omega arith)
-same-equal (x ∷ a) [] e = let z : _≡_ {A = ℕ} 0 1 = cc in absurd (omega arith)
-same-equal (x ∷ a) (y ∷ b) e =
-    let t = both (eqb x y) (same a b) e in
-    rw (eqb-true x y (t .0)) (ap (_∷_ y) (same-equal a b (t .1)))
 
 not-one : (a b c d f g h : Bool) → _≡_ {A = ℕ} (if a 8 (if b 9 (if c 10 (if d 11 (if f 12 (if g 13 (if h 14 0))))))) 1 → ⊥
 not-one true b c d f g h e = omega arith

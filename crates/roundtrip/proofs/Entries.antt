@@ -10,9 +10,8 @@ use lib.Dec.{ltb}
 use lib.ListN.{length, take, replicate}
 use lib.Seq.{take-at}
 use Rattle.slices.specs.Bytes.{if}
-use Rattle.references.specs.Unescape.{Text, text, wrong}
-use Rattle.references.specs.Entries.{answerOf, leftOf}
-use Rattle.references.specs.declared.Answer.the-variants.{Done}
+use Rattle.answers.specs.Text.{Text, text, wrong, answerOf, leftOf}
+use Rattle.answers.specs.declared.TextAnswer.the-variants.{Done}
 use Rattle.document.specs.Rows.{wordsFrom, texts}
 use Rattle.document.specs.Whole.{Room, verdictOf, filled}
 use Rattle.document.specs.declared.Verdict.{Verdict}

@@ -14,7 +14,7 @@ use Rattle.utf8.specs.WellFormed.{illFormed, wellFormed}
 use Rattle.utf8.proofs.Texts.{formed, none-whole}
 use Rattle.names.specs.Names.{memberName}
 use Rattle.names.specs.Signature.{signature}
-use Rattle.names.proofs.Names.{and-both}
+use Rattle.slices.proofs.Runs.{and-both}
 use Rattle.tables.specs.Triple as triples
 use Rattle.tables.specs.declared.Triple.{Triple}
 use Rattle.document.specs.Elements.{among, mayHold}

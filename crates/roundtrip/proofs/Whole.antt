@@ -13,7 +13,7 @@ use Rattle.slices.specs.Bytes.{bytes}
 use Rattle.utf8.specs.WellFormed.{illFormed}
 use Rattle.utf8.proofs.Texts.{Whole, formed, whole-append}
 use Rattle.names.specs.Names.{interfaceName}
-use Rattle.names.proofs.Plain.{interface-bytes, name-all}
+use Rattle.names.proofs.Bytes.{interface-bytes, name-all}
 use Rattle.scan.specs.Classes.{escapable}
 use Rattle.references.specs.Escape.{escape}
 use Rattle.references.proofs.Escapes.{escape-same}

@@ -7,9 +7,9 @@ use mathlib.Core.Option.{some}
 use mathlib.Core.Bool.{true}
 use lib.ListN.{length, take}
 use Rattle.names.specs.Names.{interfaceName}
-use Rattle.references.specs.Entries.{answerOf, leftOf}
-use Rattle.references.specs.declared.Answer.{Answer}
-use Rattle.references.specs.declared.Answer.the-variants.{Done}
+use Rattle.answers.specs.Text.{answerOf, leftOf}
+use Rattle.answers.specs.declared.TextAnswer.{TextAnswer}
+use Rattle.answers.specs.declared.TextAnswer.the-variants.{Done}
 use Rattle.document.specs.Elements.{among}
 use Rattle.document.specs.Whole.{Room, read, verdictOf, rowsLeft, warningsLeft, textLeft}
 use Rattle.document.specs.declared.Verdict.{Verdict}
@@ -23,7 +23,7 @@ use Rattle.roundtrip.specs.Items.{rows, nodeRow, interfaceRow, values, r
 use Rattle.roundtrip.specs.Statement.{around, Fits}
 
 -- what `write` says of its answer and of the bytes left
-pub record Wrote (document text ws : List ℕ) (n i : ℕ) (out : List ℕ) (r : Answer) : Type 0 where
+pub record Wrote (document text ws : List ℕ) (n i : ℕ) (out : List ℕ) (r : TextAnswer) : Type 0 where
   pub answer : r ≡ answerOf (writing document text ws n i (length out))
   pub left : out ≡ leftOf (length out) (writing document text ws n i (length out))
 

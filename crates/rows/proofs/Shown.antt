@@ -1,59 +1,30 @@
 -- Tests on the text that a value shows: in the document, or in a buffer of 256 bytes; a longer text fails each of them.
 -- Assumes nothing.
-use Prim.Native.Nat.{ℕ, suc, _≤_, _<_}
+use Prim.Native.Nat.{ℕ, _≤_, _<_}
 use mathlib.Core.Path.{_≡_, refl, sym, ap, _∙_}
 use mathlib.Core.Logic.{inl, inr, ⊎-elim}
 use mathlib.Core.List.{List, [], _∷_}
-use mathlib.Core.Bool.{Bool, true, false, not, _&&_, _||_}
+use mathlib.Core.Bool.{Bool, true, false, and-false}
 use borrow.Author.Needs.{needs}
 use borrow.Author.Tests.{lt-leb}
 use native.Mathlib.Omega.{arith}
-use lib.Dec.{eqb}
 use lib.ListN.{length, take}
 use lib.Seq.{length-take-le, ext-getD, getD-take}
-use Rattle.slices.specs.Bytes.{if, bytes, all, same}
-use Rattle.slices.proofs.Runs.{both, same-short}
+use Rattle.slices.specs.Bytes.{if, bytes, same}
+use Rattle.slices.proofs.Runs.{same-short}
 use Rattle.tables.specs.Table.{Rep}
 use Rattle.tables.proofs.Tables.{whole-one, empty-stands}
 use Rattle.names.specs.Names.{interfaceName, memberName, propertyName}
 use Rattle.names.specs.Signature.{signature, basicCode, basicSignature}
-use Rattle.references.specs.Unescape.{text, shows, piece, shownFrom, unescape, plain}
+use Rattle.answers.specs.Text.{text}
 use Rattle.references.specs.Outcome.{Shows}
+use Rattle.references.proofs.Shapes.{unescape-plain}
 use Rattle.document.specs.Tags.{Shown}
 use Rattle.document.specs.Elements.{someSignature, accessOf, directionOf}
 use Rattle.document.specs.Outcome.{Held}
 use Rattle.document.specs.declared.Value.{Value}
 use Rattle.rows.specs.Outcome.{Raw, Changed, Tests, Short}
 use Rattle.rows.proofs.Values.{held-plain, held-raw, held-puts}
-
--- ---- a value without special bytes shows itself
-
-none-of : (a b : Bool) → not (a || b) ≡ true → (not a ≡ true) × (b ≡ false)
-none-of true b e = (cc, cc)
-none-of false true e = (cc, cc)
-none-of false false e = (refl, refl)
-
-not-so : (a : Bool) → not a ≡ true → a ≡ false
-not-so true e = cc
-not-so false e = refl
-
-piece-plain : (b : ℕ) (l : List ℕ) → plain b ≡ true → piece b l ≡ shows (b ∷ []) 0
-unfolding piece
-piece-plain b l h =
-    let w = none-of (eqb b 38 || eqb b 9 || eqb b 10) (eqb b 13) h in
-    let x = none-of (eqb b 38 || eqb b 9) (eqb b 10) (w .0) in
-    let y = none-of (eqb b 38) (eqb b 9) (x .0) in
-    rw (not-so (eqb b 38) (y .0), y .1, x .1, w .1)
-
-shown-plain : (l : List ℕ) (at : ℕ) → all plain l ≡ true → shownFrom 0 l at ≡ text l
-shown-plain [] at h = refl
-shown-plain (b ∷ l) at h =
-    let t = both (plain b) (all plain l) h in
-    rw (piece-plain b l (t .0), shown-plain l (suc at) (t .1))
-
-pub unescape-plain : (l : List ℕ) → all plain l ≡ true → unescape l ≡ text l
-unfolding unescape
-unescape-plain l h = shown-plain l 0 h
 
 -- ---- tests
 
@@ -99,10 +70,6 @@ pub part-counted : {doc t : List ℕ} {v : Value} {n : ℕ} → Changed doc v t 
 part-counted {t = t} {n = n} g = sym (length-take-le n t (g .inside))
 
 -- ---- what is longer than 255 bytes is none of these
-
-and-false : (a : Bool) → (a && false) ≡ false
-and-false true = refl
-and-false false = refl
 
 pub short-interface : Short interfaceName false
 unfolding interfaceName

@@ -10,9 +10,11 @@ use native.Mathlib.Omega.{arith}
 use lib.ListN.{length, take, drop, length-drop}
 use lib.Seq.{length-take-le}
 use Rattle.slices.specs.Bytes.{if, all}
-use Rattle.references.specs.Unescape.{text, plain}
-use Rattle.references.specs.Outcome.{Puts, Shows}
-use Rattle.references.proofs.Putting.{puts-none}
+use Rattle.answers.specs.Text.{text}
+use Rattle.answers.specs.Puts.{Puts}
+use Rattle.answers.proofs.Putting.{puts-none}
+use Rattle.references.specs.Unescape.{plain}
+use Rattle.references.specs.Outcome.{Shows}
 use Rattle.document.specs.Tags.{Shown}
 use Rattle.document.specs.Rows.{triple, textOf}
 use Rattle.document.specs.Outcome.{Held, ValueIs}

@@ -6,7 +6,7 @@ use mathlib.Core.Logic.{_⊎_}
 use mathlib.Core.List.{List, [], _∷_}
 use mathlib.Core.Option.{Option, none}
 use lib.ListN.{length, take, drop}
-use Rattle.references.specs.Outcome.{Puts}
+use Rattle.answers.specs.Puts.{Puts}
 use Rattle.document.specs.Tags.{Shown}
 use Rattle.document.specs.Rows.{Row, Tables, triple, textOf}
 use Rattle.document.specs.Reading.{withRow, withWarning}

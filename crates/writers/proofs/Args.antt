@@ -14,8 +14,8 @@ use lib.Seq.{getD-drop}
 use Rattle.slices.specs.Bytes.{if, bytes, empty}
 use Rattle.tables.specs.Triple.{shown}
 use Rattle.scan.specs.Classes.{Classes}
-use Rattle.references.specs.Outcome.{Puts}
-use Rattle.references.proofs.Putting.{puts-then}
+use Rattle.answers.specs.Puts.{Puts}
+use Rattle.answers.proofs.Putting.{puts-then}
 use Rattle.items.specs.Words.{RowWords, rowOf, rowsOf, tripleAt, viewed, rowsShown}
 use Rattle.items.specs.Written.{Annotation, Arg, Pair, pairs, optional, tag, closingTag, concat, element, writtenAnnotation, writtenArg}
 use Rattle.items.specs.Content.{Row, direction, childOf, annotationOf, annotations, argOf}

@@ -14,11 +14,9 @@ use lib.Seq.{getD-drop}
 use Rattle.slices.specs.Bytes.{if, bytes}
 use Rattle.tables.proofs.Tables.{empty-stands}
 use Rattle.scan.specs.Classes.{Classes}
-use Rattle.references.specs.Unescape.{Text, text, wrong}
-use Rattle.references.specs.Outcome.{Puts}
-use Rattle.references.specs.Entries.{Says, answerOf, leftOf}
-use Rattle.references.specs.Admission.{Finishes}
-use Rattle.references.specs.declared.Answer.{Answer}
+use Rattle.answers.specs.Text.{Text, text, wrong, Says, answerOf, leftOf, Finishes}
+use Rattle.answers.specs.Puts.{Puts}
+use Rattle.answers.specs.declared.TextAnswer.{TextAnswer}
 use Rattle.document.specs.Elements.{among}
 use Rattle.soundness.specs.Outcome.{Judges}
 use Rattle.soundness.specs.declared.Soundness.{Soundness}
@@ -172,7 +170,7 @@ module _ {d x ws : List ℕ} {n : ℕ} (h : Admitted d x ws n) where
     pub admitted-held : i * 16 + 16 ≤ length ws
     admitted-held = omega (arith, l, admitted-rows .held)
 
-module _ {d x ws t t′ : List ℕ} {n i : ℕ} {r : Answer} where
+module _ {d x ws t t′ : List ℕ} {n i : ℕ} {r : TextAnswer} where
   pub no-row : n ≤ i → Says (wrong 20 i) (length t) t′ r → WritesSound d x ws n i t t′ r
   no-row h s = record { says = subst (λ o. Says (itemWritten i (length t) o) (length t) t′ r) (sym (content-past d x ws n i h)) s }
 
@@ -194,7 +192,7 @@ module _ {d x ws t t′ : List ℕ} {n i : ℕ} {r : Answer} where
 pub ruleset rows = (writable-true, admitted-scans, admitted-few, admitted-held, no-row, no-kind, row-written, needs)
 
 -- the answers
-module _ {d x ws t′ : List ℕ} {n i room : ℕ} {r : Answer} where
+module _ {d x ws t′ : List ℕ} {n i room : ℕ} {r : TextAnswer} where
   pub long-document : 1048576 < length d → Says (wrong 2 1048576) room t′ r → Writes d x ws n i room t′ r
   unfolding writing
   long-document h s = record { says = rw (lt-ltb 1048576 (length d) h) s }
@@ -216,7 +214,7 @@ module _ {d x ws t′ : List ℕ} {n i room : ℕ} {r : Answer} where
 pub admits : {d x ws : List ℕ} {n : ℕ} {z : Soundness} → length d ≤ 1048576 → length x ≤ 1048576 → Judges d x ws n z → z ≡ Soundness.Sound → Admitted d x ws n
 admits h k g e = record { document = h; text = k; rows = judged-sound g e }
 
-pub answered : (d x ws : List ℕ) (n i room : ℕ) (t : List ℕ) (r : Answer) → Writes d x ws n i room t r → (r ≡ answerOf (writing d x ws n i room)) × (t ≡ leftOf room (writing d x ws n i room))
+pub answered : (d x ws : List ℕ) (n i room : ℕ) (t : List ℕ) (r : TextAnswer) → Writes d x ws n i room t r → (r ≡ answerOf (writing d x ws n i room)) × (t ≡ leftOf room (writing d x ws n i room))
 answered d x ws n i room t r w = (w .says .answer, w .says .left)
 
 pub ruleset entry = (long-document, long-text, not-sound, is-sound, admits, needs)

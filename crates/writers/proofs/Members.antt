@@ -14,9 +14,9 @@ use lib.Seq.{getD-drop}
 use Rattle.slices.specs.Bytes.{if, bytes, empty}
 use Rattle.tables.specs.Triple.{shown}
 use Rattle.scan.specs.Classes.{Classes}
+use Rattle.answers.specs.Puts.{Puts}
+use Rattle.answers.proofs.Putting.{puts-none, puts-then}
 use Rattle.references.specs.Escape.{escape}
-use Rattle.references.specs.Outcome.{Puts}
-use Rattle.references.proofs.Putting.{puts-none, puts-then}
 use Rattle.items.proofs.Rows.{length-rowsOf}
 use Rattle.items.specs.Words.{RowWords, rowOf, rowsOf, tripleAt, viewed, rowsShown}
 use Rattle.items.specs.Written.{Annotation, Arg, Member, Pair, pair, pairs, named, tag, closingTag, concat, element, writtenAnnotation, writtenArg, writtenMember}

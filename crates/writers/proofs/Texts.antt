@@ -15,10 +15,10 @@ use Rattle.slices.specs.Bytes.{if, bytes}
 use Rattle.tables.specs.Triple.{resolved, part, shown}
 use Rattle.tables.specs.declared.Triple.{Triple}
 use Rattle.scan.specs.Classes.{Classes}
+use Rattle.answers.specs.Puts.{Puts}
+use Rattle.answers.proofs.Putting.{puts-none, puts-then}
 use Rattle.references.specs.Escape.{escape}
-use Rattle.references.specs.Outcome.{Puts}
 use Rattle.references.proofs.Escapes.{escape-most}
-use Rattle.references.proofs.Putting.{puts-none, puts-then}
 use Rattle.items.specs.Words.{tripleAt, shownBy, absent, viewed}
 use Rattle.items.specs.Written.{Annotation, Pair, pair, pairs, optional, directions, tag, concat, writtenAnnotation}
 use Rattle.items.specs.Content.{present, direction, childOf, annotationOf, annotations}

@@ -11,8 +11,8 @@ use lib.ListN.{length, drop}
 use Rattle.slices.specs.Bytes.{if, bytes}
 use Rattle.tables.specs.Triple.{shown}
 use Rattle.scan.specs.Classes.{Classes}
+use Rattle.answers.specs.Puts.{Puts}
 use Rattle.references.specs.Escape.{escape}
-use Rattle.references.specs.Outcome.{Puts}
 use Rattle.document.specs.Elements.{among}
 use Rattle.items.specs.Words.{tripleAt, shownBy, rowOf, rowsShown}
 use Rattle.items.specs.Written.{Annotation, Arg, Member, Pair, pairs, named, optional, directions, argPairs, closingTag, concat, writtenAnnotation, writtenArg, writtenMember, Item, written}

@@ -4,13 +4,13 @@ ghost use mathlib.Core.Path.{_≡_};
 ghost use mathlib.Core.Bool.{true};
 ghost use lib.ListN.{length};
 ghost use Rattle.scan.specs.Classes.{Classes};
-ghost use Rattle.references.specs.Entries.{answerOf, leftOf};
+ghost use Rattle.answers.specs.Text.{answerOf, leftOf};
 ghost use Rattle.items.specs.Written.{optional};
 ghost use Rattle.items.specs.Writing.{writing};
 ghost use Rattle.writers.specs.Rows.{Word, RowHeld};
 ghost use Rattle.writers.specs.Writes.{ShownAt, Puttable, ShownPut, AnnotationPut, IfAnnotationPut, Scannable, AnnotationsPut, Room, PairsPut, nameAt, typeAt, DirectionPut, ArgTagPut, ArgPut, ArgsScannable, Turn, IfArgPut, Inside, argsIn, NotesScannable, annotationsIn, MemberTagPut, MemberEndPut, MemberScannable, ChildrenPut, MemberPut, Writable, ItemPut};
 ghost use Rattle.writers.specs.Entry.{Admitted, WritesSound};
-use references::Answer;
+use answers::TextAnswer;
 use soundness::Soundness;
 use tables::Triple;
 
@@ -429,20 +429,20 @@ fn write_sound<'a>(
     claimed: usize,
     row: usize,
     out: &mut [u8],
-) -> Answer
+) -> TextAnswer
     requires { ⌜ Admitted (now document) (now text) (now rows) claimed ⌝ }
     ensures { λ r. ⌜ WritesSound (now (document .entry)) (now (text .entry)) (now (rows .entry)) claimed row (now (out .entry)) (now (out .exit)) r ⌝ }
 {
     if claimed <= row {
-        return references::refuse(out, 20, row);
+        return answers::refuse(out, 20, row);
     }
     let kind = children::word_at(rows, row, 0);
     if is_writable(kind) {
         let classes = scan::classes();
         let n = put_item(document, text, rows, claimed, row, kind, &classes, out);
-        return references::finish(out, n, 21, n);
+        return answers::finish(out, n, 21, n);
     }
-    references::refuse(out, 20, row)
+    answers::refuse(out, 20, row)
 }
 
 // Writes a method, a signal, an annotation or an arg. Refused with 2 for a document or a text of more than 1,048,576 bytes,
@@ -455,18 +455,18 @@ pub fn write<'a>(
     claimed: usize,
     row: usize,
     out: &mut [u8],
-) -> Answer
+) -> TextAnswer
     ensures answer { λ r. ⌜ r ≡ answerOf (writing (now (document .entry)) (now (text .entry)) (now (rows .entry)) claimed row (length (now (out .entry)))) ⌝ }
     ensures left { λ r. ⌜ now (out .exit) ≡ leftOf (length (now (out .entry))) (writing (now (document .entry)) (now (text .entry)) (now (rows .entry)) claimed row (length (now (out .entry)))) ⌝ }
 {
     if 1048576 < document.len() {
-        return references::refuse(out, 2, 1048576);
+        return answers::refuse(out, 2, 1048576);
     }
     if 1048576 < text.len() {
-        return references::refuse(out, 2, 1048576);
+        return answers::refuse(out, 2, 1048576);
     }
     match soundness::check(document, text, rows, claimed) {
-        Soundness::Unsound(place) => references::refuse(out, 19, place),
+        Soundness::Unsound(place) => answers::refuse(out, 19, place),
         Soundness::Sound => write_sound(document, text, rows, claimed, row, out),
     }
 }

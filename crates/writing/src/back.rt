@@ -1,6 +1,6 @@
 // Reading back: what was written, in a document of its own, and once more written from there.
+use answers::TextAnswer;
 use document::Verdict;
-use references::Answer;
 
 fn is_arg(item: &[u8]) -> bool {
     slices::starts_at(item, 0, b"<arg")
@@ -47,8 +47,8 @@ fn put_again<'a>(
 ) -> usize {
     let mut again = [0u8; 65536];
     match writers::write(document, text, rows, count, row_of(item), &mut again) {
-        Answer::Refused(_, _) => output::put_bytes(out, n, b" differs"),
-        Answer::Done(k) => {
+        TextAnswer::Refused(_, _) => output::put_bytes(out, n, b" differs"),
+        TextAnswer::Done(k) => {
             if slices::equal(output::front(&again, k), item) {
                 return output::put_bytes(out, n, b" same");
             }

@@ -1,5 +1,5 @@
 // Writing a row: what the writer answers, the bytes, and what they are read back as.
-use references::Answer;
+use answers::TextAnswer;
 
 // What is asked for: a row of so many claimed ones, in so much room.
 pub struct Asked {
@@ -25,13 +25,13 @@ fn put_done(out: &mut [u8], n: usize, item: &[u8], k: usize) -> usize {
     crate::back::put_back(out, h, output::front(item, k))
 }
 
-fn put_answer(out: &mut [u8], n: usize, item: &[u8], answer: Answer) -> usize {
+fn put_answer(out: &mut [u8], n: usize, item: &[u8], answer: TextAnswer) -> usize {
     match answer {
-        Answer::Refused(number, place) => {
+        TextAnswer::Refused(number, place) => {
             let m = output::put_refused(out, n, number, place);
             put_tail(out, m, item, 0)
         }
-        Answer::Done(k) => put_done(out, n, item, k),
+        TextAnswer::Done(k) => put_done(out, n, item, k),
     }
 }
 
