@@ -1,4 +1,4 @@
--- Tests in definitions, the lengths of runs, and the numbers of faults.
+-- The lengths of runs, and the numbers of faults.
 -- Assumes nothing.
 use Prim.Native.Nat.{ℕ, suc, _+_, _<_}
 use mathlib.Core.Path.{_≡_, refl}
@@ -13,11 +13,6 @@ use Rattle.bounds.specs.Bounds.{faults}
 -- the number of a fault met while reading
 abbrev pub Number : ℕ → Type 0
 Number n = among n faults ≡ true
-
--- what holds of both ways of a test
-pub either : {A : Type 0} (P : A → Type 0) (t : Bool) {x y : A} → (t ≡ true → P x) → (t ≡ false → P y) → P (if t x y)
-either P true f g = f refl
-either P false f g = g refl
 
 -- a run and what follows it are the whole
 pub span-past : (p : ℕ → Bool) (l : List ℕ) → length (span p l) + length (past p l) ≡ length l

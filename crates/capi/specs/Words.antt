@@ -1,6 +1,7 @@
 -- The words of each answer, in the order of include/introspection.h.
 -- Assumes nothing.
 use Prim.Native.Nat.{ℕ}
+use mathlib.Core.Path.{_≡_}
 use mathlib.Core.List.{List, [], _∷_}
 use mathlib.Core.Bool.{Bool}
 use Rattle.slices.specs.Bytes.{if}
@@ -11,7 +12,7 @@ use Rattle.answers.specs.declared.TextAnswer.{TextAnswer}
 use Rattle.answers.specs.declared.TextAnswer.the-variants as answer
 use Rattle.document.specs.Tags.{Shown}
 use Rattle.document.specs.Reading.{State}
-use Rattle.document.specs.Whole.{verdictOf}
+use Rattle.document.specs.Whole.{Room, read, verdictOf, rowsLeft, warningsLeft, textLeft}
 use Rattle.document.specs.declared.Verdict.{Verdict}
 use Rattle.document.specs.declared.Verdict.the-variants as verdict
 
@@ -28,6 +29,13 @@ answerWords (answer.Done n) = 0 ∷ 0 ∷ n ∷ []
 -- of a document that was read; the number is 0 for those accepted alone, since every other number is more than 0 (crate bounds)
 abbrev pub readWords : State Shown → List ℕ
 readWords s = verdictWords (verdictOf s)
+
+-- what `introspection_read` answers for a document and the room lent, and what it leaves in the buffers
+pub record Reads (doc : List ℕ) (room : Room) (rows warnings text answer : List ℕ) : Type 0 where
+  pub words : answer ≡ readWords (read doc room)
+  pub rows-left : rows ≡ rowsLeft room (read doc room)
+  pub warnings-left : warnings ≡ warningsLeft room (read doc room)
+  pub text-left : text ≡ textLeft room (read doc room)
 
 -- of a text that was made
 abbrev pub textWords : Text → List ℕ

@@ -7,10 +7,9 @@ ghost use lib.ListN.{length};
 ghost use Rattle.tables.specs.declared.Triple.{Triple};
 ghost use Rattle.answers.specs.Text.{leftOf};
 ghost use Rattle.references.specs.Entries.{escaping, unescaping};
-ghost use Rattle.document.specs.Whole.{read, rowsLeft, warningsLeft, textLeft};
+ghost use Rattle.document.specs.Whole.{roomOf};
 ghost use Rattle.items.specs.Writing.{writing};
-ghost use Rattle.reader.specs.Entry.{room};
-ghost use Rattle.capi.specs.Words.{verdictWords, answerWords, partWords, bit, readWords, textWords, lookupWords};
+ghost use Rattle.capi.specs.Words.{verdictWords, answerWords, partWords, bit, Reads, textWords, lookupWords};
 
 fn verdict_words(v: Verdict) -> [u64; 5]
     ensures { λ r. ⌜ r ≡ verdictWords v ⌝ }
@@ -56,10 +55,7 @@ pub extern "C" fn introspection_read(
     text: &mut [u8],
     answer: &mut [u64; 5],
 )
-    ensures answer { λ _. ⌜ now (answer .exit) ≡ readWords (read (now (document .entry)) (room (length (now (rows .entry))) (length (now (warnings .entry))) (length (now (text .entry))))) ⌝ }
-    ensures rows { λ _. ⌜ now (rows .exit) ≡ rowsLeft (room (length (now (rows .entry))) (length (now (warnings .entry))) (length (now (text .entry)))) (read (now (document .entry)) (room (length (now (rows .entry))) (length (now (warnings .entry))) (length (now (text .entry))))) ⌝ }
-    ensures warnings { λ _. ⌜ now (warnings .exit) ≡ warningsLeft (room (length (now (rows .entry))) (length (now (warnings .entry))) (length (now (text .entry)))) (read (now (document .entry)) (room (length (now (rows .entry))) (length (now (warnings .entry))) (length (now (text .entry))))) ⌝ }
-    ensures text { λ _. ⌜ now (text .exit) ≡ textLeft (room (length (now (rows .entry))) (length (now (warnings .entry))) (length (now (text .entry)))) (read (now (document .entry)) (room (length (now (rows .entry))) (length (now (warnings .entry))) (length (now (text .entry))))) ⌝ }
+    ensures { λ _. ⌜ Reads (now (document .entry)) (roomOf (now (rows .entry)) (now (warnings .entry)) (now (text .entry))) (now (rows .exit)) (now (warnings .exit)) (now (text .exit)) (now (answer .exit)) ⌝ }
 {
     let v = reader::parse_with_warnings(document, rows, warnings, text);
     *answer = verdict_words(v);

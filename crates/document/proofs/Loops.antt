@@ -1,11 +1,11 @@
 -- The loop over the children of an element: what it has read so far, and what each way of a turn makes of that.
 -- Assumes nothing.
-use Prim.Native.Nat.{ℕ, suc, _+_, _-_, _*_, _≤_, _<_}
-use mathlib.Core.Path.{_≡_, refl, sym, _∙_, ap}
+use Prim.Native.Nat.{ℕ, _+_, _-_, _≤_, _<_}
+use mathlib.Core.Path.{_≡_, refl, sym, _∙_}
 use mathlib.Core.List.{List, [], _∷_}
 use mathlib.Core.Bool.{Bool, true, false, not, _&&_}
 use borrow.Author.Needs.{needs}
-use borrow.Author.Tests.{eq-eqb, ne-eqb}
+use borrow.Author.Tests.{ne-eqb}
 use native.Mathlib.Numerals.{add-one}
 use native.Mathlib.Omega.{arith}
 use lib.Dec.{eqb}
@@ -16,8 +16,8 @@ use Rattle.document.specs.Tags.{Shown}
 use Rattle.document.specs.Tokens.{Tag}
 use Rattle.document.specs.Rows.{Row, Tables}
 use Rattle.document.specs.Elements.{kindOf, heldBy, mayHold, among}
-use Rattle.document.specs.Reading.{Frame, element, State, reading, refused, closed, started, child, noted, begins, unsupported, docstringIn}
-use Rattle.document.specs.Outcome.{Lent, lent, Stands, Bounded, Ready, TagIs, TagFits, Steps, Leads, Ends, Onward, Begins, Ignores, Captures, Others, Child, Children, runs, whole}
+use Rattle.document.specs.Reading.{Frame, element, State, reading, child, noted, begins, unsupported}
+use Rattle.document.specs.Outcome.{Lent, lent, Stands, Bounded, Ready, Steps, Ends, Begins, Ignores, Captures, Others, Child, Children, runs, whole}
 use Rattle.document.specs.declared.StartTag.{StartTag}
 use Rattle.document.specs.declared.Fill.{Fill}
 use Rattle.document.specs.declared.Refusal.{Refusal}
@@ -30,6 +30,10 @@ moved f at = record { at = at; rows = f .rows; warnings = f .warnings; text = f 
 
 pub moved-stands : {u : Tables Shown} {b : Lent} {f : Fill} (at : ℕ) → Stands u b f → Stands u b (moved f at)
 moved-stands at s = record { rows = s .rows; many = s .many; warnings = s .warnings; text = s .text }
+
+-- the name of a tag lies in the document
+pub name-inside : {doc : List ℕ} {c : StartTag} {f : Fill} → Ready doc c f → c .at + c .len ≤ length doc
+name-inside r = omega (arith, r .fits .inside, r .fits .within)
 
 -- a loop over an element with row i that began with f₀ and b₀ came to f and b
 pub record Sofar (doc hs : List ℕ) (docs : Bool) (at len i : ℕ) (f₀ : Fill) (b₀ : Lent) (f : Fill) (b : Lent) : Type 0 where
@@ -131,9 +135,6 @@ module _ {doc hs : List ℕ} {docs : Bool} {at len i : ℕ} {f₀ : Fill} {b₀ 
 pub ruleset loops = (loop-begins, loop-fault, loop-close, loop-ready, loop-child-fault, loop-child, loop-less, needs)
 
 -- a child: a docstring, an element that may stand here, or any other
-among-none : (c : ℕ) → among c [] ≡ false
-among-none c = refl
-
 pub among-not : (c x : ℕ) (xs : List ℕ) → (c ≡ x → ⊥) → among c xs ≡ false → among c (x ∷ xs) ≡ false
 among-not c x xs n e = rw (ne-eqb c x n) e
 
@@ -146,7 +147,7 @@ none-of m e = go (eqb m 10) (eqb m 12) (eqb m 14) e
     go false false true e = (cc, cc, cc)
     go false false false e = (refl, refl, refl)
 
-rows-kept : (i n : ℕ) (v u : List (Row Shown)) → i ≤ n → take n v ≡ u → take i v ≡ take i u
+pub rows-kept : (i n : ℕ) (v u : List (Row Shown)) → i ≤ n → take n v ≡ u → take i v ≡ take i u
 rows-kept i n v u h e = rw (← e) (sym (take-take i n v h))
 
 -- an answer that leaves the first n rows leaves the first i of them

@@ -1,21 +1,19 @@
 -- From the row of an element to the whole element: refused, closed by its own tag, or with children.
 -- Assumes nothing.
-use Prim.Native.Nat.{ℕ, suc, _+_, _≤_, _<_}
+use Prim.Native.Nat.{ℕ, _<_}
 use mathlib.Core.Path.{_≡_, refl, sym, _∙_, ap}
-use mathlib.Core.List.{List, [], _∷_, _++_}
-use mathlib.Core.Bool.{Bool, true, false, not, _&&_}
+use mathlib.Core.List.{List, [], _∷_}
+use mathlib.Core.Bool.{true, false, not}
 use borrow.Author.Needs.{needs}
-use borrow.Author.Tests.{eqb-true}
 use native.Mathlib.Omega.{arith}
 use lib.Dec.{eqb}
 use lib.ListN.{length, take, drop}
-use lib.Seq.{take-at, take-take}
-use Rattle.slices.specs.Bytes.{if}
+use lib.Seq.{take-at}
 use Rattle.document.specs.Tags.{Shown}
 use Rattle.document.specs.Tokens.{Tag}
 use Rattle.document.specs.Rows.{Row, Tables}
-use Rattle.document.specs.Elements.{heldBy, among, opens, refuses, opensAs}
-use Rattle.document.specs.Reading.{Frame, element, State, reading, refused, parentOf, closed, withRow, frameOf, noted, entered, begins}
+use Rattle.document.specs.Elements.{heldBy, among}
+use Rattle.document.specs.Reading.{Frame, element, State, reading, parentOf, closed, withRow, noted, entered, begins}
 use Rattle.document.specs.Outcome.{Lent, lent, Stands, Bounded, TagIs, Ends, Onward, Begins, Opening, Children, runs, whole}
 use Rattle.document.specs.declared.StartTag.{StartTag}
 use Rattle.document.specs.declared.Fill.{Fill}

@@ -15,7 +15,7 @@ use Rattle.document.specs.declared.StartTag.{StartTag}
 use Rattle.document.specs.declared.Fill.{Fill}
 use Rattle.document.specs.declared.Answer.{Answer}
 use Rattle.document.specs.declared.Next.{Next}
-use Rattle.document.proofs.Loops.{Sofar, moved, loops, loop-less, child-bare, child-begins, child-other, among-not}
+use Rattle.document.proofs.Loops.{Sofar, moved, loops, loop-less, child-bare, child-begins, child-other, among-not, name-inside}
 use Rattle.document.proofs.Openings.{openings, opening-closes, opening-children}
 use Rattle.elements.proofs.Rows.{method-kind, signal-kind}
 use Rattle.members.specs.Kinds.{MemberKind}
@@ -26,11 +26,7 @@ bare-less s t q h e = loop-less s t q (child-bare (s .owner) h) e
 
 pub ruleset bares = (bare-less, child-bare, loops)
 
--- the name of a tag lies in the document
-pub tag-inside : {doc : List ℕ} {c : StartTag} {f : Fill} → Ready doc c f → c .at + c .len ≤ length doc
-tag-inside r = omega (arith, r .fits .inside, r .fits .within)
-
-pub ruleset elements = (tag-inside, openings)
+pub ruleset elements = (name-inside, openings)
 
 -- what holds of these kinds holds of the same by another name
 same-held : {doc hs hs′ : List ℕ} {docs docs′ : Bool} {at len i : ℕ} {f : Fill} {b b′ : Lent} {r : Answer} → hs′ ≡ hs → docs′ ≡ docs → Children doc hs docs at len i f b b′ r → Children doc hs′ docs′ at len i f b b′ r

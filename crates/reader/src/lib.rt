@@ -14,8 +14,8 @@ ghost use Prim.Native.Nat.{_+_, _*_, _≤_, _<_};
 ghost use lib.ListN.{length, take, drop};
 ghost use Rattle.scan.specs.Classes.{Classes};
 ghost use Rattle.document.specs.Outcome.{lent, Ready, Sound, TagFits, Child};
-ghost use Rattle.document.specs.Whole.{read, verdictOf, rowsLeft, warningsLeft, textLeft};
-ghost use Rattle.reader.specs.Entry.{room, Says, Ended, Refuses, HasRoom, Accepts};
+ghost use Rattle.document.specs.Whole.{roomOf, Says};
+ghost use Rattle.reader.specs.Entry.{Ended, Refuses, HasRoom, Accepts};
 ghost use Rattle.reader.specs.Nodes.{Walking, Turns, Opens, Looks, NextIn, Shuts, ChildIn, Started, Begun, Walks, Levels, RootOpen, ReadsRoot, ReadsWhole, moved};
 
 // How many nodes are open, the place and length of the name of one that is open in the root, and the counts so far.
@@ -383,7 +383,7 @@ fn has_room(rows: usize, warnings: usize, text: usize, f: Fill) -> bool
 // The verdict on a document that has been read, and the buffers that go with it.
 fn finish(doc: &[u8], rows: &mut [u32], warnings: &mut [u32], text: &mut [u8], a: Answer) -> Verdict
     requires { ⌜ Ended (now doc) (now rows) (now warnings) (now text) a ⌝ }
-    ensures { λ r. ⌜ Says (now (doc .entry)) (length (now (rows .entry))) (length (now (warnings .entry))) (length (now (text .entry))) (now (rows .exit)) (now (warnings .exit)) (now (text .exit)) r ⌝ }
+    ensures { λ r. ⌜ Says (now (doc .entry)) (roomOf (now (rows .entry)) (now (warnings .entry)) (now (text .entry))) (now (rows .exit)) (now (warnings .exit)) (now (text .exit)) r ⌝ }
 {
     match a {
         Answer::Fault(refusal) => refuse(rows, warnings, text, refusal),
@@ -407,10 +407,7 @@ pub fn parse_with_warnings(
     warnings: &mut [u32],
     text: &mut [u8],
 ) -> Verdict
-    ensures verdict { λ r. ⌜ r ≡ verdictOf (read (now (document .entry)) (room (length (now (rows .entry))) (length (now (warnings .entry))) (length (now (text .entry))))) ⌝ }
-    ensures rows { λ r. ⌜ now (rows .exit) ≡ rowsLeft (room (length (now (rows .entry))) (length (now (warnings .entry))) (length (now (text .entry)))) (read (now (document .entry)) (room (length (now (rows .entry))) (length (now (warnings .entry))) (length (now (text .entry))))) ⌝ }
-    ensures warnings { λ r. ⌜ now (warnings .exit) ≡ warningsLeft (room (length (now (rows .entry))) (length (now (warnings .entry))) (length (now (text .entry)))) (read (now (document .entry)) (room (length (now (rows .entry))) (length (now (warnings .entry))) (length (now (text .entry))))) ⌝ }
-    ensures text { λ r. ⌜ now (text .exit) ≡ textLeft (room (length (now (rows .entry))) (length (now (warnings .entry))) (length (now (text .entry)))) (read (now (document .entry)) (room (length (now (rows .entry))) (length (now (warnings .entry))) (length (now (text .entry))))) ⌝ }
+    ensures { λ r. ⌜ Says (now (document .entry)) (roomOf (now (rows .entry)) (now (warnings .entry)) (now (text .entry))) (now (rows .exit)) (now (warnings .exit)) (now (text .exit)) r ⌝ }
 {
     if 1048576 < document.len() {
         let long = Refusal {
@@ -433,7 +430,7 @@ pub fn parse_with_warnings(
 // The same for a document within the limit that is UTF-8.
 fn read_sound(doc: &[u8], rows: &mut [u32], warnings: &mut [u32], text: &mut [u8]) -> Verdict
     requires { ⌜ Sound (now doc) ⌝ }
-    ensures { λ r. ⌜ Says (now (doc .entry)) (length (now (rows .entry))) (length (now (warnings .entry))) (length (now (text .entry))) (now (rows .exit)) (now (warnings .exit)) (now (text .exit)) r ⌝ }
+    ensures { λ r. ⌜ Says (now (doc .entry)) (roomOf (now (rows .entry)) (now (warnings .entry)) (now (text .entry))) (now (rows .exit)) (now (warnings .exit)) (now (text .exit)) r ⌝ }
 {
     let classes = scan::classes();
     let a = document_node(doc, &classes, rows, warnings, text);

@@ -21,6 +21,7 @@ use Rattle.document.specs.Elements.{among, mayHold}
 use Rattle.items.specs.Words.{RowWords, absent, rowsOf, shownBy, viewed, rowsShown}
 use Rattle.items.specs.Sound.{Use, nameUse, valueUse, tpUse, docUse, validName, validValue, validWord, anyText, inDocument, placed, kindAt, goodTriple, soundRow, firstBad, judged, sound, unsound, soundness}
 use Rattle.items.specs.Written.{Arg, Item, annotated, argument, method, signal}
+use Rattle.items.proofs.Rows.{length-rowsOf}
 use Rattle.items.specs.Content.{Row, present, childOf, annotationOf, annotations, argOf, args, memberOf, itemOf, firstItem, content, contentAt}
 use Rattle.roundtrip.specs.Items.{noteValues, nameValues, argValues, argsValues, memberValues, values}
 use Rattle.roundtrip.proofs.Items.{Signed, Good, kind}
@@ -40,10 +41,6 @@ module _ (document text : List ℕ) (rows : List RowWords) where
       go true e h f = (e, f (omega arith))
       go false e h f = absurd (omega arith)
 
-length-rows : (n : ℕ) (ws : List ℕ) → length (rowsOf n ws) ≡ n
-length-rows zero ws = refl
-length-rows (suc n) ws = ap suc (length-rows n (drop 16 ws))
-
 -- a test that did not end in `unsound`
 passed : (b : Bool) (p : ℕ) (r : _) → if b (unsound p) r ≡ sound → (b ≡ false) × (r ≡ sound)
 passed true p r e = let z : _≡_ {A = ℕ} 0 1 = cc in absurd (omega arith)
@@ -56,7 +53,7 @@ each-sound document text ws n e =
     let x = passed (ltb 262144 n) 262144 (if (ltb (length ws / 16) n) (unsound (length ws / 16)) (judged n bad)) e in
     let y = passed (ltb (length ws / 16) n) (length ws / 16) (judged n bad) (x .1) in
     let z = passed (ltb bad n) bad sound (y .1) in
-    none-bad document text (rowsOf n ws) 0 (rowsOf n ws) (omega (arith, ltb-false bad n (z .0), length-rows n ws))
+    none-bad document text (rowsOf n ws) 0 (rowsOf n ws) (omega (arith, ltb-false bad n (z .0), length-rowsOf n ws))
 
 -- ---- what a sound row shows
 

@@ -29,11 +29,11 @@ use Rattle.document.specs.declared.StartTag.{StartTag}
 use Rattle.document.specs.declared.Fill.{Fill}
 use Rattle.document.specs.declared.Answer.{Answer}
 use Rattle.document.specs.declared.Passed.{Passed}
-use Rattle.document.proofs.Loops.{moved, moved-stands}
+use Rattle.document.proofs.Loops.{moved, moved-stands, name-inside}
 use Rattle.rows.proofs.Tables.{docstring-put}
 use Rattle.rows.proofs.Words.{take-documented}
 use Rattle.skip.specs.Outcome.{Puts}
-use Rattle.skip.proofs.Skipped.{skip-within, skip-named, skip-small}
+use Rattle.skip.proofs.Skipped.{skip-within, skip-small}
 
 -- the content between two places, and the trimmed part of it
 module _ (doc : List ℕ) (from lt : ℕ) (h : from ≤ lt) (l : lt ≤ length doc) (m : length doc ≤ 1048576) where
@@ -142,4 +142,4 @@ module _ {doc : List ℕ} {c : StartTag} {f : Fill} (r : Ready doc c f) where
 pub owner-small : {doc : List ℕ} {c : StartTag} {f : Fill} → Ready doc c f → (i : ℕ) → i < f .rows → i < 1048576
 owner-small r i h = omega (arith, r .few, r .sound .small, r .fits .inside, r .fits .within)
 
-pub ruleset documents = (skip-within, skip-named, skip-small, captured-self, captured-fault, captured-from, captured-inside, captured-formed, captured-closed, owner-small, needs)
+pub ruleset documents = (skip-within, name-inside, skip-small, captured-self, captured-fault, captured-from, captured-inside, captured-formed, captured-closed, owner-small, needs)

@@ -18,7 +18,7 @@ use Rattle.document.specs.declared.StartTag.{StartTag}
 use Rattle.document.specs.declared.Fill.{Fill}
 use Rattle.document.specs.declared.Answer.{Answer}
 use Rattle.document.specs.declared.Passed.{Passed}
-use Rattle.document.proofs.Loops.{moved, moved-stands}
+use Rattle.document.proofs.Loops.{moved, moved-stands, name-inside}
 use Rattle.rows.specs.Outcome.{WarningPut, WarningFits}
 
 -- the counts after a start tag are small enough for its warning
@@ -32,9 +32,6 @@ warning-fits r = record {
 
 pub skip-within : {doc : List ℕ} {c : StartTag} {f : Fill} → Ready doc c f → c .end ≤ length doc
 skip-within r = r .fits .within
-
-pub skip-named : {doc : List ℕ} {c : StartTag} {f : Fill} → Ready doc c f → c .at + c .len ≤ length doc
-skip-named r = omega (arith, r .fits .inside, r .fits .within)
 
 pub skip-small : {doc : List ℕ} {c : StartTag} {f : Fill} → Ready doc c f → length doc ≤ 1048576
 skip-small r = r .sound .small
@@ -97,4 +94,4 @@ module _ {doc : List ℕ} {c : StartTag} {f g : Fill} {w w′ : List ℕ} (r : R
           );
         }
 
-pub ruleset skips = (warning-fits, skip-within, skip-named, skip-small, skipped-self, skipped-fault, skipped-closed, needs)
+pub ruleset skips = (warning-fits, skip-within, name-inside, skip-small, skipped-self, skipped-fault, skipped-closed, needs)

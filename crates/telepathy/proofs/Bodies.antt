@@ -9,7 +9,6 @@ use native.Mathlib.Numerals.{add-one}
 use native.Mathlib.Omega.{arith}
 use lib.Dec.{eqb}
 use lib.ListN.{length, take, drop}
-use lib.Seq.{take-take}
 use Rattle.slices.specs.Bytes.{if}
 use Rattle.document.specs.Tags.{Shown}
 use Rattle.document.specs.Tokens.{Tag}
@@ -24,7 +23,7 @@ use Rattle.document.specs.declared.StartTag.{StartTag}
 use Rattle.document.specs.declared.Fill.{Fill}
 use Rattle.document.specs.declared.Answer.{Answer}
 use Rattle.document.specs.declared.Next.{Next}
-use Rattle.document.proofs.Loops.{moved, moved-stands}
+use Rattle.document.proofs.Loops.{moved, moved-stands, rows-kept}
 use Rattle.telepathy.specs.Outcome.{DefinitionKind, PartKind, Holds, Unseen, More, Noted, Child, Body, Content, Ends, seen, openAs, noParts}
 use Rattle.telepathy.specs.declared.Parts.{Parts}
 use Rattle.telepathy.specs.declared.Inner.{Inner}
@@ -51,9 +50,6 @@ holds-member {k} {c} h n m = by-definition (λ j. (j ≡ 8 → ⊥) → (j ≡ 9
 pub ruleset holding = (holds-none, holds-enumvalue, holds-member, needs)
 
 -- ---- a part
-
-rows-kept : (i n : ℕ) (v u : List (Row Shown)) → i ≤ n → take n v ≡ u → take i v ≡ take i u
-rows-kept i n v u h e = rw (← e) (sym (take-take i n v h))
 
 -- the part is noted in its definition
 noted-is : {m : ℕ} (k i lt why : ℕ) (n : List ℕ) (t : Tag) (fs : List Frame) (p q : Parts) → PartKind m → seen q ≡ oneMore m t (seen p) → noted m t (definition (openAs k i lt n why p) ∷ fs) ≡ definition (openAs k i lt n why q) ∷ fs

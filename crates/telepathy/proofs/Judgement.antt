@@ -21,6 +21,7 @@ use Rattle.document.specs.declared.StartTag.{StartTag}
 use Rattle.document.specs.declared.Fill.{Fill}
 use Rattle.document.specs.declared.Answer.{Answer}
 use Rattle.document.proofs.Openings.{opening-fault}
+use Rattle.document.proofs.Loops.{name-inside}
 use Rattle.rows.specs.Outcome.{WarningPut, WarningFits}
 use Rattle.rows.proofs.Tables.{cut-to}
 use Rattle.elements.specs.Outcome.{TypedKind, UntypedKind}
@@ -139,7 +140,7 @@ pub judging-owner : {doc : List ℕ} {c : StartTag} {f g : Fill} → Judging doc
 judging-owner j = j .owner
 
 pub judging-named : {doc : List ℕ} {c : StartTag} {f g : Fill} → Judging doc c f g → c .at + c .len ≤ length doc
-judging-named j = omega (arith, j .ready .fits .inside, j .ready .fits .within)
+judging-named j = name-inside (j .ready)
 
 pub ruleset rests = (judging-bounds, judging-owner, judging-named, rest-fault, rest-judging, rest-done, needs)
 

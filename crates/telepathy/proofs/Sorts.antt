@@ -22,7 +22,7 @@ use Rattle.document.specs.declared.Fill.{Fill}
 use Rattle.document.specs.declared.Answer.{Answer}
 use Rattle.document.specs.declared.Next.{Next}
 use Rattle.document.proofs.Openings.{definitions, opening-fault, opening-bounds, opening-owner}
-use Rattle.document.proofs.Loops.{Sofar, moved, loop-begins, loop-fault, loop-close, loop-ready, loop-child-fault, loop-child, loop-less, child-other}
+use Rattle.document.proofs.Loops.{Sofar, moved, loop-begins, loop-fault, loop-close, loop-ready, loop-child-fault, loop-child, loop-less, child-other, name-inside}
 use Rattle.telepathy.specs.Outcome.{DefinitionKind, PartKind, PartContent}
 
 -- what holds of 10 and 12 holds of the kind of a part
@@ -146,7 +146,4 @@ part-done {doc} {c} {f = f} {g = g} {b} {r} o e l =
 pub part-parent : {doc : List ℕ} {c : StartTag} {f : Fill} {i : ℕ} → Ready doc c f → i < f .rows → i + 1 ≤ 1048576
 part-parent r h = omega (arith, r .few, r .sound .small, r .fits .inside, r .fits .within)
 
-pub part-named : {doc : List ℕ} {c : StartTag} {f : Fill} → Ready doc c f → c .at + c .len ≤ length doc
-part-named r = omega (arith, r .fits .inside, r .fits .within)
-
-pub ruleset openings = (part-parent, part-named, opening-fault, opening-bounds, opening-owner, part-done, needs)
+pub ruleset openings = (part-parent, name-inside, opening-fault, opening-bounds, opening-owner, part-done, needs)

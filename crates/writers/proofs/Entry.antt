@@ -14,7 +14,7 @@ use lib.Seq.{getD-drop}
 use Rattle.slices.specs.Bytes.{if, bytes}
 use Rattle.tables.proofs.Tables.{empty-stands}
 use Rattle.scan.specs.Classes.{Classes}
-use Rattle.answers.specs.Text.{Text, text, wrong, Says, answerOf, leftOf, Finishes}
+use Rattle.answers.specs.Text.{Text, text, wrong, Says, Finishes}
 use Rattle.answers.specs.Puts.{Puts}
 use Rattle.answers.specs.declared.TextAnswer.{TextAnswer}
 use Rattle.document.specs.Elements.{among}
@@ -25,11 +25,11 @@ use Rattle.items.specs.Words.{rowOf, rowsOf, viewed, rowsShown}
 use Rattle.items.specs.Sound.{sound, unsound, soundness}
 use Rattle.items.specs.Written.{Item, annotated, argument, method, signal, written, writtenMember}
 use Rattle.items.specs.Content.{Row, annotationOf, argOf, memberOf, itemOf, firstItem, content, contentAt}
-use Rattle.items.specs.Writing.{itemWritten, writing}
+use Rattle.items.specs.Writing.{itemWritten, writing, Writes}
 use Rattle.items.proofs.Rows.{row-at, length-rowsOf, sound-claimed, sound-held, sound-parent}
 use Rattle.writers.specs.Rows.{Word, wordAt, rowAt, Held, Last}
 use Rattle.writers.specs.Writes.{annotationAt, AnnotationPut, Scannable, ArgPut, tagOf, MemberScannable, MemberPut, Writable, ItemPut}
-use Rattle.writers.specs.Entry.{Admitted, WritesSound, Writes}
+use Rattle.writers.specs.Entry.{Admitted, WritesSound}
 use Rattle.writers.proofs.Scans.{last-all}
 use Rattle.writers.proofs.Texts.{puts-as}
 use Rattle.writers.proofs.Members.{member-row, member-classes, member-held, member-within}
@@ -213,8 +213,5 @@ module _ {d x ws t′ : List ℕ} {n i room : ℕ} {r : TextAnswer} where
 
 pub admits : {d x ws : List ℕ} {n : ℕ} {z : Soundness} → length d ≤ 1048576 → length x ≤ 1048576 → Judges d x ws n z → z ≡ Soundness.Sound → Admitted d x ws n
 admits h k g e = record { document = h; text = k; rows = judged-sound g e }
-
-pub answered : (d x ws : List ℕ) (n i room : ℕ) (t : List ℕ) (r : TextAnswer) → Writes d x ws n i room t r → (r ≡ answerOf (writing d x ws n i room)) × (t ≡ leftOf room (writing d x ws n i room))
-answered d x ws n i room t r w = (w .says .answer, w .says .left)
 
 pub ruleset entry = (long-document, long-text, not-sound, is-sound, admits, needs)

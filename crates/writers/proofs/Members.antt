@@ -21,7 +21,8 @@ use Rattle.items.proofs.Rows.{length-rowsOf}
 use Rattle.items.specs.Words.{RowWords, rowOf, rowsOf, tripleAt, viewed, rowsShown}
 use Rattle.items.specs.Written.{Annotation, Arg, Member, Pair, pair, pairs, named, tag, closingTag, concat, element, writtenAnnotation, writtenArg, writtenMember}
 use Rattle.items.specs.Content.{Row, childOf, annotations, argOf, args, memberOf}
-use Rattle.writers.specs.Rows.{wordAt, wordsIn, rowAt, rowsIn, isChild, anyChild, Child, SomeChildren, Held, RowHeld, Last, InOrder, Ordered, Orders, ChildOf}
+use Rattle.items.specs.Order.{InOrder}
+use Rattle.writers.specs.Rows.{wordAt, wordsIn, rowAt, rowsIn, isChild, anyChild, Child, SomeChildren, Held, RowHeld, Last, Ordered, Orders, ChildOf}
 use Rattle.writers.specs.Writes.{Puttable, ShownPut, Scannable, annotationsIn, AnnotationsPut, ArgPut, ifArg, IfArgPut, Room, ArgsScannable, Turn, argsIn, NotesScannable, Inside, tagOf, MemberTagPut, MemberEndPut, MemberScannable, ChildrenPut, MemberPut}
 use Rattle.writers.proofs.Scans.{last-all}
 use Rattle.writers.proofs.Texts.{puts-as, present-shown, shown-one}

@@ -14,7 +14,8 @@ use lib.Seq.{drop-drop, getD-drop}
 use Rattle.slices.specs.Bytes.{if}
 use Rattle.items.specs.Words.{RowWords, rowOf, rowsOf}
 use Rattle.items.proofs.Rows.{both-true}
-use Rattle.writers.specs.Rows.{Word, wordAt, Absent, wordsIn, Held, isChild, anyChild, Child, SomeChild, SomeChildren, strays, Stray, NextChild, InOrder, Ordered, ChildOf, Last}
+use Rattle.items.specs.Order.{InOrder}
+use Rattle.writers.specs.Rows.{Word, wordAt, Absent, wordsIn, Held, isChild, anyChild, Child, SomeChild, SomeChildren, strays, Stray, NextChild, Ordered, ChildOf, Last}
 
 -- the words of a triple
 module _ {ws : List ℕ} {i a : ℕ} (k : ℕ) where

@@ -9,6 +9,7 @@ use lib.ListN.{length, drop, getD}
 use Rattle.slices.specs.Bytes.{if}
 use Rattle.items.specs.Words.{RowWords, tripleAt, absent, rowOf, rowsOf, viewed, rowsShown}
 use Rattle.items.specs.Content.{Row}
+use Rattle.items.specs.Order.{InOrder}
 
 -- word k of row i
 abbrev pub wordAt : List ℕ → ℕ → ℕ → ℕ
@@ -78,19 +79,7 @@ pub record Last (ws : List ℕ) (n i r : ℕ) : Type 0 where
   pub within : r ≤ n
   pub none : (k : ℕ) → r ≤ k → k < n → wordAt ws k 1 ≡ suc i → ⊥
 
--- among n rows, what stands in a child of row i stands before the next child
-abbrev pub InOrder : List ℕ → ℕ → ℕ → Type 0
-InOrder ws n i =
-    (j m k : ℕ) →
-    i < j →
-    j < m →
-    m ≤ k →
-    k < n →
-    wordAt ws j 1 ≡ suc i →
-    wordAt ws m 1 ≡ suc i →
-    wordAt ws k 1 ≡ suc j →
-    ⊥
-
+-- whether the children of row i are in order
 pub record Ordered (ws : List ℕ) (n i : ℕ) (r : Bool) : Type 0 where
   pub is : r ≡ true → InOrder ws n i
   pub exact : InOrder ws n i → r ≡ true

@@ -4,9 +4,8 @@ ghost use mathlib.Core.Path.{_≡_};
 ghost use mathlib.Core.Bool.{true};
 ghost use lib.ListN.{length};
 ghost use Rattle.scan.specs.Classes.{Classes};
-ghost use Rattle.answers.specs.Text.{answerOf, leftOf};
 ghost use Rattle.items.specs.Written.{optional};
-ghost use Rattle.items.specs.Writing.{writing};
+ghost use Rattle.items.specs.Writing.{Writes};
 ghost use Rattle.writers.specs.Rows.{Word, RowHeld};
 ghost use Rattle.writers.specs.Writes.{ShownAt, Puttable, ShownPut, AnnotationPut, IfAnnotationPut, Scannable, AnnotationsPut, Room, PairsPut, nameAt, typeAt, DirectionPut, ArgTagPut, ArgPut, ArgsScannable, Turn, IfArgPut, Inside, argsIn, NotesScannable, annotationsIn, MemberTagPut, MemberEndPut, MemberScannable, ChildrenPut, MemberPut, Writable, ItemPut};
 ghost use Rattle.writers.specs.Entry.{Admitted, WritesSound};
@@ -456,8 +455,7 @@ pub fn write<'a>(
     row: usize,
     out: &mut [u8],
 ) -> TextAnswer
-    ensures answer { λ r. ⌜ r ≡ answerOf (writing (now (document .entry)) (now (text .entry)) (now (rows .entry)) claimed row (length (now (out .entry)))) ⌝ }
-    ensures left { λ r. ⌜ now (out .exit) ≡ leftOf (length (now (out .entry))) (writing (now (document .entry)) (now (text .entry)) (now (rows .entry)) claimed row (length (now (out .entry)))) ⌝ }
+    ensures { λ r. ⌜ Writes (now (document .entry)) (now (text .entry)) (now (rows .entry)) claimed row (length (now (out .entry))) (now (out .exit)) r ⌝ }
 {
     if 1048576 < document.len() {
         return answers::refuse(out, 2, 1048576);
