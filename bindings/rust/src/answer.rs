@@ -5,9 +5,11 @@ use std::fmt;
 
 use crate::Document;
 
-/// Why a document or a value was refused. The discriminants are the numbers of docs/FORMAT.md.
+/// Why a document or a value was refused. The discriminants are the numbers of docs/FORMAT.md;
+/// later versions may have more.
 #[derive(Clone, Copy, Debug, PartialEq, Eq, Hash)]
 #[repr(u32)]
+#[non_exhaustive]
 pub enum ErrorKind {
     /// Not UTF-8. Place: the first ill-formed sequence.
     NotUtf8 = 1,
@@ -15,7 +17,7 @@ pub enum ErrorKind {
     TooLong = 2,
     /// No root element. Place: the length.
     NoRoot = 3,
-    /// MalformedMarkup markup. Place: docs/FORMAT.md, Answers.
+    /// Malformed markup. Place: docs/FORMAT.md, Answers.
     MalformedMarkup = 4,
     /// An element that is not closed. Place: the length.
     UnclosedElement = 5,
@@ -47,7 +49,7 @@ pub enum ErrorKind {
     NoRoom = 18,
     /// Rows that are not sound. What the reader leaves is, so no caller sees it.
     UnsoundRows = 19,
-    /// A row that cannot be written. Only the types that can be have a writer.
+    /// A row that cannot be written. Only what can be has a writer here, so no caller sees it.
     NotWritable = 20,
     /// An output that is too short. This crate lends enough, so no caller sees it.
     OutputShort = 21,
@@ -80,7 +82,7 @@ const KINDS: [ErrorKind; 21] = [
 ];
 
 impl ErrorKind {
-    /// The number, 1 to 21.
+    /// The number in docs/FORMAT.md.
     pub fn number(self) -> u32 {
         self as u32
     }
@@ -136,12 +138,12 @@ impl Error {
         self.kind
     }
 
-    /// Its number in docs/FORMAT.md, 1 to 21.
+    /// Its number in docs/FORMAT.md.
     pub fn number(&self) -> u32 {
         self.kind.number()
     }
 
-    /// Where: bytes from the start of the document or of the value. It is at most their length.
+    /// Where: bytes from the start of the document or of the value. It is at most its length.
     pub fn place(&self) -> usize {
         self.place
     }
@@ -167,9 +169,11 @@ impl fmt::Display for Error {
 
 impl error::Error for Error {}
 
-/// Why an element was left out. The discriminants are the reasons of docs/FORMAT.md.
+/// Why an element was left out. The discriminants are the reasons of docs/FORMAT.md; later versions
+/// may have more.
 #[derive(Clone, Copy, Debug, PartialEq, Eq, Hash)]
 #[repr(u32)]
+#[non_exhaustive]
 pub enum Reason {
     /// An element that its parent does not hold.
     UnsupportedElement = 1,
@@ -204,7 +208,7 @@ const REASONS: [Reason; 9] = [
 ];
 
 impl Reason {
-    /// The number, 1 to 9.
+    /// The number in docs/FORMAT.md.
     pub fn number(self) -> u32 {
         self as u32
     }
@@ -264,7 +268,7 @@ impl<'d> Warning<'d> {
         self.reason
     }
 
-    /// The reason's number in docs/FORMAT.md, 1 to 9.
+    /// The reason's number in docs/FORMAT.md.
     pub fn number(&self) -> u32 {
         self.reason.number()
     }

@@ -17,7 +17,7 @@ use Rattle.document.specs.Whole.{verdictOf}
 use Rattle.document.specs.declared.Refusal.{Refusal}
 use Rattle.document.specs.declared.Verdict.{Verdict}
 use Rattle.document.specs.declared.Verdict.the-variants as verdict
-use Rattle.capi.specs.Words.{verdictWords, answerWords, readWords, textWords, partWords, lookupWords}
+use Rattle.introspection.specs.Words.{verdictWords, answerWords, readWords, textWords, partWords, lookupWords}
 
 module _ {v : Verdict} where
   pub verdict-refused : {x : Refusal} → v ≡ verdict.Refused x → (x .number ∷ x .place ∷ 0 ∷ 0 ∷ 0 ∷ []) ≡ verdictWords v

@@ -9,7 +9,7 @@ ghost use Rattle.references.specs.Entries.{escaping, unescaping, leftOf};
 ghost use Rattle.document.specs.Whole.{read, rowsLeft, warningsLeft, textLeft};
 ghost use Rattle.items.specs.Writing.{writing};
 ghost use Rattle.reader.specs.Entry.{room};
-ghost use Rattle.capi.specs.Words.{verdictWords, answerWords, partWords, bit, readWords, textWords, lookupWords};
+ghost use Rattle.introspection.specs.Words.{verdictWords, answerWords, partWords, bit, readWords, textWords, lookupWords};
 
 fn verdict_words(v: Verdict) -> [u64; 5]
     ensures { λ r. ⌜ r ≡ verdictWords v ⌝ }
