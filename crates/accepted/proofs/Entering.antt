@@ -19,7 +19,7 @@ use Rattle.accepted.proofs.Entries.{Brief, Complete, due}
 use Rattle.accepted.proofs.Frames.{Placed, Agree, Frames, frames-agree, frames-more}
 
 -- nothing begins in content that is passed over
-none-passing : {X : Type 0} (k : ℕ) → mayHold 0 k ≡ true → X
+pub none-passing : {X : Type 0} (k : ℕ) → mayHold 0 k ≡ true → X
 unfolding mayHold
 none-passing k b = never b
 

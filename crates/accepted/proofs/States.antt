@@ -37,19 +37,19 @@ blank = record { kind = 0; parent = 0; name = none; value = none; tp = none; doc
 unfoldable pub rowAt : List (Row Shown) → ℕ → Brief
 rowAt rs i = brief (getD rs i blank)
 
-at-more : (rs : List (Row Shown)) (r : Row Shown) → Agree (length rs) (rowAt rs) (rowAt (rs ++ r ∷ []))
+pub at-more : (rs : List (Row Shown)) (r : Row Shown) → Agree (length rs) (rowAt rs) (rowAt (rs ++ r ∷ []))
 unfolding rowAt
 at-more rs r i l = ap brief (sym (List·getD-append rs (r ∷ []) blank i l))
 
-at-last : (rs : List (Row Shown)) (r : Row Shown) → rowAt (rs ++ r ∷ []) (length rs) ≡ brief r
+pub at-last : (rs : List (Row Shown)) (r : Row Shown) → rowAt (rs ++ r ∷ []) (length rs) ≡ brief r
 unfolding rowAt
 at-last rs r = ap brief (getD-append-seam rs r [] blank)
 
-at-first : (n : ℕ) (rs : List (Row Shown)) → Agree n (rowAt rs) (rowAt (take n rs))
+pub at-first : (n : ℕ) (rs : List (Row Shown)) → Agree n (rowAt rs) (rowAt (take n rs))
 unfolding rowAt
 at-first n rs i l = ap brief (sym (getD-take n rs i blank l))
 
-at-documented : (i : ℕ) (d : Doc) (rs : List (Row Shown)) (j : ℕ) → rowAt rs j ≡ rowAt (documented i d rs) j
+pub at-documented : (i : ℕ) (d : Doc) (rs : List (Row Shown)) (j : ℕ) → rowAt rs j ≡ rowAt (documented i d rs) j
 unfolding rowAt
 at-documented i d [] j = refl
 at-documented zero d (r ∷ rs) zero = refl
