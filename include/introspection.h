@@ -2,8 +2,7 @@
  * A proved reader and writers of D-Bus introspection XML.
  *
  * Link target/staticlib/libintrospection.a, which `rt staticlib introspection` makes (x86-64 Linux). It needs no library
- * but C's.
- * What is read, and every number and place, is in docs/FORMAT.md; this is what a caller needs of it.
+ * but C's. What is read, and every number and place, is in docs/FORMAT.md; this is what a caller needs of it.
  *
  * Memory. Every buffer is the caller's. A function uses it during the call alone, keeps no pointer, allocates nothing
  * and calls nothing of the program. A buffer is a pointer and a length in elements: bytes for uint8_t, 32-bit words for
@@ -20,10 +19,10 @@
  * 512 kB is enough.
  *
  * Cost. Reading, escaping and unescaping take time in proportion to the bytes read and to the buffers lent, which are
- * cleared; looking up takes the same for every triple. Writing passes over all rows claimed, at each call: so writing
- * every item of a table of n rows costs n passes. In the order that the reader leaves, what comes on top is in
- * proportion to the rows after the item and to the bytes written; where rows stand in another order, it may be the
- * item's args times the rows.
+ * cleared; each attribute of a tag is compared with those before it, at most 255. Looking up takes the same for every
+ * triple. Writing passes over all rows claimed, at each call: so writing every item of a table of n rows costs n
+ * passes. In the order that the reader leaves, what comes on top is in proportion to the rows after the item and to the
+ * bytes written; where rows stand in another order, it may be the item's args times the rows.
  */
 #ifndef INTROSPECTION_H
 #define INTROSPECTION_H

@@ -85,7 +85,7 @@ pub struct Document<'a> {
 }
 
 impl<'a> Document<'a> {
-    /// Reads a document, in time proportional to its length.
+    /// Reads a document, in time that is in proportion to its length.
     ///
     /// ```
     /// use introspection::{Document, ErrorKind};
