@@ -16,7 +16,7 @@ use Rattle.answers.specs.Text.{text}
 use Rattle.references.specs.Unescape.{plain}
 use Rattle.document.specs.Tags.{Shown}
 use Rattle.document.specs.Rows.{Doc, Row, textOf, triple, docTriple, rowText, rowWords}
-use Rattle.rows.proofs.Shown.{unescape-plain}
+use Rattle.references.proofs.Shapes.{unescape-plain}
 use Rattle.items.specs.Words.{RowWords, rowOf, absent, shownBy, docstringBy, viewed}
 use Rattle.items.specs.View.{over, viewRow, textShown}
 use Rattle.accepted.proofs.Tokens.{Held}

@@ -23,8 +23,8 @@ use Rattle.attributes.specs.Lookup.{blank, partIs, nameIs, wanted, first
 use Rattle.attributes.specs.Outcome.{Checkable, attrsOf, References, listed, there, Weighs, Judges, Checks}
 use Rattle.document.specs.declared.Value.{Value}
 use Rattle.attributes.specs.declared.Attribute.{Attribute}
-use Rattle.attributes.specs.declared.Verdict.{Verdict}
-use Rattle.attributes.specs.declared.Verdict.the-variants.{Fault, Good}
+use Rattle.attributes.specs.declared.AttributeCheck.{AttributeCheck}
+use Rattle.attributes.specs.declared.AttributeCheck.the-variants.{Fault, Good}
 
 -- ---- whether a name came before
 
@@ -107,10 +107,10 @@ module _ {doc : List ℕ} {a : Attribute} (f : Fit doc 0 (length doc) a) where
           go true e = refl
           go false e = absurd (omega arith)
 
-      pub weigh-reference : {v : Verdict} → References doc (a .value) (a .«value_len») v → Weighs doc a before v
+      pub weigh-reference : {v : AttributeCheck} → References doc (a .value) (a .«value_len») v → Weighs doc a before v
       weigh-reference {v} c = go v c
         where
-          go : (v : Verdict) → References doc (a .value) (a .«value_len») v → Weighs doc a before v
+          go : (v : AttributeCheck) → References doc (a .value) (a .«value_len») v → Weighs doc a before v
           go Good c = record { is = (c .is .0, new, c .is .1) }
           go (Fault k p) c = record { is = λ d. rw (new, c .is .1, c .is .2) }
 
@@ -126,7 +126,7 @@ module _ {doc : List ℕ} {xs : List Attribute} {i : ℕ} (h : i < length xs) (g
   pub judge-below : i ≤ length xs
   judge-below = omega arith
 
-  pub judge-is : {v : Value} {r : Verdict} → Picks (wanted doc (getD xs i blank .name) (getD xs i blank .«name_len») false) doc xs i v → Weighs doc (getD xs i blank) v r → Judges doc xs i r
+  pub judge-is : {v : Value} {r : AttributeCheck} → Picks (wanted doc (getD xs i blank .name) (getD xs i blank .«name_len») false) doc xs i v → Weighs doc (getD xs i blank) v r → Judges doc xs i r
   unfolding valueIn
   judge-is {v} {r} p w = record { is = rw (← seen) (w .is) }
     where
@@ -162,7 +162,7 @@ onto-none : (c : Checked) → onto [] c ≡ c
 onto-none (good s) = refl
 onto-none (fault k p) = refl
 
-check-begins : {doc : List ℕ} {xs : List Attribute} {n : ℕ} → n ≤ length xs → Checking doc xs n 0
+pub check-begins : {doc : List ℕ} {xs : List Attribute} {n : ℕ} → n ≤ length xs → Checking doc xs n 0
 check-begins {doc} {xs} {n} h = record { shown = []; left = sym (onto-none (check [] (attrsOf doc xs n))); room = omega arith; within = omega arith }
 
 checkable-to : {doc : List ℕ} {xs : List Attribute} {n i : ℕ} → Checkable doc xs n → i < n → Checkable doc xs (suc i)
@@ -188,7 +188,7 @@ module _ {doc : List ℕ} {xs : List Attribute} {n i : ℕ} (g : Checking doc xs
     check-fault : {k p : ℕ} → Judges doc xs i (Fault k p) → Checks doc xs n (Fault k p)
     check-fault j = record { is = here ∙ rw (member-listed (attrOf doc (getD xs i blank) .name) (attrsOf doc xs i), j .is _) }
 
-    check-more : Judges doc xs i Good → Checking doc xs n (i + 1)
+    pub check-more : Judges doc xs i Good → Checking doc xs n (i + 1)
     check-more j =
         let d = j .is in
         record {

@@ -14,7 +14,7 @@ use Rattle.references.specs.declared.ValuePlace.{ValuePlace}
 use Rattle.references.specs.declared.Checked.{Checked}
 use Rattle.references.specs.declared.Checked.the-variants as checked
 use Rattle.attributes.specs.Outcome.{References}
-use Rattle.attributes.specs.declared.Verdict.the-variants.{Fault, Good}
+use Rattle.attributes.specs.declared.AttributeCheck.the-variants.{Fault, Good}
 
 -- a fault's place
 wrong-before : (s : List ℕ) (t : Text) (n p m : ℕ) → before s t ≡ wrong n p → (t ≡ wrong n p → p < m) → p < m

@@ -17,7 +17,7 @@ pub enum Scan {
 }
 
 // What begins at a `<`: a tag, or what is ignored, and where that ends.
-enum Markup {
+pub enum Markup {
     Tag,
     Ignored(Scan),
 }

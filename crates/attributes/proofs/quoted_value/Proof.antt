@@ -1,11 +1,11 @@
--- `attributes::value_at` meets its contract.
+-- `attributes::quoted_value` meets its contract.
 -- Assumes nothing.
 use Rattle.attributes.proofs.Found.{values}
-use Rattle.attributes.proofs.value_at.Statement.{statement}
-use Rattle.attributes.proofs.value_at.Tie as tie
+use Rattle.attributes.proofs.quoted_value.Statement.{statement}
+use Rattle.attributes.proofs.quoted_value.Tie as tie
 
-pub value-at-spec : {M : Type 1} → statement M
-value-at-spec =
+pub quoted-value-spec : {M : Type 1} → statement M
+quoted-value-spec =
     tie.close
     (tie.spec
     (λ c. search values)
