@@ -160,5 +160,5 @@ ended s h = record { sound = s; ends = h .ends }
 pub ruleset entry = (too-long, not-utf8, is-sound, ended, needs)
 
 -- the buffers had the same room all along
-pub carried : {doc rows warnings text : List ℕ} {v : Verdict} {r w t r′ w′ t′ : List ℕ} → Says doc (roomOf r w t) rows warnings text v → length r ≡ length r′ → length w ≡ length w′ → length t ≡ length t′ → Says doc (roomOf r′ w′ t′) rows warnings text v
+pub carried : {doc rows warnings text : List ℕ} {v : Verdict} {r w t r′ w′ t′ : ℕ} → Says doc (record { rows = r; warnings = w; text = t }) rows warnings text v → r ≡ r′ → w ≡ w′ → t ≡ t′ → Says doc (record { rows = r′; warnings = w′; text = t′ }) rows warnings text v
 carried s a b c = rw (← a, ← b, ← c) s
