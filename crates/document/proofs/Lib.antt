@@ -2,6 +2,7 @@
 -- Assumes nothing.
 pub mod Tests
 pub mod Runs
+pub mod Held
 pub mod Presence
 pub mod Loops
 pub mod Openings

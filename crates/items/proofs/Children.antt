@@ -8,11 +8,12 @@ use mathlib.Core.List.{List, [], _∷_, _++_}
 use mathlib.Core.Bool.{Bool, true, false}
 use lib.ListN.{length}
 use Rattle.slices.specs.Bytes.{if}
-use Rattle.items.specs.Content.{Row, childOf, annotationOf, annotations, argOf, args}
+use Rattle.items.specs.Words.{isChild}
+use Rattle.items.specs.Content.{Row, annotationOf, annotations, argOf, args}
 
 pub annotations-append : (p : ℕ) (l m : List Row) → annotations p (l ++ m) ≡ annotations p l ++ annotations p m
 annotations-append p [] m = refl
-annotations-append p (r ∷ l) m = go (childOf 6 p r) (annotations-append p l m)
+annotations-append p (r ∷ l) m = go (isChild 6 p (r .kind) (r .parent)) (annotations-append p l m)
   where
     go : (b : Bool) → annotations p (l ++ m) ≡ annotations p l ++ annotations p m → if b (annotationOf r ∷ annotations p (l ++ m)) (annotations p (l ++ m)) ≡ if b (annotationOf r ∷ annotations p l) (annotations p l) ++ annotations p m
     go true e = ap (_∷_ (annotationOf r)) e
@@ -22,7 +23,7 @@ pub args-append : (t : List Row) (p i : ℕ) (l m : List Row) → args t p i (l 
 args-append t p i [] m = rw add-zero
 args-append t p i (r ∷ l) m =
     let e : suc i + length l ≡ i + suc (length l) = omega arith in
-    go (childOf 7 p r) (rw e at (args-append t p (suc i) l m))
+    go (isChild 7 p (r .kind) (r .parent)) (rw e at (args-append t p (suc i) l m))
   where
     go : (b : Bool) → args t p (suc i) (l ++ m) ≡ args t p (suc i) l ++ args t p (i + suc (length l)) m → if b (argOf t i r ∷ args t p (suc i) (l ++ m)) (args t p (suc i) (l ++ m)) ≡ if b (argOf t i r ∷ args t p (suc i) l) (args t p (suc i) l) ++ args t p (i + suc (length l)) m
     go true e = ap (_∷_ (argOf t i r)) e

@@ -2,3 +2,4 @@
 -- Assumes nothing.
 pub mod Rows
 pub mod Children
+pub mod Words

@@ -11,7 +11,8 @@ use lib.Dec.{eqb}
 use lib.ListN.{length, length-append}
 use lib.Seq.{drop-append-seam}
 use Rattle.items.specs.Written.{Annotation, Arg, Direction, no-direction, inward, outward, Member, Item, annotated, argument, method, signal}
-use Rattle.items.specs.Content.{Row, childOf, annotations, argOf, args, memberOf, content, direction}
+use Rattle.items.specs.Words.{isChild}
+use Rattle.items.specs.Content.{Row, annotations, argOf, args, memberOf, content, direction}
 use Rattle.items.proofs.Children.{annotations-append, args-append}
 use Rattle.roundtrip.specs.Items.{code, bareRow, annotationRows, argRow, argRows, argsRows, memberRows, rows, nodeRow, interfaceRow}
 
@@ -24,7 +25,7 @@ clear-append : (lo hi : ℕ) (l m : List Row) → Clear lo hi l → Clear lo hi 
 clear-append lo hi [] m h k = k
 clear-append lo hi (r ∷ l) m h k = (h .0, clear-append lo hi l m (h .1) k)
 
-no-child : (k p : ℕ) (r : Row) → (r .parent ≡ p → ⊥) → childOf k p r ≡ false
+no-child : (k p : ℕ) (r : Row) → (r .parent ≡ p → ⊥) → isChild k p (r .kind) (r .parent) ≡ false
 no-child k p r h = rw (ne-eqb (r .parent) p h) (and-false (eqb (r .kind) k))
 
 clear-notes : (lo hi q : ℕ) (l : List Row) → lo < q → q ≤ hi → Clear lo hi l → annotations q l ≡ []
