@@ -10,7 +10,8 @@ use lib.ListN.{length, take, drop, length-drop}
 use lib.Seq.{length-take-le}
 use Rattle.slices.specs.Bytes.{if, all}
 use Rattle.references.specs.Unescape.{plain}
-use Rattle.references.specs.Outcome.{Puts, Shows}
+use Rattle.answers.specs.Puts.{Puts}
+use Rattle.references.specs.Outcome.{Shows}
 use Rattle.document.specs.Tags.{Shown}
 use Rattle.document.specs.Outcome.{Held, Lies, Raw}
 use Rattle.document.specs.declared.Value.{Value}

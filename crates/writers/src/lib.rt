@@ -9,8 +9,8 @@ ghost use Rattle.items.specs.Writing.{Writes};
 ghost use Rattle.writers.specs.Rows.{RowHeld};
 ghost use Rattle.writers.specs.Writes.{ShownAt, Puttable, ShownPut, AnnotationPut, IfAnnotationPut, Scannable, AnnotationsPut, PairsPut, nameAt, typeAt, DirectionPut, ArgTagPut, ArgPut, ArgsScannable, Turn, IfArgPut, argsIn, NotesScannable, annotationsIn, MemberTagPut, MemberEndPut, MemberScannable, ChildrenPut, MemberPut, Writable, ItemPut, CountFits, KindPut};
 ghost use Rattle.writers.specs.Entry.{Admitted, WritesSound};
-use document::kinds;
 use answers::TextAnswer;
+use document::kinds;
 use soundness::Soundness;
 
 mod children;
