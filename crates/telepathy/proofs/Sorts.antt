@@ -130,7 +130,7 @@ part-done {doc} {c} {f = f} {g = g} {b} {r} o e l =
     (l .ends t (noted (c .kind) t fs) (withRow row u) z j))
   where
     inside : (t : Tag) (fs : List Frame) (u : Tables Shown) → length (u .rows) ≡ f .rows → (row : Row Shown) → runs doc (c .end) (entered whole doc (c .kind) t row fs u) ≡ runs doc (g .at) (if (t .self) (closed (noted (c .kind) t fs) (withRow row u)) (reading (element (c .kind) (t .name) (f .rows) ∷ noted (c .kind) t fs) (withRow row u)))
-    inside t fs u n row = rw (opening-end o e, by-part (λ m. among m definitions ≡ false) refl refl (l .kind), by-part (λ m. eqb m 1 ≡ false) refl refl (l .kind), n)
+    inside t fs u n row = rw (opening-end o e, by-part (λ m. among m kinds.definitions ≡ false) refl refl (l .kind), by-part (λ m. eqb m 1 ≡ false) refl refl (l .kind), n)
 
 pub part-parent : {doc : List ℕ} {c : StartTag} {f : Fill} {i : ℕ} → Ready doc c f → i < f .rows → i + 1 ≤ 1048576
 part-parent r h = omega (arith, r .few, r .sound .small, r .fits .inside, r .fits .within)

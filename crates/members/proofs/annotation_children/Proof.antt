@@ -40,4 +40,4 @@ annotation-children-spec =
     (λ c. search annotation-loop)
     (λ c. search annotation-loop)
     (λ c. search annotation-loop)
-    (λ c. search annotation-loop))
+    (λ c. (search annotation-loop, search annotation-loop)))

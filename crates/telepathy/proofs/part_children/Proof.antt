@@ -44,4 +44,4 @@ part-children-spec =
     (λ c. search part-loop)
     (λ c. search part-loop)
     (λ c. search part-loop)
-    (λ c. search part-loop))
+    (λ c. (search part-loop, search part-loop, search part-loop)))
