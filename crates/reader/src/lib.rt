@@ -6,17 +6,18 @@ use document::Refusal;
 use document::StartTag;
 use document::Token;
 use document::Verdict;
+use document::kinds;
 use tags::step;
 ghost use mathlib.Core.Path.{_≡_};
-ghost use mathlib.Core.List.{[], _∷_};
 ghost use mathlib.Core.Bool.{true, false};
 ghost use Prim.Native.Nat.{_+_, _*_, _≤_, _<_};
 ghost use lib.ListN.{length, take, drop};
 ghost use Rattle.scan.specs.Classes.{Classes};
-ghost use Rattle.document.specs.Outcome.{lent, Ready, Sound, TagFits, Child};
+ghost use Rattle.document.specs.Kinds as kinds;
+ghost use Rattle.document.specs.Outcome.{lent, Ready, Sound, TagFits, Child, moved};
 ghost use Rattle.document.specs.Whole.{read, verdictOf, rowsLeft, warningsLeft, textLeft};
 ghost use Rattle.reader.specs.Entry.{room, Says, Ended, Refuses, HasRoom, Accepts};
-ghost use Rattle.reader.specs.Nodes.{Walking, Turns, Opens, Looks, NextIn, Shuts, ChildIn, Started, Begun, Walks, Levels, RootOpen, ReadsRoot, ReadsWhole, moved};
+ghost use Rattle.reader.specs.Nodes.{Walking, Turns, Opens, Looks, NextIn, Shuts, ChildIn, Started, Begun, Walks, Levels, RootOpen, ReadsRoot, ReadsWhole};
 
 // How many nodes are open, the place and length of the name of one that is open in the root, and the counts so far.
 pub struct Walk {
@@ -44,11 +45,11 @@ fn node_child(
     i: usize,
     f: Fill,
 ) -> Answer
-    requires { ⌜ Ready (now doc) c f ⌝ ∗ ⌜ i < f .rows ⌝ ∗ ⌜ (c .kind ≡ 1 → ⊥) ⌝ ∗ ⌜ Classes (now classes) ⌝ }
-    ensures { λ r. ⌜ Child (now (doc .entry)) (1 ∷ 2 ∷ 8 ∷ 9 ∷ 11 ∷ 13 ∷ []) true c i f (lent (now (rows .entry)) (now (warnings .entry)) (now (text .entry))) (lent (now (rows .exit)) (now (warnings .exit)) (now (text .exit))) r ⌝ }
+    requires { ⌜ Ready (now doc) c f ⌝ ∗ ⌜ i < f .rows ⌝ ∗ ⌜ (c .kind ≡ kinds.node → ⊥) ⌝ ∗ ⌜ Classes (now classes) ⌝ }
+    ensures { λ r. ⌜ Child (now (doc .entry)) kinds.inNode true c i f (lent (now (rows .entry)) (now (warnings .entry)) (now (text .entry))) (lent (now (rows .exit)) (now (warnings .exit)) (now (text .exit))) r ⌝ }
 {
     let kind = c.kind;
-    if kind == 2 {
+    if kind == kinds::INTERFACE {
         return interfaces::interface(doc, classes, rows, warnings, text, c, i + 1, f);
     }
     if interfaces::is_definition(kind) {
@@ -67,19 +68,14 @@ fn open_node(
     i: usize,
     s: Walk,
 ) -> Turn
-    requires { ⌜ Started (now doc) (now opened) c s ⌝ ∗ ⌜ c .kind ≡ 1 ⌝ ∗ ⌜ i < s .fill .rows ⌝ }
+    requires { ⌜ Started (now doc) (now opened) c s ⌝ ∗ ⌜ c .kind ≡ kinds.node ⌝ ∗ ⌜ i < s .fill .rows ⌝ }
     ensures { λ r. ⌜ Opens (now (doc .entry)) c i s (now (opened .entry)) (now (opened .exit)) (now (rows .entry)) (now (rows .exit)) (now (text .entry)) (now (text .exit)) r ⌝ }
 {
     let f = s.fill;
     let depth = s.depth;
     let closes = c.closes;
-    let moved = Fill {
-        at: c.end,
-        rows: f.rows,
-        warnings: f.warnings,
-        text: f.text,
-    };
-    match elements::node_row(doc, rows, text, c, i + 1, moved) {
+    let h = f.moved(c.end);
+    match elements::node_row(doc, rows, text, c, i + 1, h) {
         Answer::Fault(refusal) => Turn::Fault(refusal),
         Answer::Done(g) => {
             if closes {
@@ -125,12 +121,7 @@ fn close_node(s: Walk, end: usize) -> Turn
     ensures { λ r. ⌜ Shuts s end r ⌝ }
 {
     let f = s.fill;
-    let fill = Fill {
-        at: end,
-        rows: f.rows,
-        warnings: f.warnings,
-        text: f.text,
-    };
+    let fill = f.moved(end);
     if s.depth == 1 {
         return Turn::Done(fill);
     }
@@ -153,16 +144,11 @@ fn read_child(
     i: usize,
     s: Walk,
 ) -> Turn
-    requires { ⌜ Ready (now doc) c (moved (s .fill) (c .end)) ⌝ ∗ ⌜ i < s .fill .rows ⌝ ∗ ⌜ (c .kind ≡ 1 → ⊥) ⌝ ∗ ⌜ Classes (now classes) ⌝ }
+    requires { ⌜ Ready (now doc) c (moved (s .fill) (c .end)) ⌝ ∗ ⌜ i < s .fill .rows ⌝ ∗ ⌜ (c .kind ≡ kinds.node → ⊥) ⌝ ∗ ⌜ Classes (now classes) ⌝ }
     ensures { λ r. ⌜ ChildIn (now (doc .entry)) c i s (lent (now (rows .entry)) (now (warnings .entry)) (now (text .entry))) (lent (now (rows .exit)) (now (warnings .exit)) (now (text .exit))) r ⌝ }
 {
     let f = s.fill;
-    let fill = Fill {
-        at: c.end,
-        rows: f.rows,
-        warnings: f.warnings,
-        text: f.text,
-    };
+    let fill = f.moved(c.end);
     match node_child(doc, classes, rows, warnings, text, c, i, fill) {
         Answer::Fault(refusal) => Turn::Fault(refusal),
         Answer::Done(g) => Turn::On(Walk {
@@ -190,7 +176,7 @@ fn start_in(
 {
     let last = s.depth - 1;
     let i = wide(opened[last]);
-    if c.kind == 1 {
+    if c.kind == kinds::NODE {
         return open_node(doc, rows, text, opened, c, i, s);
     }
     read_child(doc, classes, rows, warnings, text, c, i, s)

@@ -13,7 +13,8 @@ use lib.ListN.{length, length-append}
 use lib.Seq.{drop-append-seam}
 use Rattle.slices.specs.Bytes.{if}
 use Rattle.items.specs.Written.{Annotation, Arg, Direction, no-direction, inward, outward, Member, Item, annotated, argument, method, signal}
-use Rattle.items.specs.Content.{Row, childOf, annotationOf, annotations, argOf, args, memberOf, content, direction}
+use Rattle.items.specs.Words.{isChild}
+use Rattle.items.specs.Content.{Row, annotationOf, annotations, argOf, args, memberOf, content, direction}
 use Rattle.roundtrip.specs.Items.{code, bareRow, annotationRows, argRow, argRows, argsRows, memberRows, rows, nodeRow, interfaceRow}
 
 -- no row is a child of rows lo to hi less one
@@ -25,7 +26,7 @@ clear-append : (lo hi : ℕ) (l m : List Row) → Clear lo hi l → Clear lo hi 
 clear-append lo hi [] m h k = k
 clear-append lo hi (r ∷ l) m h k = (h .0, clear-append lo hi l m (h .1) k)
 
-no-child : (k p : ℕ) (r : Row) → (r .parent ≡ p → ⊥) → childOf k p r ≡ false
+no-child : (k p : ℕ) (r : Row) → (r .parent ≡ p → ⊥) → isChild k p (r .kind) (r .parent) ≡ false
 no-child k p r h = rw (ne-eqb (r .parent) p h) (and-false (eqb (r .kind) k))
 
 clear-notes : (lo hi q : ℕ) (l : List Row) → lo < q → q ≤ hi → Clear lo hi l → annotations q l ≡ []
@@ -38,7 +39,7 @@ clear-args t lo hi q i (r ∷ l) a b h = rw (no-child 7 q r (λ e. h .0 (omega a
 
 notes-append : (q : ℕ) (l m : List Row) → annotations q (l ++ m) ≡ annotations q l ++ annotations q m
 notes-append q [] m = refl
-notes-append q (r ∷ l) m = go (childOf 6 q r) (notes-append q l m)
+notes-append q (r ∷ l) m = go (isChild 6 q (r .kind) (r .parent)) (notes-append q l m)
   where
     go : (b : Bool) → annotations q (l ++ m) ≡ annotations q l ++ annotations q m → if b (annotationOf r ∷ annotations q (l ++ m)) (annotations q (l ++ m)) ≡ if b (annotationOf r ∷ annotations q l) (annotations q l) ++ annotations q m
     go true e = ap (_∷_ (annotationOf r)) e
@@ -48,7 +49,7 @@ args-append : (t : List Row) (q i : ℕ) (l m : List Row) → args t q i (l ++ m
 args-append t q i [] m = rw add-zero
 args-append t q i (r ∷ l) m =
     let e : suc i + length l ≡ i + suc (length l) = omega arith in
-    go (childOf 7 q r) (rw e at (args-append t q (suc i) l m))
+    go (isChild 7 q (r .kind) (r .parent)) (rw e at (args-append t q (suc i) l m))
   where
     go : (b : Bool) → args t q (suc i) (l ++ m) ≡ args t q (suc i) l ++ args t q (i + suc (length l)) m → if b (argOf t i r ∷ args t q (suc i) (l ++ m)) (args t q (suc i) (l ++ m)) ≡ if b (argOf t i r ∷ args t q (suc i) l) (args t q (suc i) l) ++ args t q (i + suc (length l)) m
     go true e = ap (_∷_ (argOf t i r)) e

@@ -18,10 +18,10 @@ use Rattle.names.proofs.Names.{and-both}
 use Rattle.tables.specs.Triple as triples
 use Rattle.tables.specs.declared.Triple.{Triple}
 use Rattle.document.specs.Elements.{among, mayHold}
-use Rattle.items.specs.Words.{RowWords, absent, rowsOf, shownBy, viewed, rowsShown}
+use Rattle.items.specs.Words.{RowWords, isChild, absent, rowsOf, shownBy, viewed, rowsShown}
 use Rattle.items.specs.Sound.{Use, nameUse, valueUse, tpUse, docUse, validName, validValue, validWord, anyText, inDocument, placed, kindAt, goodTriple, soundRow, firstBad, judged, sound, unsound, soundness}
 use Rattle.items.specs.Written.{Arg, Item, annotated, argument, method, signal}
-use Rattle.items.specs.Content.{Row, present, childOf, annotationOf, annotations, argOf, args, memberOf, itemOf, firstItem, content, contentAt}
+use Rattle.items.specs.Content.{Row, present, annotationOf, annotations, argOf, args, memberOf, itemOf, firstItem, content, contentAt}
 use Rattle.roundtrip.specs.Items.{noteValues, nameValues, argValues, argsValues, memberValues, values}
 use Rattle.roundtrip.proofs.Items.{Signed, Good, kind}
 
@@ -139,7 +139,7 @@ name-formed (some n) h = (h, tt)
 
 annotations-formed : (p : ℕ) (rs : List Row) → AllFine rs → AllFormed (noteValues (annotations p rs))
 annotations-formed p [] h = tt
-annotations-formed p (r ∷ rs) h = go (childOf 6 p r) (annotations-formed p rs (h .1))
+annotations-formed p (r ∷ rs) h = go (isChild 6 p (r .kind) (r .parent)) (annotations-formed p rs (h .1))
   where
     go : (b : Bool) → AllFormed (noteValues (annotations p rs)) → AllFormed (noteValues (if b (annotationOf r ∷ annotations p rs) (annotations p rs)))
     go true k = (h .0 .name, (h .0 .value, k))

@@ -11,6 +11,7 @@ use lib.Dec.{eqb}
 use lib.ListN.{length, take, drop}
 use lib.Seq.{take-take}
 use Rattle.slices.specs.Bytes.{if}
+use Rattle.document.specs.Kinds as kinds
 use Rattle.document.specs.Tags.{Shown}
 use Rattle.document.specs.Tokens.{Tag}
 use Rattle.document.specs.Rows.{Row, Tables}
@@ -18,13 +19,13 @@ use Rattle.document.specs.Elements.{kindOf, among, heldBy, mayHold}
 use Rattle.document.specs.Reading as reading
 use Rattle.document.specs.Reading.{Frame, definition, State, reading, closed, child, begins, noted, oneMore}
 use Rattle.document.specs.Outcome as outcome
-use Rattle.document.specs.Outcome.{Lent, lent, Stands, Bounded, Ready, Steps, Begins, Others, runs, whole}
+use Rattle.document.specs.Outcome.{Lent, lent, Stands, Bounded, Ready, Steps, Begins, Others, moved, runs, whole}
 use Rattle.document.specs.declared.Refusal.{Refusal}
 use Rattle.document.specs.declared.StartTag.{StartTag}
 use Rattle.document.specs.declared.Fill.{Fill}
 use Rattle.document.specs.declared.Answer.{Answer}
 use Rattle.document.specs.declared.Next.{Next}
-use Rattle.document.proofs.Loops.{moved, moved-stands}
+use Rattle.document.proofs.Loops.{moved-stands, moved-owner}
 use Rattle.telepathy.specs.Outcome.{DefinitionKind, PartKind, Holds, Unseen, More, Noted, Child, Body, Content, Ends, seen, openAs, noParts}
 use Rattle.telepathy.specs.declared.Parts.{Parts}
 use Rattle.telepathy.specs.declared.Inner.{Inner}
@@ -39,14 +40,14 @@ only c x = go (eqb c x)
     go true = refl
     go false = refl
 
-pub holds-none : {k c : ℕ} → k ≡ 8 → Holds k c false
+pub holds-none : {k c : ℕ} → k ≡ kinds.simpleType → Holds k c false
 holds-none e = record { is = rw e }
 
-pub holds-enumvalue : {k c : ℕ} → k ≡ 9 → Holds k c (eqb c 10)
-holds-enumvalue {c = c} e = record { is = rw e (only c 10) }
+pub holds-enumvalue : {k c : ℕ} → k ≡ kinds.enum → Holds k c (eqb c kinds.enumvalue)
+holds-enumvalue {c = c} e = record { is = rw e (only c kinds.enumvalue) }
 
-pub holds-member : {k c : ℕ} → DefinitionKind k → (k ≡ 8 → ⊥) → (k ≡ 9 → ⊥) → Holds k c (eqb c 12)
-holds-member {k} {c} h n m = by-definition (λ j. (j ≡ 8 → ⊥) → (j ≡ 9 → ⊥) → Holds j c (eqb c 12)) (λ x y. absurd (x refl)) (λ x y. absurd (y refl)) (λ x y. record { is = only c 12 }) (λ x y. record { is = only c 12 }) h n m
+pub holds-member : {k c : ℕ} → DefinitionKind k → (k ≡ kinds.simpleType → ⊥) → (k ≡ kinds.enum → ⊥) → Holds k c (eqb c kinds.member)
+holds-member {k} {c} h n m = by-definition (λ j. (j ≡ kinds.simpleType → ⊥) → (j ≡ kinds.enum → ⊥) → Holds j c (eqb c kinds.member)) (λ x y. absurd (x refl)) (λ x y. absurd (y refl)) (λ x y. record { is = only c kinds.member }) (λ x y. record { is = only c kinds.member }) h n m
 
 pub ruleset holding = (holds-none, holds-enumvalue, holds-member, needs)
 
@@ -82,7 +83,7 @@ pub ruleset noting = (noted-fault, noted-done, needs)
 
 -- what a definition holds is an enumvalue or a member
 pub held-part : {k m : ℕ} {o : Bool} → DefinitionKind k → Holds k m o → o ≡ true → PartKind m
-held-part {k} {m} d y e = by-definition (λ j. among m (heldBy j) ≡ true → PartKind m) (λ x. let q : _≡_ {A = ℕ} 0 1 = cc in absurd (omega arith)) (λ x. record { is = first (eqb m 10) (eqb m 12) x }) (λ x. record { is = second (eqb m 10) (eqb m 12) x }) (λ x. record { is = second (eqb m 10) (eqb m 12) x }) d (sym (y .is) ∙ e)
+held-part {k} {m} d y e = by-definition (λ j. among m (heldBy j) ≡ true → PartKind m) (λ x. let q : _≡_ {A = ℕ} 0 1 = cc in absurd (omega arith)) (λ x. record { is = first (eqb m kinds.enumvalue) (eqb m kinds.member) x }) (λ x. record { is = second (eqb m kinds.enumvalue) (eqb m kinds.member) x }) (λ x. record { is = second (eqb m kinds.enumvalue) (eqb m kinds.member) x }) d (sym (y .is) ∙ e)
   where
     first : (a b : Bool) → if a true false ≡ true → if a true (if b true false) ≡ true
     first true b e = refl
@@ -105,7 +106,7 @@ module _ {k : ℕ} (d : DefinitionKind k) {c : StartTag} {o : Bool} (y : Holds k
     }
       where
         begun : (t : Tag) (fs : List Frame) (u : Tables Shown) → c .kind ≡ kindOf (t .name) → runs doc (c .end) (child whole doc k i t fs u) ≡ runs doc (c .end) (begins whole doc (c .kind) t fs u)
-        begun t fs u q = rw (← q, by-part (λ m. eqb m 14 ≡ false) refl refl (held-part d y e), sym (y .is) ∙ e)
+        begun t fs u q = rw (← q, by-part (λ m. eqb m kinds.docstring ≡ false) refl refl (held-part d y e), sym (y .is) ∙ e)
 
         kept : {s s′ : State Shown} (after : Parts → Tables Shown → State Shown) (u : List (Row Shown)) (r : Inner) → s ≡ s′ → Ends doc s′ after (f .rows) u b′ r → Ends doc s after i (take i u) b′ r
         kept after u (Inner.Fault y) e x = e ∙ x
@@ -115,7 +116,7 @@ module _ {k : ℕ} (d : DefinitionKind k) {c : StartTag} {o : Bool} (y : Holds k
       pub child-other-fault : {x : Refusal} → a ≡ Answer.Fault x → Child doc k i c p f (lent rows w bytes) (lent rows′ w′ bytes) (Inner.Fault x)
       child-other-fault x = record {
         onward = tt;
-        ends = λ lt why n t fs u z s. (rw x at h) .ends k t (definition (openAs k i lt n why p) ∷ fs) u bytes (sym (y .is) ∙ e) (by-definition (λ m. not (eqb m 6) ≡ true) refl refl refl refl d) z s;
+        ends = λ lt why n t fs u z s. (rw x at h) .ends k t (definition (openAs k i lt n why p) ∷ fs) u bytes (sym (y .is) ∙ e) (by-definition (λ m. not (eqb m kinds.annotation) ≡ true) refl refl refl refl d) z s;
       }
 
       pub child-other-done : {g : Fill} → p .count < f .at → a ≡ Answer.Done g → Child doc k i c p f (lent rows w bytes) (lent rows′ w′ bytes) (Inner.Done g p)
@@ -123,7 +124,7 @@ module _ {k : ℕ} (d : DefinitionKind k) {c : StartTag} {o : Bool} (y : Holds k
           let j : Others doc c i f rows rows′ w w′ (Answer.Done g) = rw x at h in
           record {
             onward = (j .onward .0, j .onward .1, omega (arith, j .onward .0), j .onward .2);
-            ends = λ lt why n t fs u z s. j .ends k t (definition (openAs k i lt n why p) ∷ fs) u bytes (sym (y .is) ∙ e) (by-definition (λ m. not (eqb m 6) ≡ true) refl refl refl refl d) z s;
+            ends = λ lt why n t fs u z s. j .ends k t (definition (openAs k i lt n why p) ∷ fs) u bytes (sym (y .is) ∙ e) (by-definition (λ m. not (eqb m kinds.annotation) ≡ true) refl refl refl refl d) z s;
           }
 
 pub ruleset children = (held-part, child-part, child-other-fault, child-other-done, needs)
@@ -164,9 +165,10 @@ module _ {doc : List ℕ} {k at len i : ℕ} {f₀ : Fill} {b₀ : Lent} where
           x .2 ∙ (rw e at s) .leads (definition (openAs k i lt (take len (drop at doc)) why p)) fs (x .0) refl;
     }
 
-    pub body-close : {lt end : ℕ} → r ≡ Next.Close lt end → Body doc k at len i f₀ b₀ b (Inner.Done (moved f end) p)
-    body-close {lt} {end} e =
+    pub body-close : {lt end : ℕ} {m : Fill} → r ≡ Next.Close lt end → m ≡ moved f end → Body doc k at len i f₀ b₀ b (Inner.Done m p)
+    body-close {lt} {end} e y =
         let c : Steps doc (f .at) at len (Next.Close lt end) = rw e at s in
+        rw y
         record {
           onward = (
             omega (arith, g .since, c .onward),
@@ -188,8 +190,8 @@ module _ {doc : List ℕ} {k at len i : ℕ} {f₀ : Fill} {b₀ : Lent} where
       start : Steps doc (f .at) at len (Next.Start c)
       start = rw q at s
 
-      pub body-ready : Ready doc c (moved f (c .end))
-      body-ready = record {
+      pub body-ready : {m : Fill} → m ≡ moved f (c .end) → Ready doc c m
+      body-ready y = rw y record {
         sound = g .bounds .sound;
         fits = start .onward .1;
         at = refl;
@@ -197,22 +199,25 @@ module _ {doc : List ℕ} {k at len i : ℕ} {f₀ : Fill} {b₀ : Lent} where
         text = omega (arith, g .bounds .text, start .onward .0);
       }
 
-      pub body-count : p .count < c .end
-      body-count = omega (arith, g .few, start .onward .0, start .onward .1 .inside)
+      pub body-count : {m : Fill} → m ≡ moved f (c .end) → p .count < m .at
+      body-count y = rw y (omega (arith, g .few, start .onward .0, start .onward .1 .inside))
 
-      module _ {b′ : Lent} {a : Inner} (h : Child doc k i c p (moved f (c .end)) b b′ a) where
+      module _ {b′ : Lent} {a : Inner} {m : Fill} (h : Child doc k i c p m b b′ a) (y : m ≡ moved f (c .end)) where
+        taken : {x : Inner} → a ≡ x → Child doc k i c p (moved f (c .end)) b b′ x
+        taken w = rw (y, w) at h
+
         pub body-child-fault : {x : Refusal} → a ≡ Inner.Fault x → Body doc k at len i f₀ b₀ b′ (Inner.Fault x)
         body-child-fault w = record {
           onward = tt;
           ends = λ lt why fs u z.
               let x = g .leads lt why fs u z in
-              let y = start .leads (definition (openAs k i lt (take len (drop at doc)) why p)) fs (x .0) refl in
-              x .2 ∙ y .2 ∙ (rw w at h) .ends lt why (take len (drop at doc)) (y .0) fs (x .0) (y .1) (moved-stands (c .end) (x .1));
+              let o = start .leads (definition (openAs k i lt (take len (drop at doc)) why p)) fs (x .0) refl in
+              x .2 ∙ o .2 ∙ taken w .ends lt why (take len (drop at doc)) (o .0) fs (x .0) (o .1) (moved-stands (c .end) (x .1));
         }
 
         pub body-child : {g′ : Fill} {p′ : Parts} → a ≡ Inner.Done g′ p′ → Sofar doc k at len i f₀ b₀ g′ p′ b′
         body-child {g′} {p′} w =
-            let j : Child doc k i c p (moved f (c .end)) b b′ (Inner.Done g′ p′) = rw w at h in
+            let j : Child doc k i c p (moved f (c .end)) b b′ (Inner.Done g′ p′) = taken w in
             record {
               since = omega (arith, g .since, start .onward .0, start .onward .1 .inside, j .onward .0);
               grown = omega (arith, g .grown, j .onward .1);
@@ -221,17 +226,17 @@ module _ {doc : List ℕ} {k at len i : ℕ} {f₀ : Fill} {b₀ : Lent} where
               few = j .onward .2;
               leads = λ lt why fs u z.
                   let x = g .leads lt why fs u z in
-                  let y = start .leads (definition (openAs k i lt (take len (drop at doc)) why p)) fs (x .0) refl in
-                  let o = j .ends lt why (take len (drop at doc)) (y .0) fs (x .0) (y .1) (moved-stands (c .end) (x .1)) in
-                  (o .0, o .1, x .2 ∙ y .2 ∙ o .2, o .3 ∙ x .3);
+                  let v = start .leads (definition (openAs k i lt (take len (drop at doc)) why p)) fs (x .0) refl in
+                  let o = j .ends lt why (take len (drop at doc)) (v .0) fs (x .0) (v .1) (moved-stands (c .end) (x .1)) in
+                  (o .0, o .1, x .2 ∙ v .2 ∙ o .2, o .3 ∙ x .3);
             }
 
         pub body-less : {g′ : Fill} {p′ : Parts} → a ≡ Inner.Done g′ p′ → length doc - g′ .at < length doc - f .at
         body-less {g′} {p′} w =
-            let j : Child doc k i c p (moved f (c .end)) b b′ (Inner.Done g′ p′) = rw w at h in
+            let j : Child doc k i c p (moved f (c .end)) b b′ (Inner.Done g′ p′) = taken w in
             omega (arith, start .onward .0, start .onward .1 .inside, j .onward .0, j .onward .3 .inside)
 
-pub ruleset bodies = (body-begins, body-fault, body-close, body-ready, body-count, body-child-fault, body-child, body-less, needs)
+pub ruleset bodies = (moved-owner, body-begins, body-fault, body-close, body-ready, body-count, body-child-fault, body-child, body-less, needs)
 
 -- ---- all of the content
 

@@ -11,6 +11,7 @@ use lib.Dec.{eqb}
 use lib.ListN.{length, take}
 use lib.Seq.{take-take, take-at}
 use Rattle.slices.specs.Bytes.{if, bytes}
+use Rattle.document.specs.Kinds as kinds
 use Rattle.document.specs.Tags.{Shown}
 use Rattle.document.specs.Tokens.{Tag}
 use Rattle.document.specs.Rows.{Row, Tables}
@@ -95,11 +96,11 @@ pub ruleset judgements = (back-fits, judging-ready, judged-kept, judged-dropped,
 -- ---- the row
 
 module _ {k : ℕ} (d : DefinitionKind k) where
-  pub row-typed : k ≤ 9 → TypedKind k
-  row-typed l = by-definition (λ m. m ≤ 9 → TypedKind m) (λ x. simple-type-kind) (λ x. enum-kind) (λ x. absurd (omega arith)) (λ x. absurd (omega arith)) d l
+  pub row-typed : k ≤ kinds.enum → TypedKind k
+  row-typed l = by-definition (λ m. m ≤ kinds.enum → TypedKind m) (λ x. simple-type-kind) (λ x. enum-kind) (λ x. absurd (omega arith)) (λ x. absurd (omega arith)) d l
 
-  pub row-untyped : 9 < k → UntypedKind k
-  row-untyped l = by-definition (λ m. 9 < m → UntypedKind m) (λ x. absurd (omega arith)) (λ x. absurd (omega arith)) (λ x. struct-kind) (λ x. mapping-kind) d l
+  pub row-untyped : kinds.enum < k → UntypedKind k
+  row-untyped l = by-definition (λ m. kinds.enum < m → UntypedKind m) (λ x. absurd (omega arith)) (λ x. absurd (omega arith)) (λ x. struct-kind) (λ x. mapping-kind) d l
 
 pub ruleset definition-rows = (row-typed, row-untyped, needs)
 

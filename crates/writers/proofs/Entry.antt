@@ -23,13 +23,14 @@ use Rattle.document.specs.Elements.{among}
 use Rattle.soundness.specs.Outcome.{Judges}
 use Rattle.soundness.specs.declared.Soundness.{Soundness}
 use Rattle.soundness.proofs.Rows.{judged-sound, judged-unsound}
-use Rattle.items.specs.Words.{rowOf, rowsOf, viewed, rowsShown}
+use Rattle.document.specs.Kinds as kinds
+use Rattle.items.specs.Words.{wordAt, Word, rowOf, rowsOf, viewed, rowsShown}
 use Rattle.items.specs.Sound.{sound, unsound, soundness}
 use Rattle.items.specs.Written.{Item, annotated, argument, method, signal, written, writtenMember}
 use Rattle.items.specs.Content.{Row, annotationOf, argOf, memberOf, itemOf, firstItem, content, contentAt}
 use Rattle.items.specs.Writing.{itemWritten, writing}
 use Rattle.items.proofs.Rows.{row-at, length-rowsOf, sound-claimed, sound-held, sound-parent}
-use Rattle.writers.specs.Rows.{Word, wordAt, rowAt, Held, Last}
+use Rattle.writers.specs.Rows.{rowAt, Held, Last}
 use Rattle.writers.specs.Writes.{annotationAt, AnnotationPut, Scannable, ArgPut, tagOf, MemberScannable, MemberPut, Writable, ItemPut}
 use Rattle.writers.specs.Entry.{Admitted, WritesSound, Writes}
 use Rattle.writers.proofs.Scans.{last-all}
@@ -86,7 +87,7 @@ module _ (t : List Row) (i : ℕ) (r : Row) where
   item-seven : r .kind ≡ 7 → itemOf t i r ≡ some (argument (argOf t i r))
   item-seven e = rw (ne-eqb (r .kind) 3 (λ f. omega (arith, e, f)), ne-eqb (r .kind) 5 (λ f. omega (arith, e, f)), ne-eqb (r .kind) 6 (λ f. omega (arith, e, f)), eq-eqb (r .kind) 7 e)
 
-  item-none : among (r .kind) (3 ∷ 5 ∷ 6 ∷ 7 ∷ []) ≡ false → itemOf t i r ≡ none
+  item-none : among (r .kind) kinds.written ≡ false → itemOf t i r ≡ none
   item-none h = go (eqb (r .kind) 3) (eqb (r .kind) 5) (eqb (r .kind) 6) (eqb (r .kind) 7) h
     where
       go : (a b c d : Bool) → if a true (if b true (if c true (if d true false))) ≡ false → if a (some (method (memberOf t i r))) (if b (some (signal (memberOf t i r))) (if c (some (annotated (annotationOf r))) (if d (some (argument (argOf t i r))) none))) ≡ none
@@ -179,7 +180,7 @@ module _ {d x ws t t′ : List ℕ} {n i : ℕ} {r : Answer} where
   pub no-kind : {k : ℕ} {b : Bool} → i < n → Word ws i 0 k → Writable k b → b ≡ false → Says (wrong 20 i) (length t) t′ r → WritesSound d x ws n i t t′ r
   no-kind {k} h w y e s =
       let f : rowAt d x ws i .kind ≡ k = getD-drop (i * 16) ws 0 0 ∙ sym (w .is) in
-      let g : among (rowAt d x ws i .kind) (3 ∷ 5 ∷ 6 ∷ 7 ∷ []) ≡ false = ap (λ z. among z (3 ∷ 5 ∷ 6 ∷ 7 ∷ [])) f ∙ sym (y .is) ∙ e in
+      let g : among (rowAt d x ws i .kind) kinds.written ≡ false = ap (λ z. among z kinds.written) f ∙ sym (y .is) ∙ e in
       record {
         says = subst (λ o. Says (itemWritten i (length t) o) (length t) t′ r) (sym (content-is d x ws n i h ∙ item-none (rowsShown d x ws n) i (rowAt d x ws i) g)) s;
       }

@@ -28,4 +28,5 @@ open-node-spec =
     (λ c. search nodeOpens)
     (λ c. search nodeOpens)
     (λ c. search nodeOpens)
+    (λ c. search nodeOpens)
     (λ c. search nodeOpens))
