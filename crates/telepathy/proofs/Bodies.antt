@@ -24,7 +24,7 @@ use Rattle.document.specs.declared.StartTag.{StartTag}
 use Rattle.document.specs.declared.Fill.{Fill}
 use Rattle.document.specs.declared.Answer.{Answer}
 use Rattle.document.specs.declared.Next.{Next}
-use Rattle.document.proofs.Loops.{moved-stands, rows-kept, moved-owner}
+use Rattle.document.proofs.Loops.{moved-stands, rows-kept}
 use Rattle.telepathy.specs.Outcome.{DefinitionKind, PartKind, Holds, Unseen, More, Noted, Child, Body, Content, Ends, seen, openAs, noParts}
 use Rattle.telepathy.specs.declared.Parts.{Parts}
 use Rattle.telepathy.specs.declared.Inner.{Inner}
@@ -161,10 +161,9 @@ module _ {doc : List ℕ} {k at len i : ℕ} {f₀ : Fill} {b₀ : Lent} where
           x .2 ∙ (rw e at s) .leads (definition (openAs k i lt (take len (drop at doc)) why p)) fs (x .0) refl;
     }
 
-    pub body-close : {lt end : ℕ} {m : Fill} → r ≡ Next.Close lt end → m ≡ moved f end → Body doc k at len i f₀ b₀ b (Inner.Done m p)
-    body-close {lt} {end} e y =
+    pub body-close : {lt end : ℕ} → r ≡ Next.Close lt end → Body doc k at len i f₀ b₀ b (Inner.Done (moved f end) p)
+    body-close {lt} {end} e =
         let c : Steps doc (f .at) at len (Next.Close lt end) = rw e at s in
-        rw y
         record {
           onward = (
             omega (arith, g .since, c .onward),
@@ -186,8 +185,8 @@ module _ {doc : List ℕ} {k at len i : ℕ} {f₀ : Fill} {b₀ : Lent} where
       start : Steps doc (f .at) at len (Next.Start c)
       start = rw q at s
 
-      pub body-ready : {m : Fill} → m ≡ moved f (c .end) → Ready doc c m
-      body-ready y = rw y record {
+      pub body-ready : Ready doc c (moved f (c .end))
+      body-ready = record {
         sound = g .bounds .sound;
         fits = start .onward .1;
         at = refl;
@@ -195,25 +194,22 @@ module _ {doc : List ℕ} {k at len i : ℕ} {f₀ : Fill} {b₀ : Lent} where
         text = omega (arith, g .bounds .text, start .onward .0);
       }
 
-      pub body-count : {m : Fill} → m ≡ moved f (c .end) → p .count < m .at
-      body-count y = rw y (omega (arith, g .few, start .onward .0, start .onward .1 .inside))
+      pub body-count : p .count < c .end
+      body-count = omega (arith, g .few, start .onward .0, start .onward .1 .inside)
 
-      module _ {b′ : Lent} {a : Inner} {m : Fill} (h : Child doc k i c p m b b′ a) (y : m ≡ moved f (c .end)) where
-        taken : {x : Inner} → a ≡ x → Child doc k i c p (moved f (c .end)) b b′ x
-        taken w = rw (y, w) at h
-
+      module _ {b′ : Lent} {a : Inner} (h : Child doc k i c p (moved f (c .end)) b b′ a) where
         pub body-child-fault : {x : Refusal} → a ≡ Inner.Fault x → Body doc k at len i f₀ b₀ b′ (Inner.Fault x)
         body-child-fault w = record {
           onward = tt;
           ends = λ lt why fs u z.
               let x = g .leads lt why fs u z in
-              let o = start .leads (definition (openAs k i lt (take len (drop at doc)) why p)) fs (x .0) refl in
-              x .2 ∙ o .2 ∙ taken w .ends lt why (take len (drop at doc)) (o .0) fs (x .0) (o .1) (moved-stands (c .end) (x .1));
+              let y = start .leads (definition (openAs k i lt (take len (drop at doc)) why p)) fs (x .0) refl in
+              x .2 ∙ y .2 ∙ (rw w at h) .ends lt why (take len (drop at doc)) (y .0) fs (x .0) (y .1) (moved-stands (c .end) (x .1));
         }
 
         pub body-child : {g′ : Fill} {p′ : Parts} → a ≡ Inner.Done g′ p′ → Sofar doc k at len i f₀ b₀ g′ p′ b′
         body-child {g′} {p′} w =
-            let j : Child doc k i c p (moved f (c .end)) b b′ (Inner.Done g′ p′) = taken w in
+            let j : Child doc k i c p (moved f (c .end)) b b′ (Inner.Done g′ p′) = rw w at h in
             record {
               since = omega (arith, g .since, start .onward .0, start .onward .1 .inside, j .onward .0);
               grown = omega (arith, g .grown, j .onward .1);
@@ -222,17 +218,17 @@ module _ {doc : List ℕ} {k at len i : ℕ} {f₀ : Fill} {b₀ : Lent} where
               few = j .onward .2;
               leads = λ lt why fs u z.
                   let x = g .leads lt why fs u z in
-                  let v = start .leads (definition (openAs k i lt (take len (drop at doc)) why p)) fs (x .0) refl in
-                  let o = j .ends lt why (take len (drop at doc)) (v .0) fs (x .0) (v .1) (moved-stands (c .end) (x .1)) in
-                  (o .0, o .1, x .2 ∙ v .2 ∙ o .2, o .3 ∙ x .3);
+                  let y = start .leads (definition (openAs k i lt (take len (drop at doc)) why p)) fs (x .0) refl in
+                  let o = j .ends lt why (take len (drop at doc)) (y .0) fs (x .0) (y .1) (moved-stands (c .end) (x .1)) in
+                  (o .0, o .1, x .2 ∙ y .2 ∙ o .2, o .3 ∙ x .3);
             }
 
         pub body-less : {g′ : Fill} {p′ : Parts} → a ≡ Inner.Done g′ p′ → length doc - g′ .at < length doc - f .at
         body-less {g′} {p′} w =
-            let j : Child doc k i c p (moved f (c .end)) b b′ (Inner.Done g′ p′) = taken w in
+            let j : Child doc k i c p (moved f (c .end)) b b′ (Inner.Done g′ p′) = rw w at h in
             omega (arith, start .onward .0, start .onward .1 .inside, j .onward .0, j .onward .3 .inside)
 
-pub ruleset bodies = (moved-owner, body-begins, body-fault, body-close, body-ready, body-count, body-child-fault, body-child, body-less, needs)
+pub ruleset bodies = (body-begins, body-fault, body-close, body-ready, body-count, body-child-fault, body-child, body-less, needs)
 
 -- ---- all of the content
 

@@ -281,11 +281,21 @@ fn definition_children(
                 return Inner::Fault(refusal);
             }
             Next::Close(_, end) => {
-                let h = g.moved(end);
+                let h = Fill {
+                    at: end,
+                    rows: g.rows,
+                    warnings: g.warnings,
+                    text: g.text,
+                };
                 return Inner::Done(h, p);
             }
             Next::Start(c) => {
-                let h = g.moved(c.end);
+                let h = Fill {
+                    at: c.end,
+                    rows: g.rows,
+                    warnings: g.warnings,
+                    text: g.text,
+                };
                 match definition_child(doc, classes, rows, warnings, text, kind, c, i, p, h) {
                     Inner::Fault(refusal) => {
                         return Inner::Fault(refusal);

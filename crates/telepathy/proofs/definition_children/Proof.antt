@@ -5,13 +5,12 @@ use mathlib.Core.Path.{_≡_}
 use lib.ListN.{length}
 use Rattle.scan.specs.Classes.{Classes}
 use Rattle.document.specs.Outcome.{lent}
-use Rattle.telepathy.specs.Outcome.{DefinitionKind}
 use Rattle.telepathy.proofs.Bodies.{Sofar, bodies}
 use Rattle.telepathy.proofs.definition_children.Statement.{statement}
 use Rattle.telepathy.proofs.definition_children.Tie as tie
 
 abbrev Inv-loop : tie.InvT-loop
-Inv-loop doc classes rows₀ warnings₀ text₀ kind at len i g₀ p₀ rows warnings text g p = Classes classes × DefinitionKind kind × Sofar doc kind at len i g₀ (lent rows₀ warnings₀ text₀) g p (lent rows warnings text) × (length rows ≡ length rows₀) × (length warnings ≡ length warnings₀) × (length text ≡ length text₀)
+Inv-loop doc classes rows₀ warnings₀ text₀ kind at len i g₀ p₀ rows warnings text g p = Classes classes × Sofar doc kind at len i g₀ (lent rows₀ warnings₀ text₀) g p (lent rows warnings text) × (length rows ≡ length rows₀) × (length warnings ≡ length warnings₀) × (length text ≡ length text₀)
 
 abbrev μ-loop : tie.MeasureT-loop
 μ-loop doc classes rows₀ warnings₀ text₀ kind at len i g₀ p₀ rows warnings text g p = length doc - g .at
@@ -36,8 +35,6 @@ definition-children-spec =
     (λ c. search bodies)
     (λ c. search bodies)
     (λ c. search bodies)
-    (λ c. search bodies)
-    (λ c. search bodies)
     (λ c κs. (search bodies, (search bodies, (search bodies, (search bodies, search bodies)))))
     (λ c. search bodies)
     (λ c. search bodies)
@@ -46,4 +43,4 @@ definition-children-spec =
     (λ c. search bodies)
     (λ c. search bodies)
     (λ c. search bodies)
-    (λ c. (search bodies, search bodies, search bodies, search bodies, search bodies, search bodies)))
+    (λ c. (search bodies, search bodies, search bodies, search bodies, search bodies)))
