@@ -74,8 +74,8 @@ module _ {doc opened : List ℕ} {c : StartTag} {s : Walk} (begun : Started doc 
   fits : TagFits doc c
   fits = begun .fits
 
-  pub node-ready : {m : Fill} → m ≡ moved (s .fill) (c .end) → Ready doc c m
-  node-ready y = rw y record {
+  pub node-ready : Ready doc c (moved (s .fill) (c .end))
+  node-ready = record {
     sound = g .bounds .sound;
     fits = fits;
     at = refl;
@@ -92,20 +92,17 @@ module _ {doc opened : List ℕ} {c : StartTag} {s : Walk} (begun : Started doc 
   pub level-inside : (s .depth ≡ 1024 → ⊥) → s .depth < length opened
   level-inside n = omega (arith, g .few, g .long)
 
-  module _ (i : ℕ) {rows rows′ text text′ : List ℕ} {a : Answer} {m : Fill} (o : Opening doc kinds.node c (i + 1) m rows rows′ text text′ a) (y : m ≡ moved (s .fill) (c .end)) where
-    taken : {x : Answer} → a ≡ x → Opening doc kinds.node c (i + 1) (moved (s .fill) (c .end)) rows rows′ text text′ x
-    taken e = rw (y, e) at o
-
+  module _ (i : ℕ) {rows rows′ text text′ : List ℕ} {a : Answer} (o : Opening doc kinds.node c (i + 1) (moved (s .fill) (c .end)) rows rows′ text text′ a) where
     pub open-fault : {q : Refusal} → a ≡ Answer.Fault q → Opens doc c i s opened opened rows rows′ text text′ (Fault q)
     unfolding begins
     open-fault {q} e = record {
       onward = tt;
-      leads = λ root t v w z d h x. rw (h, ← add-one i, taken e .is t z) (run-refused whole doc (c .end) q);
+      leads = λ root t v w z d h x. rw (h, ← add-one i, (rw e at o) .is t z) (run-refused whole doc (c .end) q);
     }
 
     module _ {h : Fill} (e : a ≡ Answer.Done h) where
       done : Opening doc kinds.node c (i + 1) (moved (s .fill) (c .end)) rows rows′ text text′ (Answer.Done h)
-      done = taken e
+      done = rw e at o
 
       at-end : h .at ≡ c .end
       at-end = done .onward .0

@@ -74,7 +74,12 @@ fn open_node(
     let f = s.fill;
     let depth = s.depth;
     let closes = c.closes;
-    let h = f.moved(c.end);
+    let h = Fill {
+        at: c.end,
+        rows: f.rows,
+        warnings: f.warnings,
+        text: f.text,
+    };
     match elements::node_row(doc, rows, text, c, i + 1, h) {
         Answer::Fault(refusal) => Turn::Fault(refusal),
         Answer::Done(g) => {

@@ -53,7 +53,7 @@ module _ {k : ℕ} where
       or-false true = refl
       or-false false = refl
 
-pub ruleset kinds = (writable-three, writable-five, writable-six, writable-seven, needs)
+pub ruleset writable-kinds = (writable-three, writable-five, writable-six, writable-seven, needs)
 
 -- the content of row i
 drop-map : {A B : Type 0} (f : A → B) (i : ℕ) (l : List A) → drop i (map f l) ≡ map f (drop i l)

@@ -28,5 +28,4 @@ open-node-spec =
     (λ c. search nodeOpens)
     (λ c. search nodeOpens)
     (λ c. search nodeOpens)
-    (λ c. search nodeOpens)
     (λ c. search nodeOpens))
