@@ -11,6 +11,7 @@ use lib.ListN.{length, replicate}
 use Rattle.slices.specs.Bytes.{if}
 use Rattle.document.specs.Tags.{Shown}
 use Rattle.document.specs.Rows.{Tables, wordsFrom, texts}
+use Rattle.document.specs.Elements.{bare}
 use Rattle.document.specs.Reading.{State, begun, reading, accepted, refused}
 use Rattle.document.specs.Whole.{Room, meaning, fitted, read, rowsLeft, textLeft}
 use Rattle.items.specs.Words.{rowsShown}
@@ -48,10 +49,10 @@ fitted-accepts end r (reading fs u) t e = e
 fitted-accepts end r (accepted u) t e =
     go (ltb (r .rows / 16) (length (u .rows)) || ltb (r .warnings / 4) (length (u .warnings)) || ltb (r .text) (length (texts (u .rows)))) e
   where
-    go : (b : Bool) → if b (refused 18 end) (accepted u) ≡ accepted t → accepted u ≡ accepted t
+    go : (b : Bool) → if b (refused (bare 18 end)) (accepted u) ≡ accepted t → accepted u ≡ accepted t
     go true e = cc
     go false e = e
-fitted-accepts end r (refused n p) t e = e
+fitted-accepts end r (refused x) t e = e
 
 module _ (doc : List ℕ) (r : Room) (t : Tables Shown) (e : read doc r ≡ accepted t) where
   pub read-accepts : meaning doc ≡ accepted t

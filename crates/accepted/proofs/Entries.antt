@@ -59,7 +59,7 @@ pub record Entry (k p : ℕ) (t : Tag) (r : Row Shown) : Type 0 where
 
 abbrev pub Opens : ℕ → ℕ → Tag → Opened Shown → Type 0
 Opens k p t (opens r) = Entry k p t r
-Opens k p t (refuses n q) = Unit {0}
+Opens k p t (refuses x) = Unit {0}
 
 -- ---- values that are there or not
 

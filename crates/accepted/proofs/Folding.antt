@@ -14,6 +14,7 @@ use Rattle.utf8.proofs.Texts.{bounded}
 use Rattle.document.specs.Tags.{Shown}
 use Rattle.document.specs.Tokens.{Token, tokens}
 use Rattle.document.specs.Rows.{Tables}
+use Rattle.document.specs.Elements.{bare}
 use Rattle.document.specs.Reading.{State, begun, accepted, refused, step, fold, run}
 use Rattle.document.specs.Whole.{meaning}
 use Rattle.document.specs.Outcome.{Sound, whole}
@@ -37,7 +38,7 @@ pub meaning-accepts : (doc : List ℕ) (u : Tables Shown) → meaning doc ≡ ac
 unfolding meaning
 meaning-accepts doc u e = go (ltb 1048576 (length doc)) (ltb (illFormed doc) (length doc)) refl refl e
   where
-    go : (a b : Bool) → ltb 1048576 (length doc) ≡ a → ltb (illFormed doc) (length doc) ≡ b → if a (refused 2 1048576) (if b (refused 1 (illFormed doc)) (run whole doc 0 begun)) ≡ accepted u → Accepts doc u
+    go : (a b : Bool) → ltb 1048576 (length doc) ≡ a → ltb (illFormed doc) (length doc) ≡ b → if a (refused (bare 2 1048576)) (if b (refused (bare 1 (illFormed doc))) (run whole doc 0 begun)) ≡ accepted u → Accepts doc u
     go true b f g e = let z : _≡_ {A = ℕ} 0 1 = cc in absurd (omega arith)
     go false true f g e = let z : _≡_ {A = ℕ} 0 1 = cc in absurd (omega arith)
     go false false f g e = record {

@@ -68,7 +68,7 @@ module _ (doc : List ℕ) (formed : illFormed doc ≡ length doc) where
   Kept begun = Unit {0}
   Kept (reading fs u) = Holds fs (u .rows)
   Kept (accepted u) = Holds [] (u .rows)
-  Kept (refused n p) = Unit {0}
+  Kept (refused x) = Unit {0}
 
   closed-kept : (fs : List Frame) (u : Tables Shown) → Holds fs (u .rows) → Kept (closed fs u)
   closed-kept [] u h = h
@@ -188,7 +188,7 @@ module _ (doc : List ℕ) (formed : illFormed doc ≡ length doc) where
       where
         go : (o : Opened Shown) → Opens k (parentOf fs) t o → Kept (opened whole doc k t o fs u)
         go (opens r) e = entered-kept k r fs u b e h
-        go (refuses n p) e = tt
+        go (refuses x) e = tt
 
     unsupported-kept : (fs : List Frame) (u : Tables Shown) → Holds fs (u .rows) → Kept (unsupported whole doc t fs u)
     unfolding unsupported
@@ -250,7 +250,7 @@ module _ (doc : List ℕ) (formed : illFormed doc ≡ length doc) where
   step-kept (reading [] u) t c h = h
   step-kept (reading (f ∷ fs) u) t c h = turn-kept f fs u t c h
   step-kept (accepted u) t c h = h
-  step-kept (refused n p) t c h = tt
+  step-kept (refused x) t c h = tt
 
   pub accepts-holds : {u : Tables Shown} → Accepts doc u → Holds [] (u .rows)
   accepts-holds a = rw (a .reads) at (run-kept doc Kept step-kept tt)

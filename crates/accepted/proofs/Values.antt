@@ -65,7 +65,7 @@ module _ (doc : List ℕ) where
 
   abbrev Opens : Opened Shown → Type 0
   Opens (opens r) = RowHeld doc r
-  Opens (refuses n p) = Unit {0}
+  Opens (refuses x) = Unit {0}
 
   row-opens : (k p : ℕ) (n v tp : Option Shown) (w : ℕ) → HeldIn doc n → HeldIn doc v → HeldIn doc tp → Opens (opens (row whole k p n v tp w))
   row-opens k p n v tp w h i j = (kept-held n h, kept-held v i, kept-held tp j)
@@ -140,7 +140,7 @@ module _ (doc : List ℕ) where
   Kept begun = Unit {0}
   Kept (reading fs u) = RowsHeld doc (u .rows)
   Kept (accepted u) = RowsHeld doc (u .rows)
-  Kept (refused n p) = Unit {0}
+  Kept (refused x) = Unit {0}
 
   closed-kept : (fs : List Frame) (u : Tables Shown) → RowsHeld doc (u .rows) → Kept (closed fs u)
   closed-kept [] u h = h
@@ -176,7 +176,7 @@ module _ (doc : List ℕ) where
       where
         go : (o : Opened Shown) → Opens o → Kept (opened whole doc k t o fs u)
         go (opens r) i = entered-kept k r fs u i h
-        go (refuses n p) i = tt
+        go (refuses x) i = tt
 
     child-kept : (k i : ℕ) (fs : List Frame) (u : Tables Shown) → RowsHeld doc (u .rows) → Kept (child whole doc k i t fs u)
     unfolding docstringIn unsupported
@@ -208,7 +208,7 @@ module _ (doc : List ℕ) where
   step-kept (reading [] u) t c h = h
   step-kept (reading (f ∷ fs) u) t c h = turn-kept f fs u t c h
   step-kept (accepted u) t c h = h
-  step-kept (refused n p) t c h = tt
+  step-kept (refused x) t c h = tt
 
   pub accepts-held : {u : Tables Shown} → Accepts doc u → RowsHeld doc (u .rows)
   accepts-held a = rw (a .reads) at (run-kept doc Kept step-kept tt)

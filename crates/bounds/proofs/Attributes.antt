@@ -14,13 +14,12 @@ use Rattle.references.specs.Unescape.{Text, text, wrong, unescape}
 use Rattle.references.proofs.Shapes.{unescape-short}
 use Rattle.document.specs.Tags.{Attr, Found, absent, found, closeQuote, openQuote, equals, named, spaced, attribute, Gathered, gathered, tooMany, with, another, noMore, gather, Shown, Checked, good, also, member, check}
 use Rattle.document.specs.Tags as tags
-use Rattle.bounds.proofs.Branches.{either, span-past}
+use Rattle.bounds.proofs.Branches.{either, span-past, Number}
 use Rattle.bounds.proofs.Values.{Told, unescape-told}
 
--- the number and place of a fault met while reading (1 and 2 are told before)
+-- the number and place of a fault met while reading
 pub record Met (top n p : ℕ) : Type 0 where
-  pub some : 2 < n
-  pub number : n ≤ 17
+  pub number : Number n
   pub place : p ≤ top
 
 -- how long the raw values are together, and the texts that they show
@@ -130,7 +129,7 @@ module _ (top : ℕ) where
   Checks xs (tags.fault n p) = Met top n p
 
   also-checks : (a : Attr) (xs : List Attr) (t : Text) (c : Checked) → Lies top a → unescape (a .raw) ≡ t → Told (length (a .raw)) t → Checks xs c → Checks (a ∷ xs) (also a t c)
-  also-checks a xs (wrong n p) c l e h i = record { some = omega arith; number = omega arith; place = omega (arith, l .value) }
+  also-checks a xs (wrong n p) c l e h i = record { number = h .0; place = omega (arith, h .1, l .value) }
   also-checks a xs (text t) (good ss) l e h i = omega (arith, unescape-short (a .raw) t e)
   also-checks a xs (text t) (tags.fault n p) l e h i = i
 
@@ -138,5 +137,5 @@ module _ (top : ℕ) where
   check-within seen [] h = omega arith
   check-within seen (a ∷ xs) h =
       either (Checks (a ∷ xs)) (member (a .name) seen)
-      (λ t. record { some = omega arith; number = omega arith; place = h .0 .name })
+      (λ t. record { number = refl; place = h .0 .name })
       (λ t. also-checks a xs (unescape (a .raw)) (check (a .name ∷ seen) xs) (h .0) refl (unescape-told (a .raw)) (check-within (a .name ∷ seen) xs (h .1)))

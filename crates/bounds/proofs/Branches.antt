@@ -1,4 +1,4 @@
--- Tests in definitions, and the lengths of runs.
+-- Tests in definitions, the lengths of runs, and the numbers of faults.
 -- Assumes nothing.
 use Prim.Native.Nat.{ℕ, suc, _+_, _<_}
 use mathlib.Core.Path.{_≡_, refl}
@@ -7,6 +7,12 @@ use mathlib.Core.Bool.{Bool, true, false}
 use native.Mathlib.Omega.{arith}
 use lib.ListN.{length}
 use Rattle.slices.specs.Bytes.{if, span, past, empty}
+use Rattle.document.specs.Elements.{among}
+use Rattle.bounds.specs.Bounds.{faults}
+
+-- the number of a fault met while reading
+abbrev pub Number : ℕ → Type 0
+Number n = among n faults ≡ true
 
 -- what holds of both ways of a test
 pub either : {A : Type 0} (P : A → Type 0) (t : Bool) {x y : A} → (t ≡ true → P x) → (t ≡ false → P y) → P (if t x y)

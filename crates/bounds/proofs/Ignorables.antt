@@ -13,11 +13,11 @@ use Rattle.scan.specs.declared.Scan.{Scan}
 use Rattle.scan.specs.declared.Scan.the-variants.{Fault, At}
 use Rattle.scan.specs.declared.Markup.{Markup}
 use Rattle.scan.specs.declared.Markup.the-variants.{Tag, Ignored}
-use Rattle.bounds.proofs.Branches.{either}
+use Rattle.bounds.proofs.Branches.{either, Number}
 
--- a scan comes to a place from `from` to `top`, or to fault 4 at a place up to `top`
+-- a scan comes to a place from `from` to `top`, or to a fault at a place up to `top`
 abbrev pub Scanned : ℕ → ℕ → Scan → Type 0
-Scanned from top (Fault n p) = (n ≡ 4) × (p ≤ top)
+Scanned from top (Fault n p) = Number n × (p ≤ top)
 Scanned from top (At p) = (from ≤ p) × (p ≤ top)
 
 module _ (from top : ℕ) where

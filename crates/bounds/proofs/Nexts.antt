@@ -55,7 +55,7 @@ Reaches from top (last t) = Ended top t
 module _ (from top : ℕ) where
   -- fault 4
   markup : {p : ℕ} → p ≤ top → Met top 4 p
-  markup h = record { some = omega arith; number = omega arith; place = h }
+  markup h = record { number = refl; place = h }
 
   module _ (at : ℕ) (n : List ℕ) (h : from ≤ at) where
     module _ (xs : List Shown) where
@@ -79,7 +79,7 @@ module _ (from top : ℕ) where
 
     attrs-reach : (g : Gathered) (f : ℕ) → at + 2 ≤ f → Gathers f top g → Reaches from top (withAttrs at n g)
     attrs-reach (gathered xs l p) f i g = shown-reaches xs (check [] xs) l p (omega arith) (omega arith) (g .rest) (check-within top [] xs (g .lie))
-    attrs-reach (tooMany p) f i g = record { some = omega arith; number = omega arith; place = g }
+    attrs-reach (tooMany p) f i g = record { number = refl; place = g }
 
   opening-reaches : (l : List ℕ) (at : ℕ) → from ≤ at → suc at + length l ≡ top → Reaches from top (opening l at)
   unfolding opening
@@ -126,5 +126,5 @@ unfolding next
 next-reaches l at = go (ignorable l at) (ignorable-within l at)
   where
     go : (s : Scan) → Scanned at (at + length l) s → Reaches at (at + length l) (pastIgnorable s l at)
-    go (Fault n p) h = record { some = omega (arith, h .0); number = omega (arith, h .0); place = h .1 }
+    go (Fault n p) h = record { number = h .0; place = h .1 }
     go (At p) h = tag-or-end at (at + length l) (drop (p - at) l) p (h .0) (rw length-drop (omega (arith, h)))

@@ -42,14 +42,14 @@ abbrev pub Kept : ℕ → ℕ → State Shown → Type 0
 Kept top at begun = Unit {0}
 Kept top at (reading fs u) = Holds at fs u
 Kept top at (accepted u) = Fits top u
-Kept top at (refused n p) = Met top n p
+Kept top at (refused x) = Met top (x .number) (x .place)
 
 -- a document has been read to its end
 abbrev pub Final : ℕ → State Shown → Type 0
 Final top begun = ⊥
 Final top (reading fs u) = ⊥
 Final top (accepted u) = Fits top u
-Final top (refused n p) = Met top n p
+Final top (refused x) = Met top (x .number) (x .place)
 
 -- ---- frames
 
@@ -150,7 +150,7 @@ module _ (doc : List ℕ) (top : ℕ) where
 
   module _ {at q : ℕ} (t : Tag) (g : Starts at top t q) where
     deep : Met top 7 (t .after)
-    deep = record { some = omega arith; number = omega arith; place = omega (arith, g .after, g .within) }
+    deep = record { number = refl; place = omega (arith, g .after, g .within) }
 
     entered-kept : (k : ℕ) (r : Row Shown) (fs : List Frame) (u : Tables Shown) → t .at + length (rowText r) < q → Holds at fs u → Kept top q (entered whole doc k t r fs u)
     entered-kept k r fs u b h =
@@ -169,7 +169,7 @@ module _ (doc : List ℕ) (top : ℕ) where
       where
         go : (o : Opened Shown) → Opens t g o → Kept top q (opened whole doc k t o fs u)
         go (opens r) b = entered-kept k r fs u b h
-        go (refuses n p) b = b
+        go (refuses x) b = b
 
     unsupported-kept : (fs : List Frame) (u : Tables Shown) → Holds at fs u → Kept top q (unsupported whole doc t fs u)
     unfolding unsupported
@@ -214,7 +214,7 @@ module _ (doc : List ℕ) (top : ℕ) where
     step-begun : (t : Token) → Onward at top t q → Kept top q (step whole doc begun t)
     unfolding step
     step-begun (start t) g = begins-kept t g 1 [] (record { rows = []; warnings = [] }) (record { few = omega arith; text = omega arith; owned = tt })
-    step-begun (close lt n p) g = record { some = omega arith; number = omega arith; place = omega (arith, g .long, g .within) }
+    step-begun (close lt n p) g = record { number = refl; place = omega (arith, g .long, g .within) }
     step-begun (fault n p) g = absurd g
     step-begun (end p) g = absurd g
 
@@ -223,7 +223,7 @@ module _ (doc : List ℕ) (top : ℕ) where
     step-turn f fs u (close lt n p) h g =
         either (Kept top q) (same n (nameOf f))
         (λ c. shut-kept (omega (arith, g .since, g .long)) (g .within) f fs u lt h)
-        (λ c. record { some = omega arith; number = omega arith; place = omega (arith, g .after, g .within) })
+        (λ c. record { number = refl; place = omega (arith, g .after, g .within) })
     step-turn f fs u (fault n p) h g = absurd g
     step-turn f fs u (end p) h g = absurd g
 
@@ -233,7 +233,7 @@ module _ (doc : List ℕ) (top : ℕ) where
     step-kept (reading [] u) t l h g = record { few = omega (arith, h .few); text = omega (arith, h .text) }
     step-kept (reading (f ∷ fs) u) t l h g = step-turn f fs u t h g
     step-kept (accepted u) t l h g = h
-    step-kept (refused n p) t l h g = h
+    step-kept (refused x) t l h g = h
 
   -- ---- the last token
 
@@ -242,11 +242,11 @@ module _ (doc : List ℕ) (top : ℕ) where
   step-final at begun (start t) l h g = absurd g
   step-final at begun (close lt n p) l h g = absurd g
   step-final at begun (fault n p) l h g = g
-  step-final at begun (end p) l h g = record { some = omega arith; number = omega arith; place = omega arith }
+  step-final at begun (end p) l h g = record { number = refl; place = omega arith }
   step-final at (reading [] u) t l h g = record { few = omega (arith, h .few); text = omega (arith, h .text) }
   step-final at (reading (f ∷ fs) u) (start t) l h g = absurd g
   step-final at (reading (f ∷ fs) u) (close lt n p) l h g = absurd g
   step-final at (reading (f ∷ fs) u) (fault n p) l h g = g
-  step-final at (reading (f ∷ fs) u) (end p) l h g = record { some = omega arith; number = omega arith; place = omega arith }
+  step-final at (reading (f ∷ fs) u) (end p) l h g = record { number = refl; place = omega arith }
   step-final at (accepted u) t l h g = h
-  step-final at (refused n p) t l h g = h
+  step-final at (refused x) t l h g = h

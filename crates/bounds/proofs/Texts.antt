@@ -19,7 +19,7 @@ use Rattle.document.specs.Tokens.{Tag}
 use Rattle.document.specs.Rows.{textOf, rowText}
 use Rattle.document.specs.Elements.{attr, among, accessOf, directionOf, Opened, opens, refuses, kept, row, required, namedRow, propertyRow, annotationRow, directed, argRow, opensAs}
 use Rattle.document.specs.Outcome.{whole}
-use Rattle.bounds.proofs.Branches.{either}
+use Rattle.bounds.proofs.Branches.{either, Number}
 use Rattle.bounds.proofs.Attributes.{Met, textTotal}
 use Rattle.bounds.proofs.Nexts.{Starts}
 
@@ -77,20 +77,20 @@ module _ (j k : List ℕ) (a : same j k ≡ false) (b : isTpType j ≡ false) (c
 module _ {from top : ℕ} (t : Tag) {q : ℕ} (g : Starts from top t q) where
   abbrev pub Opens : Opened Shown → Type 0
   Opens (opens r) = t .at + length (rowText r) < q
-  Opens (refuses n p) = Met top n p
+  Opens (refuses x) = Met top (x .number) (x .place)
 
   row-opens : (k p : ℕ) (n v tp : Option Shown) (w : ℕ) → size n + size v + size tp ≤ textTotal (t .attrs) → Opens (opens (row whole k p n v tp w))
   row-opens k p n v tp w h = omega (arith, row-size k p n v tp w, g .text)
 
   -- a refusal at the element name, or after the tag
-  at-name : (n : ℕ) → 2 < n → n ≤ 17 → Met top n (suc (t .at))
-  at-name n h i = record { some = h; number = i; place = omega (arith, g .long, g .within) }
+  at-name : (n : ℕ) → Number n → Met top n (suc (t .at))
+  at-name n h = record { number = h; place = omega (arith, g .long, g .within) }
 
-  at-end : (n : ℕ) → 2 < n → n ≤ 17 → Met top n (t .after)
-  at-end n h i = record { some = h; number = i; place = omega (arith, g .after, g .within) }
+  at-end : (n : ℕ) → Number n → Met top n (t .after)
+  at-end n h = record { number = h; place = omega (arith, g .after, g .within) }
 
   required-opens : (o : Option Shown) (f : Shown → Opened Shown) → ((s : Shown) → o ≡ some s → Opens (f s)) → Opens (required whole o t f)
-  required-opens none f h = at-name 12 (omega arith) (omega arith)
+  required-opens none f h = at-name 12 refl
   required-opens (some s) f h = h s refl
 
   -- three attributes of the tag
@@ -108,7 +108,7 @@ module _ {from top : ℕ} (t : Tag) {q : ℕ} (g : Starts from top t q) where
       required-opens (attr (bytes "name") t) _ λ n e.
       either Opens (good (n .value))
       (λ c. row-opens k p (some n) none none 0 (omega (arith, names-types, ap size e)))
-      (λ c. at-name 13 (omega arith) (omega arith))
+      (λ c. at-name 13 refl)
 
   property-opens : (p : ℕ) → Opens (propertyRow whole p t)
   property-opens p =
@@ -119,9 +119,9 @@ module _ {from top : ℕ} (t : Tag) {q : ℕ} (g : Starts from top t q) where
       (λ c. required-opens (attr (bytes "access") t) _ λ a h.
       either Opens (not (eqb (accessOf (a .value)) 0))
       (λ c. row-opens 4 p (some n) (some s) (tpType (t .attrs)) (accessOf (a .value)) (omega (arith, names-types, ap size e, ap size f)))
-      (λ c. at-end 15 (omega arith) (omega arith)))
-      (λ c. at-name 14 (omega arith) (omega arith)))
-      (λ c. at-name 13 (omega arith) (omega arith))
+      (λ c. at-end 15 refl))
+      (λ c. at-name 14 refl))
+      (λ c. at-name 13 refl)
 
   annotation-opens : (p : ℕ) → Opens (annotationRow whole p t)
   annotation-opens p =
@@ -131,7 +131,7 @@ module _ {from top : ℕ} (t : Tag) {q : ℕ} (g : Starts from top t q) where
 
   directed-opens : (o : Option Shown) (f : ℕ → Opened Shown) → ((d : ℕ) → Opens (f d)) → Opens (directed whole o t f)
   directed-opens none f h = h 0
-  directed-opens (some d) f h = either Opens (not (eqb (directionOf (d .value)) 0)) (λ c. h (directionOf (d .value))) (λ c. at-end 16 (omega arith) (omega arith))
+  directed-opens (some d) f h = either Opens (not (eqb (directionOf (d .value)) 0)) (λ c. h (directionOf (d .value))) (λ c. at-end 16 refl)
 
   arg-opens : (p : ℕ) → Opens (argRow whole p t)
   arg-opens p =
@@ -139,7 +139,7 @@ module _ {from top : ℕ} (t : Tag) {q : ℕ} (g : Starts from top t q) where
       either Opens (signature (s .value))
       (λ c. directed-opens (attr (bytes "direction") t) _ λ d.
       row-opens 7 p (attr (bytes "name") t) (some s) (tpType (t .attrs)) d (omega (arith, names-types, ap size e)))
-      (λ c. at-name 14 (omega arith) (omega arith))
+      (λ c. at-name 14 refl)
 
   pub start-opens : (k p : ℕ) → Opens (opensAs whole k p t)
   unfolding opensAs

@@ -1,7 +1,7 @@
--- The faults of a value: their numbers are 9 to 11, and their places lie in the value.
+-- The faults of a value: their numbers, and their places, which lie in the value.
 -- Assumes nothing.
-use Prim.Native.Nat.{ℕ, zero, suc, _+_, _≤_, _<_}
-use mathlib.Core.Path.{_≡_}
+use Prim.Native.Nat.{ℕ, zero, suc, _+_, _<_}
+use mathlib.Core.Path.{_≡_, refl}
 use mathlib.Core.List.{List, [], _∷_}
 use mathlib.Core.Bool.{Bool, not, _&&_, _||_}
 use native.Mathlib.Omega.{arith}
@@ -10,11 +10,7 @@ use lib.ListN.{length}
 use Rattle.slices.specs.Bytes.{bytes, other, span, past, all, empty, same}
 use Rattle.references.specs.Characters.{xmlChar}
 use Rattle.references.specs.Unescape.{Reference, character, fault, ofDigits, number, hexDigit, decimalDigit, ofNumber, charReference, reference, Piece, shows, bad, referred, afterCr, piece, Text, text, wrong, before, joined, shownFrom, unescape}
-use Rattle.bounds.proofs.Branches.{either}
-
--- the number of a fault of a reference
-abbrev Number : ℕ → Type 0
-Number n = (9 ≤ n) × (n ≤ 11)
+use Rattle.bounds.proofs.Branches.{either, Number}
 
 abbrev Refers : Reference → Type 0
 Refers (character c) = Unit {0}
@@ -23,16 +19,16 @@ Refers (fault n) = Number n
 digits-refer : (base : ℕ) (p : ℕ → Bool) (ds : List ℕ) → Refers (ofDigits base p ds)
 digits-refer base p ds =
     either Refers (not (empty ds) && all p ds)
-    (λ t. either Refers (xmlChar (number base 0 ds)) (λ t. tt) (λ t. (omega arith, omega arith)))
-    (λ t. (omega arith, omega arith))
+    (λ t. either Refers (xmlChar (number base 0 ds)) (λ t. tt) (λ t. refl))
+    (λ t. refl)
 
 number-refers : (l : List ℕ) → Refers (ofNumber l)
-number-refers [] = (omega arith, omega arith)
+number-refers [] = refl
 number-refers (b ∷ l) = either Refers (eqb b 120 || eqb b 88) (λ t. digits-refer 16 hexDigit l) (λ t. digits-refer 10 decimalDigit (b ∷ l))
 
 character-refers : (l : List ℕ) → Refers (charReference l)
-character-refers [] = (omega arith, omega arith)
-character-refers (b ∷ l) = either Refers (eqb b 35) (λ t. number-refers l) (λ t. (omega arith, omega arith))
+character-refers [] = refl
+character-refers (b ∷ l) = either Refers (eqb b 35) (λ t. number-refers l) (λ t. refl)
 
 reference-refers : (e : List ℕ) → Refers (reference e)
 unfolding reference
@@ -60,7 +56,7 @@ unfolding piece
 piece-shows b l =
     either Shows (eqb b 38)
     (λ t. either Shows (empty (past (other 59) l))
-    (λ t. (omega arith, omega arith))
+    (λ t. refl)
     (λ t. referred-shows (reference (span (other 59) l)) (suc (length (span (other 59) l))) (reference-refers (span (other 59) l))))
     (λ t. either Shows (eqb b 13) (λ t. cr-shows l) (λ t. either Shows (eqb b 10 || eqb b 9) (λ t. tt) (λ t. tt)))
 

@@ -14,12 +14,13 @@ use Rattle.references.specs.declared.Answer.the-variants as answer
 use Rattle.document.specs.Tags.{Shown}
 use Rattle.document.specs.Reading.{State}
 use Rattle.document.specs.Whole.{verdictOf}
+use Rattle.document.specs.declared.Refusal.{Refusal}
 use Rattle.document.specs.declared.Verdict.{Verdict}
 use Rattle.document.specs.declared.Verdict.the-variants as verdict
 use Rattle.capi.specs.Words.{verdictWords, answerWords, readWords, textWords, partWords, lookupWords}
 
 module _ {v : Verdict} where
-  pub verdict-refused : {n p : ℕ} → v ≡ verdict.Refused n p → (n ∷ p ∷ 0 ∷ 0 ∷ 0 ∷ []) ≡ verdictWords v
+  pub verdict-refused : {x : Refusal} → v ≡ verdict.Refused x → (x .number ∷ x .place ∷ 0 ∷ 0 ∷ 0 ∷ []) ≡ verdictWords v
   verdict-refused e = rw e refl
 
   pub verdict-accepted : {r t w : ℕ} → v ≡ verdict.Accepted r t w → (0 ∷ 0 ∷ r ∷ t ∷ w ∷ []) ≡ verdictWords v

@@ -18,7 +18,7 @@ use Rattle.document.specs.declared.Verdict.the-variants as verdict
 
 -- number, place, rows, text bytes, warnings
 abbrev pub verdictWords : Verdict → List ℕ
-verdictWords (verdict.Refused n p) = n ∷ p ∷ 0 ∷ 0 ∷ 0 ∷ []
+verdictWords (verdict.Refused x) = x .number ∷ x .place ∷ 0 ∷ 0 ∷ 0 ∷ []
 verdictWords (verdict.Accepted rows text warnings) = 0 ∷ 0 ∷ rows ∷ text ∷ warnings ∷ []
 
 -- number, place, bytes written

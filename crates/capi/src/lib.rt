@@ -15,7 +15,7 @@ fn verdict_words(v: Verdict) -> [u64; 5]
     ensures { λ r. ⌜ r ≡ verdictWords v ⌝ }
 {
     match v {
-        Verdict::Refused(number, place) => [number as u64, place as u64, 0, 0, 0],
+        Verdict::Refused(refusal) => [refusal.number as u64, refusal.place as u64, 0, 0, 0],
         Verdict::Accepted(rows, text, warnings) => {
             [0, 0, rows as u64, text as u64, warnings as u64]
         }

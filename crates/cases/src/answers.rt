@@ -37,33 +37,30 @@ fn ignorable(out: &mut [u8], n: usize, t: &[u8]) -> usize {
     }
 }
 
+// Whether a text is one of the names or signatures, by the place of the operation.
+fn holds(operation: usize, t: &[u8]) -> bool {
+    match operation {
+        3 => names::interface_name(t),
+        4 => names::member_name(t),
+        5 => names::property_name(t),
+        6 => names::signature(t),
+        _ => names::basic_signature(t),
+    }
+}
+
 // The operations on a text alone.
 pub fn of_text(out: &mut [u8], n: usize, word: &[u8], t: &[u8]) -> usize {
-    if slices::equal(word, b"utf8") {
-        return ill_formed(out, n, t);
+    let operation = notation::place_of(
+        b"utf8 trim ignorable interface member property signature basic ",
+        word,
+    );
+    match operation {
+        0 => ill_formed(out, n, t),
+        1 => trim(out, n, t),
+        2 => ignorable(out, n, t),
+        3..=7 => yes(out, n, holds(operation, t)),
+        _ => output::put_bytes(out, n, b"no such operation"),
     }
-    if slices::equal(word, b"trim") {
-        return trim(out, n, t);
-    }
-    if slices::equal(word, b"ignorable") {
-        return ignorable(out, n, t);
-    }
-    if slices::equal(word, b"interface") {
-        return yes(out, n, names::interface_name(t));
-    }
-    if slices::equal(word, b"member") {
-        return yes(out, n, names::member_name(t));
-    }
-    if slices::equal(word, b"property") {
-        return yes(out, n, names::property_name(t));
-    }
-    if slices::equal(word, b"signature") {
-        return yes(out, n, names::signature(t));
-    }
-    if slices::equal(word, b"basic") {
-        return yes(out, n, names::basic_signature(t));
-    }
-    output::put_bytes(out, n, b"no such operation")
 }
 
 // What escaping or unescaping answers.
@@ -81,17 +78,18 @@ fn answered(out: &mut [u8], n: usize, answer: Answer, buffer: &[u8]) -> usize {
     notation::shown::put_text(out, k, buffer)
 }
 
-// Escapes a text into a buffer that holds something else.
-pub fn escape(out: &mut [u8], n: usize, t: &[u8], buffer: &mut [u8]) -> usize {
-    notation::text::fill(buffer, 170);
-    let answer = references::escape(t, buffer);
-    answered(out, n, answer, buffer)
+// Escapes or unescapes a text.
+fn change(escapes: bool, t: &[u8], buffer: &mut [u8]) -> Answer {
+    if escapes {
+        return references::escape(t, buffer);
+    }
+    references::unescape(t, buffer)
 }
 
-// Unescapes a text into a buffer that holds something else.
-pub fn unescape(out: &mut [u8], n: usize, t: &[u8], buffer: &mut [u8]) -> usize {
+// The same into a buffer that holds something else.
+pub fn changed(out: &mut [u8], n: usize, escapes: bool, t: &[u8], buffer: &mut [u8]) -> usize {
     notation::text::fill(buffer, 170);
-    let answer = references::unescape(t, buffer);
+    let answer = change(escapes, t, buffer);
     answered(out, n, answer, buffer)
 }
 

@@ -8,7 +8,7 @@ use tables::Triple;
 fn roomy(
     out: &mut [u8],
     n: usize,
-    word: &[u8],
+    escapes: bool,
     s: &[u8],
     first: &mut [u8],
     second: &mut [u8],
@@ -16,10 +16,7 @@ fn roomy(
     let room = notation::number(s);
     let k = notation::text::expand(first, output::after(s, room.after));
     let buffer = output::front_mut(second, room.value as usize);
-    if slices::equal(word, b"escape") {
-        return answers::escape(out, n, output::front(first, k), buffer);
-    }
-    answers::unescape(out, n, output::front(first, k), buffer)
+    answers::changed(out, n, escapes, output::front(first, k), buffer)
 }
 
 // A case of lookup: source, start, length, the document, `|`, the text buffer.
@@ -52,23 +49,17 @@ fn case(out: &mut [u8], n: usize, s: &[u8], first: &mut [u8], second: &mut [u8])
     let space = slices::find(s, 0, b' ');
     let word = output::front(s, space);
     let rest = output::after(output::after(s, space), 1);
-    if slices::equal(word, b"lookup") {
-        return lookup(out, n, rest, first, second);
+    let operation = notation::place_of(b"escape unescape lookup read words ", word);
+    match operation {
+        0..=1 => roomy(out, n, operation == 0, rest, first, second),
+        2 => lookup(out, n, rest, first, second),
+        3 => whole::read(out, n, rest, first, second),
+        4 => whole::words(out, n, rest),
+        _ => {
+            let k = notation::text::expand(first, rest);
+            answers::of_text(out, n, word, output::front(first, k))
+        }
     }
-    if slices::equal(word, b"read") {
-        return whole::read(out, n, rest, first, second);
-    }
-    if slices::equal(word, b"escape") {
-        return roomy(out, n, word, rest, first, second);
-    }
-    if slices::equal(word, b"unescape") {
-        return roomy(out, n, word, rest, first, second);
-    }
-    if slices::equal(word, b"words") {
-        return whole::words(out, n, rest);
-    }
-    let k = notation::text::expand(first, rest);
-    answers::of_text(out, n, word, output::front(first, k))
 }
 
 // A line: a comment is copied, a case is answered.

@@ -1,4 +1,5 @@
 // Whole documents: what the reader answers, the rows, the warnings and the text, and whether all past them is zero.
+use document::Refusal;
 use document::Verdict;
 ghost use Prim.Native.Nat.{_<_, _≤_};
 
@@ -30,10 +31,9 @@ fn put_refused(
     rows: &[u32],
     warnings: &[u32],
     text: &[u8],
-    number: u32,
-    place: usize,
+    refusal: Refusal,
 ) -> usize {
-    let m = output::put_refused(out, n, number, place);
+    let m = output::put_refused(out, n, refusal.number, refusal.place);
     put_tails(
         out,
         m,
@@ -93,7 +93,7 @@ fn lent(
     notation::words::fill(warnings, 2863311530);
     notation::text::fill(text, 170);
     match reader::parse_with_warnings(document, rows, warnings, text) {
-        Verdict::Refused(number, place) => put_refused(out, n, rows, warnings, text, number, place),
+        Verdict::Refused(refusal) => put_refused(out, n, rows, warnings, text, refusal),
         Verdict::Accepted(r, t, w) => put_read(out, n, rows, warnings, text, r, t, w),
     }
 }

@@ -20,6 +20,7 @@ use Rattle.document.specs.Reading.{Frame, element, State, reading, refus
 use Rattle.document.specs.Outcome.{Lent, lent, Stands, Bounded, Ready, TagIs, TagFits, Steps, Leads, Ends, Onward, Begins, Ignores, Captures, Others, Child, Children, runs, whole}
 use Rattle.document.specs.declared.StartTag.{StartTag}
 use Rattle.document.specs.declared.Fill.{Fill}
+use Rattle.document.specs.declared.Refusal.{Refusal}
 use Rattle.document.specs.declared.Answer.{Answer}
 use Rattle.document.specs.declared.Next.{Next}
 
@@ -57,7 +58,7 @@ module _ {doc hs : List ℕ} {docs : Bool} {at len i : ℕ} {f₀ : Fill} {b₀ 
   }
 
   module _ {f : Fill} {b : Lent} (g : Sofar doc hs docs at len i f₀ b₀ f b) {r : Next} (s : Steps doc (f .at) at len r) where
-    pub loop-fault : {n p : ℕ} → r ≡ Next.Fault n p → Children doc hs docs at len i f₀ b₀ b (Answer.Fault n p)
+    pub loop-fault : {x : Refusal} → r ≡ Next.Fault x → Children doc hs docs at len i f₀ b₀ b (Answer.Fault x)
     loop-fault q = record {
       onward = tt;
       ends = λ k fs u e d z.
@@ -98,7 +99,7 @@ module _ {doc hs : List ℕ} {docs : Bool} {at len i : ℕ} {f₀ : Fill} {b₀ 
       }
 
       module _ {b′ : Lent} {a : Answer} (h : Child doc hs docs c i (moved f (c .end)) b b′ a) where
-        pub loop-child-fault : {n p : ℕ} → a ≡ Answer.Fault n p → Children doc hs docs at len i f₀ b₀ b′ (Answer.Fault n p)
+        pub loop-child-fault : {x : Refusal} → a ≡ Answer.Fault x → Children doc hs docs at len i f₀ b₀ b′ (Answer.Fault x)
         loop-child-fault w = record {
           onward = tt;
           ends = λ k fs u e d z.
@@ -150,7 +151,7 @@ rows-kept i n v u h e = rw (← e) (sym (take-take i n v h))
 
 -- an answer that leaves the first n rows leaves the first i of them
 abbrev kept : (doc : List ℕ) (s s′ : State Shown) (fs : List Frame) (n i : ℕ) (u : List (Row Shown)) (b : Lent) (r : Answer) → i ≤ n → s ≡ s′ → Ends doc s′ fs n u b r → Ends doc s fs i (take i u) b r
-kept doc s s′ fs n i u b (Answer.Fault m p) h q e = q ∙ e
+kept doc s s′ fs n i u b (Answer.Fault x) h q e = q ∙ e
 kept doc s s′ fs n i u b (Answer.Done g) h q e = (e .0, e .1, q ∙ e .2, rows-kept i n (e .0 .rows) u h (e .3))
 
 not-held : (doc : List ℕ) (at m i : ℕ) (t : Tag) (fs : List Frame) (u : Tables Shown) → (eqb (kindOf (t .name)) 14 && not (eqb m 6)) ≡ false → among (kindOf (t .name)) (heldBy m) ≡ false → runs doc at (child whole doc m i t fs u) ≡ runs doc at (unsupported whole doc t fs u)

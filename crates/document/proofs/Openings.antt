@@ -19,6 +19,7 @@ use Rattle.document.specs.Reading.{Frame, element, State, reading, refus
 use Rattle.document.specs.Outcome.{Lent, lent, Stands, Bounded, TagIs, Ends, Onward, Begins, Opening, Children, runs, whole}
 use Rattle.document.specs.declared.StartTag.{StartTag}
 use Rattle.document.specs.declared.Fill.{Fill}
+use Rattle.document.specs.declared.Refusal.{Refusal}
 use Rattle.document.specs.declared.Answer.{Answer}
 use Rattle.document.proofs.Runs.{run-refused}
 
@@ -27,11 +28,11 @@ abbrev pub definitions : List ℕ
 definitions = 8 ∷ 9 ∷ 11 ∷ 13 ∷ []
 
 module _ {doc : List ℕ} {k : ℕ} {c : StartTag} {p : ℕ} {f : Fill} {rows rows′ bytes bytes′ : List ℕ} {a : Answer} (o : Opening doc k c p f rows rows′ bytes bytes′ a) where
-  pub opening-fault : {n q : ℕ} {w : List ℕ} → a ≡ Answer.Fault n q → Begins doc k c p f (lent rows w bytes) (lent rows′ w bytes′) (Answer.Fault n q)
+  pub opening-fault : {x : Refusal} {w : List ℕ} → a ≡ Answer.Fault x → Begins doc k c p f (lent rows w bytes) (lent rows′ w bytes′) (Answer.Fault x)
   unfolding begins
-  opening-fault {n} {q} e = record {
+  opening-fault {x} e = record {
     onward = tt;
-    ends = λ t fs u z h s. rw (h, (rw e at o) .is t z) (run-refused whole doc (c .end) n q);
+    ends = λ t fs u z h s. rw (h, (rw e at o) .is t z) (run-refused whole doc (c .end) x);
   }
 
   module _ {g : Fill} (e : a ≡ Answer.Done g) where
@@ -78,11 +79,11 @@ module _ {doc : List ℕ} {k : ℕ} {c : StartTag} {p : ℕ} {f : Fill} {rows ro
         }
           where
             further : (r : Answer) → Onward doc g r → Onward doc f r
-            further (Answer.Fault n q) h = tt
+            further (Answer.Fault x) h = tt
             further (Answer.Done m) h = (omega (arith, done .onward .0, h .0), omega (arith, done .onward .1, h .1), h .2)
 
             carried : {s s′ : State Shown} {before before′ : List (Row Shown)} (fs : List Frame) (r : Answer) → s ≡ s′ → before ≡ before′ → Ends doc s′ fs (f .rows) before b r → Ends doc s fs (f .rows) before′ b r
-            carried fs (Answer.Fault n q) h k e = h ∙ e
+            carried fs (Answer.Fault x) h k e = h ∙ e
             carried fs (Answer.Done m) h k e = (e .0, e .1, h ∙ e .2, e .3 ∙ k)
 
 pub ruleset openings = (opening-fault, opening-bounds, opening-owner, opening-closes, opening-children, needs)

@@ -11,6 +11,7 @@ use Rattle.scan.specs.Ignorable.{ignorable}
 use Rattle.document.specs.Tags.{Shown}
 use Rattle.document.specs.Tokens.{Token, end, more, last, Next, next, tokensFrom, tokens}
 use Rattle.document.specs.Rows.{Tables}
+use Rattle.document.specs.declared.Refusal.{Refusal}
 use Rattle.document.specs.Reading.{State, refused, accepted, step, fold, run}
 
 -- bytes that are taken already are dropped
@@ -44,14 +45,14 @@ module _ {A : Type 0} (keep : Shown → A) (doc : List ℕ) (at : ℕ) (s : Stat
       go (b ∷ l) e = rw e
 
 module _ {A : Type 0} (keep : Shown → A) (doc : List ℕ) where
-  stays-refused : (n p : ℕ) (ts : List Token) → fold keep doc (refused n p) ts ≡ refused n p
+  stays-refused : (x : Refusal) (ts : List Token) → fold keep doc (refused x) ts ≡ refused x
   unfolding step
-  stays-refused n p [] = refl
-  stays-refused n p (t ∷ ts) = stays-refused n p ts
+  stays-refused x [] = refl
+  stays-refused x (t ∷ ts) = stays-refused x ts
 
-  pub run-refused : (at n p : ℕ) → run keep doc at (refused n p) ≡ refused n p
+  pub run-refused : (at : ℕ) (x : Refusal) → run keep doc at (refused x) ≡ refused x
   unfolding run
-  run-refused at n p = stays-refused n p (tokens (drop at doc) at)
+  run-refused at x = stays-refused x (tokens (drop at doc) at)
 
   stays-accepted : (u : Tables A) (ts : List Token) → fold keep doc (accepted u) ts ≡ accepted u
   unfolding step

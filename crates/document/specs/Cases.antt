@@ -34,7 +34,7 @@ abbrev pub resultOf : State Shown → Result
 resultOf begun = unended
 resultOf (reading fs t) = unended
 resultOf (accepted t) = tables (wordsFrom 0 (t .rows)) (texts (t .rows)) (warned (t .warnings))
-resultOf (refused n p) = turned n p
+resultOf (refused x) = turned (x .number) (x .place)
 
 -- a document to read, or a value to escape
 pub data Given : Type 0 where

@@ -11,6 +11,7 @@ use Rattle.names.specs.Signature.{signature, basicSignature}
 use Rattle.document.specs.Tags.{Shown, lookup, tpType}
 use Rattle.document.specs.Tokens.{Tag}
 use Rattle.document.specs.Rows.{Row}
+use Rattle.document.specs.declared.Refusal.{Refusal}
 
 -- what follows the last colon (58)
 abbrev pub localName : List ℕ → List ℕ
@@ -72,10 +73,14 @@ someSignature s = not (empty s) && signature s
 abbrev pub attr : List ℕ → Tag → Option Shown
 attr key t = lookup key (t .attrs)
 
--- what a start tag comes to: its row, or a refusal's number and place
+-- a refusal of a number at a place
+abbrev pub bare : ℕ → ℕ → Refusal
+bare n p = record { number = n; place = p }
+
+-- what a start tag comes to: its row, or a refusal
 pub data Opened (A : Type 0) : Type 0 where
   opens : Row A → Opened A
-  refuses : ℕ → ℕ → Opened A
+  refuses : Refusal → Opened A
 
 -- where of an attribute is kept what `keep` says; p is the parent's row plus one
 module _ {A : Type 0} (keep : Shown → A) where
@@ -88,11 +93,11 @@ module _ {A : Type 0} (keep : Shown → A) where
 
   -- 12 at the element name if the attribute is missing
   abbrev pub required : Option Shown → Tag → (Shown → Opened A) → Opened A
-  required none t f = refuses 12 (suc (t .at))
+  required none t f = refuses (bare 12 (suc (t .at)))
   required (some s) t f = f s
 
   abbrev pub valid : Bool → ℕ → ℕ → Opened A → Opened A
-  valid b n p r = if b r (refuses n p)
+  valid b n p r = if b r (refuses (bare n p))
 
   -- interface, method, signal: name there, name good (13 at the element name)
   abbrev pub namedRow : (List ℕ → Bool) → ℕ → ℕ → Tag → Opened A

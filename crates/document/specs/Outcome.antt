@@ -133,13 +133,13 @@ pub record Ready (doc : List ℕ) (c : StartTag) (f : Fill) : Type 0 where
 
 -- an answer that is no fault is further on, with no fewer rows, within bounds
 abbrev pub Onward : List ℕ → Fill → Answer → Type 0
-Onward doc f (Answer.Fault n p) = Unit {0}
+Onward doc f (Answer.Fault x) = Unit {0}
 Onward doc f (Answer.Done g) = (f .at ≤ g .at) × (f .rows ≤ g .rows) × Bounded doc g
 
 -- a run refuses as the answer says; or it goes on with these frames, the buffers stand for its tables, and the first n rows
 -- are as they were
 abbrev pub Ends : List ℕ → State Shown → List Frame → ℕ → List (Row Shown) → Lent → Answer → Type 0
-Ends doc s fs n before b (Answer.Fault m p) = s ≡ refused m p
+Ends doc s fs n before b (Answer.Fault x) = s ≡ refused x
 Ends doc s fs n before b (Answer.Done g) =
     (v : Tables Shown) × Stands v b g × (s ≡ runs doc (g .at) (closed fs v)) × (take n (v .rows) ≡ before)
 
@@ -155,11 +155,11 @@ pub record Begins (doc : List ℕ) (k : ℕ) (c : StartTag) (p : ℕ) (f : Fill)
 
 -- what putting the row of an element of kind k says: the tag's first fault, or its row in the tables
 abbrev pub OnwardOpening : List ℕ → Fill → Answer → Type 0
-OnwardOpening doc f (Answer.Fault n p) = Unit {0}
+OnwardOpening doc f (Answer.Fault x) = Unit {0}
 OnwardOpening doc f (Answer.Done g) = (g .at ≡ f .at) × (g .rows ≡ f .rows + 1) × Bounded doc g
 
 abbrev pub IsOpening : List ℕ → ℕ → StartTag → ℕ → Fill → List ℕ → List ℕ → List ℕ → List ℕ → Answer → Type 0
-IsOpening doc k c p f rows rows′ bytes bytes′ (Answer.Fault n q) = (t : Tag) → TagIs doc c t → opensAs whole k p t ≡ refuses n q
+IsOpening doc k c p f rows rows′ bytes bytes′ (Answer.Fault x) = (t : Tag) → TagIs doc c t → opensAs whole k p t ≡ refuses x
 IsOpening doc k c p f rows rows′ bytes bytes′ (Answer.Done g) =
     (t : Tag) →
     TagIs doc c t →
@@ -242,12 +242,12 @@ pub record Tokenises (doc : List ℕ) (from : ℕ) (r : Token) : Type 0 where
 
 -- what comes next in an open element, whatever the element is
 abbrev pub OnwardNext : List ℕ → ℕ → Next → Type 0
-OnwardNext doc from (Next.Fault n p) = Unit {0}
+OnwardNext doc from (Next.Fault x) = Unit {0}
 OnwardNext doc from (Next.Close lt q) = (from ≤ lt) × (lt < q) × (q ≤ length doc) × (getD doc lt 0 ≡ 60)
 OnwardNext doc from (Next.Start c) = (from < c .at) × TagFits doc c
 
 abbrev pub Leads : List ℕ → ℕ → Frame → List Frame → Tables Shown → Next → Type 0
-Leads doc from f fs u (Next.Fault n p) = runs doc from (reading.reading (f ∷ fs) u) ≡ refused n p
+Leads doc from f fs u (Next.Fault x) = runs doc from (reading.reading (f ∷ fs) u) ≡ refused x
 Leads doc from f fs u (Next.Close lt q) = runs doc from (reading.reading (f ∷ fs) u) ≡ runs doc q (shut doc f fs u lt)
 Leads doc from f fs u (Next.Start c) =
     (t : Tag) × TagIs doc c t × (runs doc from (reading.reading (f ∷ fs) u) ≡ runs doc (c .end) (started whole doc f fs u t))
@@ -259,11 +259,11 @@ pub record Steps (doc : List ℕ) (from at len : ℕ) (r : Next) : Type 0 where
 
 -- what passing over the rest of an element says, whatever for, when so many elements are open in what is passed over
 abbrev pub OnwardPassed : List ℕ → ℕ → Passed → Type 0
-OnwardPassed doc from (Passed.Fault n p) = Unit {0}
+OnwardPassed doc from (Passed.Fault x) = Unit {0}
 OnwardPassed doc from (Passed.Closed lt q) = (from ≤ lt) × (lt < q) × (q ≤ length doc) × (getD doc lt 0 ≡ 60)
 
 abbrev pub Passing : List ℕ → ℕ → Purpose → List (List ℕ) → List Frame → Tables Shown → Passed → Type 0
-Passing doc from p ns fs u (Passed.Fault n q) = runs doc from (reading.reading (passing p ns ∷ fs) u) ≡ refused n q
+Passing doc from p ns fs u (Passed.Fault x) = runs doc from (reading.reading (passing p ns ∷ fs) u) ≡ refused x
 Passing doc from p ns fs u (Passed.Closed lt q) =
     runs doc from (reading.reading (passing p ns ∷ fs) u) ≡ runs doc q (shut doc (passing p ns) fs u lt)
 

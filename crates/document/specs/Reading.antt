@@ -12,7 +12,8 @@ use Rattle.names.specs.Signature.{basicSignature}
 use Rattle.document.specs.Tags.{Shown}
 use Rattle.document.specs.Tokens.{Tag, Token, start, close, fault, end, tokens}
 use Rattle.document.specs.Rows.{Doc, Row, Warning, Tables, documented}
-use Rattle.document.specs.Elements.{kindOf, mayHold, among, someSignature, attr, Opened, opens, refuses, opensAs}
+use Rattle.document.specs.Elements.{kindOf, mayHold, among, someSignature, attr, bare, Opened, opens, refuses, opensAs}
+use Rattle.document.specs.declared.Refusal.{Refusal}
 
 -- what was seen of a definition's enumvalues or members: how many, whether one is incomplete, whether the first one's type is basic
 pub record Parts : Type 0 where
@@ -45,7 +46,7 @@ pub data State (A : Type 0) : Type 0 where
   begun : State A
   reading : List Frame → Tables A → State A
   accepted : Tables A → State A
-  refused : ℕ → ℕ → State A
+  refused : Refusal → State A
 
 abbrev pub innermost : List (List ℕ) → List ℕ
 innermost [] = []
@@ -187,12 +188,12 @@ module _ {A : Type 0} (keep : Shown → A) (doc : List ℕ) where
   entered k t r fs u =
       let f = frameOf k t (length (u .rows)) in
       let s = shut doc f (noted k t fs) (withRow r u) 0 in
-      let o = if (tooDeep k fs) (refused 7 (t .after)) (reading (f ∷ noted k t fs) (withRow r u)) in
+      let o = if (tooDeep k fs) (refused (bare 7 (t .after))) (reading (f ∷ noted k t fs) (withRow r u)) in
       if (t .self) s o
 
   abbrev pub opened : ℕ → Tag → Opened A → List Frame → Tables A → State A
   opened k t (opens r) fs u = entered k t r fs u
-  opened k t (refuses n p) fs u = refused n p
+  opened k t (refuses x) fs u = refused x
 
   unfoldable pub begins : ℕ → Tag → List Frame → Tables A → State A
   begins k t fs u = opened k t (opensAs keep k (parentOf fs) t) fs u
@@ -220,7 +221,7 @@ module _ {A : Type 0} (keep : Shown → A) (doc : List ℕ) where
   abbrev pub inner : Purpose → List (List ℕ) → Tag → List Frame → Tables A → State A
   inner p ns t fs u =
       let o = reading (passing p (t .name ∷ ns) ∷ fs) u in
-      if (t .self) (reading (passing p ns ∷ fs) u) (if (leb 1024 (length ns)) (refused 7 (t .after)) o)
+      if (t .self) (reading (passing p ns ∷ fs) u) (if (leb 1024 (length ns)) (refused (bare 7 (t .after))) o)
 
   abbrev pub started : Frame → List Frame → Tables A → Tag → State A
   started (element k n i) fs u t = child k i t (element k n i ∷ fs) u
@@ -230,16 +231,16 @@ module _ {A : Type 0} (keep : Shown → A) (doc : List ℕ) where
   -- a token in an open element: 6 for another closing tag, 5 at the end
   abbrev pub turn : Frame → List Frame → Tables A → Token → State A
   turn f fs u (start t) = started f fs u t
-  turn f fs u (close lt m q) = let r = shut doc f fs u lt in if (same m (nameOf f)) r (refused 6 q)
-  turn f fs u (fault n p) = refused n p
-  turn f fs u (end p) = refused 5 p
+  turn f fs u (close lt m q) = let r = shut doc f fs u lt in if (same m (nameOf f)) r (refused (bare 6 q))
+  turn f fs u (fault n p) = refused (bare n p)
+  turn f fs u (end p) = refused (bare 5 p)
 
   -- before the root, which may have any tag
   abbrev pub root : Token → State A
   root (start t) = begins 1 t [] (record { rows = []; warnings = [] })
-  root (close lt m q) = refused 4 (suc lt)
-  root (fault n p) = refused n p
-  root (end p) = refused 3 p
+  root (close lt m q) = refused (bare 4 (suc lt))
+  root (fault n p) = refused (bare n p)
+  root (end p) = refused (bare 3 p)
 
   abbrev pub inside : List Frame → Tables A → Token → State A
   inside [] u t = accepted u
@@ -249,7 +250,7 @@ module _ {A : Type 0} (keep : Shown → A) (doc : List ℕ) where
   step begun t = root t
   step (reading fs u) t = inside fs u t
   step (accepted u) t = accepted u
-  step (refused n p) t = refused n p
+  step (refused x) t = refused x
 
   abbrev pub fold : State A → List Token → State A
   fold s [] = s

@@ -9,6 +9,7 @@ use Rattle.slices.specs.Bytes.{if}
 use Rattle.utf8.specs.WellFormed.{illFormed}
 use Rattle.document.specs.Tags.{Shown}
 use Rattle.document.specs.Rows.{Tables, wordsFrom, texts, warned}
+use Rattle.document.specs.Elements.{bare}
 use Rattle.document.specs.Reading.{State, begun, reading, accepted, refused, run}
 use Rattle.document.specs.declared.Verdict.{Verdict}
 use Rattle.document.specs.declared.Verdict.the-variants.{Refused, Accepted}
@@ -23,8 +24,8 @@ pub record Room : Type 0 where
 unfoldable pub meaning : List ℕ → State Shown
 meaning doc =
     let r = run (λ s. s) doc 0 begun in
-    let u = if (ltb (illFormed doc) (length doc)) (refused 1 (illFormed doc)) r in
-    if (ltb 1048576 (length doc)) (refused 2 1048576) u
+    let u = if (ltb (illFormed doc) (length doc)) (refused (bare 1 (illFormed doc))) r in
+    if (ltb 1048576 (length doc)) (refused (bare 2 1048576)) u
 
 -- 18 if a table is short: only whole rows and whole warnings count as room
 abbrev pub fitted : ℕ → Room → State Shown → State Shown
@@ -32,19 +33,19 @@ fitted end r begun = begun
 fitted end r (reading fs t) = reading fs t
 fitted end r (accepted t) =
     if (ltb (r .rows / 16) (length (t .rows)) || ltb (r .warnings / 4) (length (t .warnings)) || ltb (r .text) (length (texts (t .rows))))
-    (refused 18 end)
+    (refused (bare 18 end))
     (accepted t)
-fitted end r (refused n p) = refused n p
+fitted end r (refused x) = refused x
 
 unfoldable pub read : List ℕ → Room → State Shown
 read doc r = fitted (length doc) r (meaning doc)
 
--- number and place, or the counts; no document ends in `begun` or `reading`, since its last token is the end
+-- the refusal, or the counts; no document ends in `begun` or `reading`, since its last token is the end
 abbrev pub verdictOf : State Shown → Verdict
-verdictOf begun = Refused 0 0
-verdictOf (reading fs t) = Refused 0 0
+verdictOf begun = Refused (bare 0 0)
+verdictOf (reading fs t) = Refused (bare 0 0)
 verdictOf (accepted t) = Accepted (length (t .rows)) (length (texts (t .rows))) (length (t .warnings))
-verdictOf (refused n p) = Refused n p
+verdictOf (refused x) = Refused x
 
 -- what is used, and zeros past it; zeros alone after a refusal
 abbrev pub filled : ℕ → List ℕ → List ℕ
@@ -54,7 +55,7 @@ abbrev pub leftIn : ℕ → (Tables Shown → List ℕ) → State Shown → List
 leftIn room f begun = replicate room 0
 leftIn room f (reading fs t) = replicate room 0
 leftIn room f (accepted t) = filled room (f t)
-leftIn room f (refused n p) = replicate room 0
+leftIn room f (refused x) = replicate room 0
 
 abbrev pub rowsLeft : Room → State Shown → List ℕ
 rowsLeft r s = leftIn (r .rows) (λ t. wordsFrom 0 (t .rows)) s

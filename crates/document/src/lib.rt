@@ -1,8 +1,14 @@
 // The structs that the reader's functions share. What a document means is in specs/.
 
-// Number and place, or how many rows, text bytes and warnings were read.
+// Why a document is refused: the place, and the number.
+pub struct Refusal {
+    pub place: usize,
+    pub number: u32,
+}
+
+// A refusal, or how many rows, text bytes and warnings were read.
 pub enum Verdict {
-    Refused(u32, usize),
+    Refused(Refusal),
     Accepted(usize, usize, usize),
 }
 
@@ -44,7 +50,7 @@ pub struct Fill {
 
 // What reading an element comes to: a fault, or where it ended.
 pub enum Answer {
-    Fault(u32, usize),
+    Fault(Refusal),
     Done(Fill),
 }
 
@@ -66,13 +72,13 @@ pub enum Token {
 
 // What comes next in an open element: a fault, its closing tag (the place of `<` and the place after it), or a start tag.
 pub enum Next {
-    Fault(u32, usize),
+    Fault(Refusal),
     Close(usize, usize),
     Start(StartTag),
 }
 
 // What passing over an element comes to: a fault, or its closing tag.
 pub enum Passed {
-    Fault(u32, usize),
+    Fault(Refusal),
     Closed(usize, usize),
 }

@@ -16,11 +16,12 @@ use Rattle.names.specs.Signature.{signature}
 use Rattle.document.specs.Tags.{Shown, lookup, tpType}
 use Rattle.document.specs.Tokens.{Tag}
 use Rattle.document.specs.Rows.{Row, Tables}
-use Rattle.document.specs.Elements.{attr, accessOf, directionOf, directed, kept, row, opens, refuses, opensAs, Opened}
+use Rattle.document.specs.Elements.{attr, accessOf, directionOf, directed, kept, row, bare, opens, refuses, opensAs, Opened}
 use Rattle.document.specs.Outcome.{lent, Held, ValueIs, ValueFits, Stands, Bounded, Ready, TagIs, Opening, whole}
 use Rattle.document.specs.declared.Value.{Value}
 use Rattle.document.specs.declared.StartTag.{StartTag}
 use Rattle.document.specs.declared.Fill.{Fill}
+use Rattle.document.specs.declared.Refusal.{Refusal}
 use Rattle.document.specs.declared.Answer.{Answer}
 use Rattle.document.proofs.Presence.{value-absent, value-there}
 use Rattle.rows.specs.Outcome.{Lies, RowFits, RowPut, Tests}
@@ -72,7 +73,7 @@ module _ {doc : List ℕ} {c : StartTag} {f : Fill} {h : Head} {name second tp :
   }
 
 -- the tag's first fault
-refused : {doc : List ℕ} {c : StartTag} {f : Fill} {k p n q : ℕ} {rows text : List ℕ} → Ready doc c f → ((t : Tag) → TagIs doc c t → opensAs whole k p t ≡ refuses n q) → Opening doc k c p f rows rows text text (Answer.Fault n q)
+refused : {doc : List ℕ} {c : StartTag} {f : Fill} {k p : ℕ} {x : Refusal} {rows text : List ℕ} → Ready doc c f → ((t : Tag) → TagIs doc c t → opensAs whole k p t ≡ refuses x) → Opening doc k c p f rows rows text text (Answer.Fault x)
 refused r i = record { at = r .at; onward = tt; is = i }
 
 -- the kinds by what they need
@@ -162,27 +163,27 @@ module _ {doc : List ℕ} {c : StartTag} {f : Fill} (r : Ready doc c f) {p : ℕ
 
 -- faults, at the element name
 module _ {doc : List ℕ} {c : StartTag} {f : Fill} (r : Ready doc c f) {p : ℕ} {rows text : List ℕ} where
-  pub named-missing : {k : ℕ} {good : List ℕ → Bool} → NamedKind good k → c .values .name .kind ≡ 0 → Opening doc k c p f rows rows text text (Answer.Fault 12 (c .at))
-  named-missing i e = refused r (λ t z. i .is p t ∙ rw (missing doc (bytes "name") t (c .values .name) (z .values .name) e) (ap (refuses 12) (sym (z .at))))
+  pub named-missing : {k : ℕ} {good : List ℕ → Bool} → NamedKind good k → c .values .name .kind ≡ 0 → Opening doc k c p f rows rows text text (Answer.Fault (bare 12 (c .at)))
+  named-missing i e = refused r (λ t z. i .is p t ∙ rw (missing doc (bytes "name") t (c .values .name) (z .values .name) e) (ap (λ q. refuses (bare 12 q)) (sym (z .at))))
 
-  pub named-bad : {k : ℕ} {good : List ℕ → Bool} {ok : Bool} → NamedKind good k → (c .values .name .kind ≡ 0 → ⊥) → Tests good doc (c .values .name) ok → ok ≡ false → Opening doc k c p f rows rows text text (Answer.Fault 13 (c .at))
+  pub named-bad : {k : ℕ} {good : List ℕ → Bool} {ok : Bool} → NamedKind good k → (c .values .name .kind ≡ 0 → ⊥) → Tests good doc (c .values .name) ok → ok ≡ false → Opening doc k c p f rows rows text text (Answer.Fault (bare 13 (c .at)))
   named-bad i n o e =
       refused r
       (λ t z.
       let s = there doc (bytes "name") t (z .values .name) n in
-      i .is p t ∙ rw (s .1, sym (o .is (s .0) (s .2)) ∙ e) (ap (refuses 13) (sym (z .at))))
+      i .is p t ∙ rw (s .1, sym (o .is (s .0) (s .2)) ∙ e) (ap (λ q. refuses (bare 13 q)) (sym (z .at))))
 
-  pub annotation-unnamed : c .values .name .kind ≡ 0 → Opening doc 6 c p f rows rows text text (Answer.Fault 12 (c .at))
+  pub annotation-unnamed : c .values .name .kind ≡ 0 → Opening doc 6 c p f rows rows text text (Answer.Fault (bare 12 (c .at)))
   unfolding opensAs
-  annotation-unnamed e = refused r (λ t z. rw (missing doc (bytes "name") t (c .values .name) (z .values .name) e) (ap (refuses 12) (sym (z .at))))
+  annotation-unnamed e = refused r (λ t z. rw (missing doc (bytes "name") t (c .values .name) (z .values .name) e) (ap (λ q. refuses (bare 12 q)) (sym (z .at))))
 
-  pub annotation-unvalued : (c .values .name .kind ≡ 0 → ⊥) → c .values .value .kind ≡ 0 → Opening doc 6 c p f rows rows text text (Answer.Fault 12 (c .at))
+  pub annotation-unvalued : (c .values .name .kind ≡ 0 → ⊥) → c .values .value .kind ≡ 0 → Opening doc 6 c p f rows rows text text (Answer.Fault (bare 12 (c .at)))
   unfolding opensAs
   annotation-unvalued n e =
       refused r
       (λ t z.
       let s = there doc (bytes "name") t (z .values .name) n in
-      rw (s .1, missing doc (bytes "value") t (c .values .value) (z .values .value) e) (ap (refuses 12) (sym (z .at))))
+      rw (s .1, missing doc (bytes "value") t (c .values .value) (z .values .value) e) (ap (λ q. refuses (bare 12 q)) (sym (z .at))))
 
 pub lies-name : {doc : List ℕ} {c : StartTag} {f : Fill} → Ready doc c f → Lies doc (c .values .name)
 lies-name r = lies r (r .fits .values .name)
@@ -213,41 +214,41 @@ accesses {doc} {v} n l = record { is = λ o h. let s = value-there doc v o h n i
 -- property: the tests in a row
 module _ {doc : List ℕ} {c : StartTag} {f : Fill} (r : Ready doc c f) {p : ℕ} where
   module _ {rows text : List ℕ} where
-    pub property-unnamed : c .values .name .kind ≡ 0 → Opening doc 4 c p f rows rows text text (Answer.Fault 12 (c .at))
+    pub property-unnamed : c .values .name .kind ≡ 0 → Opening doc 4 c p f rows rows text text (Answer.Fault (bare 12 (c .at)))
     unfolding opensAs
-    property-unnamed e = refused r (λ t z. rw (missing doc (bytes "name") t (c .values .name) (z .values .name) e) (ap (refuses 12) (sym (z .at))))
+    property-unnamed e = refused r (λ t z. rw (missing doc (bytes "name") t (c .values .name) (z .values .name) e) (ap (λ q. refuses (bare 12 q)) (sym (z .at))))
 
   module _ (n : c .values .name .kind ≡ 0 → ⊥) {o : Bool} (i : Tests propertyName doc (c .values .name) o) where
-    pub property-bad : {rows text : List ℕ} → not o ≡ true → Opening doc 4 c p f rows rows text text (Answer.Fault 13 (c .at))
+    pub property-bad : {rows text : List ℕ} → not o ≡ true → Opening doc 4 c p f rows rows text text (Answer.Fault (bare 13 (c .at)))
     unfolding opensAs
     property-bad e =
         refused r
         (λ t z.
         let s = there doc (bytes "name") t (z .values .name) n in
-        rw (s .1, sym (i .is (s .0) (s .2)) ∙ not-true o e) (ap (refuses 13) (sym (z .at))))
+        rw (s .1, sym (i .is (s .0) (s .2)) ∙ not-true o e) (ap (λ q. refuses (bare 13 q)) (sym (z .at))))
 
   module _ (h : PropertyNamed doc c) where
-    pub property-untyped : {rows text : List ℕ} → c .values .ty .kind ≡ 0 → Opening doc 4 c p f rows rows text text (Answer.Fault 12 (c .at))
+    pub property-untyped : {rows text : List ℕ} → c .values .ty .kind ≡ 0 → Opening doc 4 c p f rows rows text text (Answer.Fault (bare 12 (c .at)))
     unfolding opensAs
     property-untyped e =
         refused r
         (λ t z.
         let s = h .is t z in
-        rw (s .1, s .3, missing doc (bytes "type") t (c .values .ty) (z .values .ty) e) (ap (refuses 12) (sym (z .at))))
+        rw (s .1, s .3, missing doc (bytes "type") t (c .values .ty) (z .values .ty) e) (ap (λ q. refuses (bare 12 q)) (sym (z .at))))
 
     module _ (m : c .values .ty .kind ≡ 0 → ⊥) {y : Bool} (j : Tests signature doc (c .values .ty) y) where
-      pub property-unsigned : {rows text : List ℕ} → not y ≡ true → Opening doc 4 c p f rows rows text text (Answer.Fault 14 (c .at))
+      pub property-unsigned : {rows text : List ℕ} → not y ≡ true → Opening doc 4 c p f rows rows text text (Answer.Fault (bare 14 (c .at)))
       unfolding opensAs
       property-unsigned e =
           refused r
           (λ t z.
           let s = h .is t z in
           let w = there doc (bytes "type") t (z .values .ty) m in
-          rw (s .1, s .3, w .1, sym (j .is (w .0) (w .2)) ∙ not-true y e) (ap (refuses 14) (sym (z .at))))
+          rw (s .1, s .3, w .1, sym (j .is (w .0) (w .2)) ∙ not-true y e) (ap (λ q. refuses (bare 14 q)) (sym (z .at))))
 
       module _ (x : not y ≡ false) where
         module _ {word : ℕ} (l : Accesses doc (c .values .access) word) where
-          pub property-unaccessed : {rows text : List ℕ} → word ≡ 4 → Opening doc 4 c p f rows rows text text (Answer.Fault 12 (c .at))
+          pub property-unaccessed : {rows text : List ℕ} → word ≡ 4 → Opening doc 4 c p f rows rows text text (Answer.Fault (bare 12 (c .at)))
           unfolding opensAs
           property-unaccessed e =
               refused r
@@ -255,9 +256,9 @@ module _ {doc : List ℕ} {c : StartTag} {f : Fill} (r : Ready doc c f) {p : ℕ
               let s = h .is t z in
               let w = there doc (bytes "type") t (z .values .ty) m in
               rw (s .1, s .3, w .1, sym (j .is (w .0) (w .2)) ∙ not-false y x, access-missing (attr (bytes "access") t) (sym (l .is (attr (bytes "access") t) (z .values .access)) ∙ e))
-              (ap (refuses 12) (sym (z .at))))
+              (ap (λ q. refuses (bare 12 q)) (sym (z .at))))
 
-          pub property-inaccessible : {rows text : List ℕ} → word ≡ 0 → Opening doc 4 c p f rows rows text text (Answer.Fault 15 (c .end))
+          pub property-inaccessible : {rows text : List ℕ} → word ≡ 0 → Opening doc 4 c p f rows rows text text (Answer.Fault (bare 15 (c .end)))
           unfolding opensAs
           property-inaccessible e =
               refused r
@@ -266,7 +267,7 @@ module _ {doc : List ℕ} {c : StartTag} {f : Fill} (r : Ready doc c f) {p : ℕ
               let w = there doc (bytes "type") t (z .values .ty) m in
               let v = access-there (attr (bytes "access") t) (λ i. four word (l .is (attr (bytes "access") t) (z .values .access) ∙ i) e) in
               rw (s .1, s .3, w .1, sym (j .is (w .0) (w .2)) ∙ not-false y x, v .1, ← v .2, ← l .is (attr (bytes "access") t) (z .values .access), e)
-              (ap (refuses 15) (sym (z .end))))
+              (ap (λ q. refuses (bare 15 q)) (sym (z .end))))
 
           pub property-done : {rows rows′ text text′ : List ℕ} {g : Fill} → (word ≡ 4 → ⊥) → (word ≡ 0 → ⊥) → RowPut doc (record { kind = 4; parent = p; word = word }) (c .values .name) (c .values .ty) (c .values .tp) f rows rows′ text text′ g → Opening doc 4 c p f rows rows′ text text′ (Answer.Done g)
           unfolding opensAs
@@ -309,11 +310,11 @@ not-three true b e = omega arith
 not-three false true e = omega arith
 not-three false false e = omega arith
 
-direction-bad : (t : Tag) (o : Option Shown) (k : ℕ → Opened Shown) → directionWord o ≡ 3 → directed whole o t k ≡ refuses 16 (t .after)
+direction-bad : (t : Tag) (o : Option Shown) (k : ℕ → Opened Shown) → directionWord o ≡ 3 → directed whole o t k ≡ refuses (bare 16 (t .after))
 direction-bad t none k e = absurd (omega arith)
 direction-bad t (some s) k e = go (eqb (directionOf (s .value)) 0) refl e
   where
-    go : (b : Bool) → eqb (directionOf (s .value)) 0 ≡ b → if b 3 (directionOf (s .value)) ≡ 3 → directed whole (some s) t k ≡ refuses 16 (t .after)
+    go : (b : Bool) → eqb (directionOf (s .value)) 0 ≡ b → if b 3 (directionOf (s .value)) ≡ 3 → directed whole (some s) t k ≡ refuses (bare 16 (t .after))
     go true h e = rw h
     go false h e = absurd (not-three (same (s .value) (bytes "in")) (same (s .value) (bytes "out")) e)
 
@@ -326,18 +327,18 @@ direction-good t (some s) k e = go (eqb (directionOf (s .value)) 0) refl e
     go false h e = rw h
 
 module _ {doc : List ℕ} {c : StartTag} {f : Fill} (r : Ready doc c f) where
-  pub arg-untyped : {p : ℕ} {rows text : List ℕ} → c .values .ty .kind ≡ 0 → Opening doc 7 c p f rows rows text text (Answer.Fault 12 (c .at))
+  pub arg-untyped : {p : ℕ} {rows text : List ℕ} → c .values .ty .kind ≡ 0 → Opening doc 7 c p f rows rows text text (Answer.Fault (bare 12 (c .at)))
   unfolding opensAs
-  arg-untyped e = refused r (λ t z. rw (missing doc (bytes "type") t (c .values .ty) (z .values .ty) e) (ap (refuses 12) (sym (z .at))))
+  arg-untyped e = refused r (λ t z. rw (missing doc (bytes "type") t (c .values .ty) (z .values .ty) e) (ap (λ q. refuses (bare 12 q)) (sym (z .at))))
 
   module _ (m : c .values .ty .kind ≡ 0 → ⊥) {y : Bool} (j : Tests signature doc (c .values .ty) y) where
-    pub arg-unsigned : {p : ℕ} {rows text : List ℕ} → not y ≡ true → Opening doc 7 c p f rows rows text text (Answer.Fault 14 (c .at))
+    pub arg-unsigned : {p : ℕ} {rows text : List ℕ} → not y ≡ true → Opening doc 7 c p f rows rows text text (Answer.Fault (bare 14 (c .at)))
     unfolding opensAs
     arg-unsigned e =
         refused r
         (λ t z.
         let w = there doc (bytes "type") t (z .values .ty) m in
-        rw (w .1, sym (j .is (w .0) (w .2)) ∙ not-true y e) (ap (refuses 14) (sym (z .at))))
+        rw (w .1, sym (j .is (w .0) (w .2)) ∙ not-true y e) (ap (λ q. refuses (bare 14 q)) (sym (z .at))))
 
     module _ (x : not y ≡ false) {word : ℕ} (l : Directs doc (c .values .direction) word) where
       typed : (p : ℕ) (t : Tag) → TagIs doc c t → (w : Shown) × Held doc (c .values .ty) w × (opensAs whole 7 p t ≡ directed whole (attr (bytes "direction") t) t (λ d. opens (row whole 7 p (attr (bytes "name") t) (some w) (tpType (t .attrs)) d)))
@@ -346,13 +347,13 @@ module _ {doc : List ℕ} {c : StartTag} {f : Fill} (r : Ready doc c f) where
           let w = there doc (bytes "type") t (z .values .ty) m in
           (w .0, w .2, rw (w .1, sym (j .is (w .0) (w .2)) ∙ not-false y x))
 
-      pub arg-undirected : {p : ℕ} {rows text : List ℕ} → word ≡ 3 → Opening doc 7 c p f rows rows text text (Answer.Fault 16 (c .end))
+      pub arg-undirected : {p : ℕ} {rows text : List ℕ} → word ≡ 3 → Opening doc 7 c p f rows rows text text (Answer.Fault (bare 16 (c .end)))
       arg-undirected {p} e =
           refused r
           (λ t z.
           typed p t z .2
           ∙ direction-bad t (attr (bytes "direction") t) (λ d. opens (row whole 7 p (attr (bytes "name") t) (some (typed p t z .0)) (tpType (t .attrs)) d)) (sym (l .is (attr (bytes "direction") t) (z .values .direction)) ∙ e)
-          ∙ ap (refuses 16) (sym (z .end)))
+          ∙ ap (λ q. refuses (bare 16 q)) (sym (z .end)))
 
       pub arg-done : {p : ℕ} {rows rows′ text text′ : List ℕ} {g : Fill} → (word ≡ 3 → ⊥) → RowPut doc (record { kind = 7; parent = p; word = word }) (c .values .name) (c .values .ty) (c .values .tp) f rows rows′ text text′ g → Opening doc 7 c p f rows rows′ text text′ (Answer.Done g)
       arg-done {p} e q =

@@ -1,6 +1,7 @@
 // What a start tag needs: the row of each kind of element, or the tag's first fault.
 use document::Answer;
 use document::Fill;
+use document::Refusal;
 use document::StartTag;
 use document::Value;
 use rows::Head;
@@ -56,7 +57,10 @@ pub fn interface_row(
 {
     let name = c.values.name;
     if name.kind == 0 {
-        return Answer::Fault(12, c.at);
+        return Answer::Fault(Refusal {
+            number: 12,
+            place: c.at,
+        });
     }
     if rows::shown_interface(doc, name) {
         let head = Head {
@@ -66,7 +70,10 @@ pub fn interface_row(
         };
         return Answer::Done(rows::put_row(doc, rows, text, head, name, absent(), absent(), f));
     }
-    Answer::Fault(13, c.at)
+    Answer::Fault(Refusal {
+        number: 13,
+        place: c.at,
+    })
 }
 
 // A method or a signal: name there, name good.
@@ -84,7 +91,10 @@ pub fn member_row(
 {
     let name = c.values.name;
     if name.kind == 0 {
-        return Answer::Fault(12, c.at);
+        return Answer::Fault(Refusal {
+            number: 12,
+            place: c.at,
+        });
     }
     if rows::shown_member(doc, name) {
         let head = Head {
@@ -94,7 +104,10 @@ pub fn member_row(
         };
         return Answer::Done(rows::put_row(doc, rows, text, head, name, absent(), absent(), f));
     }
-    Answer::Fault(13, c.at)
+    Answer::Fault(Refusal {
+        number: 13,
+        place: c.at,
+    })
 }
 
 // An annotation: name, value.
@@ -112,10 +125,16 @@ pub fn annotation_row(
     let name = c.values.name;
     let value = c.values.value;
     if name.kind == 0 {
-        return Answer::Fault(12, c.at);
+        return Answer::Fault(Refusal {
+            number: 12,
+            place: c.at,
+        });
     }
     if value.kind == 0 {
-        return Answer::Fault(12, c.at);
+        return Answer::Fault(Refusal {
+            number: 12,
+            place: c.at,
+        });
     }
     let head = Head {
         kind: 6,
@@ -248,10 +267,16 @@ pub fn property_row(
 {
     let v = c.values;
     if v.name.kind == 0 {
-        return Answer::Fault(12, c.at);
+        return Answer::Fault(Refusal {
+            number: 12,
+            place: c.at,
+        });
     }
     if !rows::shown_property(doc, v.name) {
-        return Answer::Fault(13, c.at);
+        return Answer::Fault(Refusal {
+            number: 13,
+            place: c.at,
+        });
     }
     accessed_row(doc, rows, text, c, parent, f)
 }
@@ -270,17 +295,29 @@ fn accessed_row(
 {
     let v = c.values;
     if v.ty.kind == 0 {
-        return Answer::Fault(12, c.at);
+        return Answer::Fault(Refusal {
+            number: 12,
+            place: c.at,
+        });
     }
     if !rows::shown_signature(doc, v.ty) {
-        return Answer::Fault(14, c.at);
+        return Answer::Fault(Refusal {
+            number: 14,
+            place: c.at,
+        });
     }
     let word = access_word(doc, v.access);
     if word == 4 {
-        return Answer::Fault(12, c.at);
+        return Answer::Fault(Refusal {
+            number: 12,
+            place: c.at,
+        });
     }
     if word == 0 {
-        return Answer::Fault(15, c.end);
+        return Answer::Fault(Refusal {
+            number: 15,
+            place: c.end,
+        });
     }
     let head = Head {
         kind: 4,
@@ -330,14 +367,23 @@ pub fn arg_row(
 {
     let v = c.values;
     if v.ty.kind == 0 {
-        return Answer::Fault(12, c.at);
+        return Answer::Fault(Refusal {
+            number: 12,
+            place: c.at,
+        });
     }
     if !rows::shown_signature(doc, v.ty) {
-        return Answer::Fault(14, c.at);
+        return Answer::Fault(Refusal {
+            number: 14,
+            place: c.at,
+        });
     }
     let word = direction_word(doc, v.direction);
     if word == 3 {
-        return Answer::Fault(16, c.end);
+        return Answer::Fault(Refusal {
+            number: 16,
+            place: c.end,
+        });
     }
     let head = Head {
         kind: 7,

@@ -22,7 +22,7 @@ module _ {A B : Type 0} (f : A → B) where
   view begun = begun
   view (reading fs t) = reading fs (viewTables t)
   view (accepted t) = accepted (viewTables t)
-  view (refused n p) = refused n p
+  view (refused x) = refused x
 
 -- the text that a value shows
 abbrev pub textShown : Shown → List ℕ

@@ -112,7 +112,7 @@ fn put_listing(out: &mut [u8], document: &[u8]) -> usize {
     let mut warnings = [0u32; 16384];
     let mut text = io::large_buffer();
     match reader::parse_with_warnings(document, &mut rows, &mut warnings, &mut text) {
-        Verdict::Refused(number, place) => put_refused(out, number, place),
+        Verdict::Refused(refusal) => put_refused(out, refusal.number, refusal.place),
         Verdict::Accepted(r, t, w) => put_accepted(out, &rows, &warnings, r, t, w),
     }
 }

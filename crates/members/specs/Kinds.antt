@@ -16,7 +16,3 @@ pub record MemberKind (k : ℕ) : Type 0 where
   pub docs : not (eqb k 6) ≡ true
   pub plain : among k (8 ∷ 9 ∷ 11 ∷ 13 ∷ []) ≡ false
   pub node : eqb k 1 ≡ false
-
--- whether a kind is one of these
-pub record Among (k : ℕ) (ks : List ℕ) (r : Bool) : Type 0 where
-  pub is : r ≡ among k ks

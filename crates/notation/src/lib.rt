@@ -55,6 +55,25 @@ pub fn is_comment(s: &[u8]) -> bool {
     s[0] == b'#'
 }
 
+// The place of a word in a list of words, each with a space after it: how many there are if it is none of them.
+pub fn place_of(list: &[u8], word: &[u8]) -> usize {
+    let mut at = 0;
+    let mut n = 0;
+    while at < list.len() {
+        let end = slices::find(list, at, b' ');
+        if slices::equal(output::after(output::front(list, end), at), word) {
+            return n;
+        }
+        n += 1;
+        if end < list.len() {
+            at = end + 1;
+        } else {
+            return n;
+        }
+    }
+    n
+}
+
 // Room for all cases.
 pub fn cases_buffer() -> [u8; 524288]
     ensures { λ r. ⌜ 524288 ≡ length r ⌝ }

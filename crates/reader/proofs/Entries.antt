@@ -15,9 +15,11 @@ use Rattle.tables.specs.Table.{Rep, Wiped, cleared}
 use Rattle.tables.proofs.Tables.{clear-all, clear-rest, rows-fit}
 use Rattle.document.specs.Tags.{Shown}
 use Rattle.document.specs.Rows.{Tables, wordsFrom, texts, warned}
+use Rattle.document.specs.Elements.{bare}
 use Rattle.document.specs.Reading.{State, begun, accepted, refused}
 use Rattle.document.specs.Whole.{Room, meaning, read, filled, verdictOf, rowsLeft, warningsLeft, textLeft}
 use Rattle.document.specs.Outcome.{Lent, lent, Stands, Sound, runs}
+use Rattle.document.specs.declared.Refusal.{Refusal}
 use Rattle.document.specs.declared.Fill.{Fill}
 use Rattle.document.specs.declared.Answer.{Answer}
 use Rattle.document.specs.declared.Verdict.{Verdict}
@@ -28,7 +30,7 @@ use Rattle.reader.specs.Nodes.{ReadsWhole}
 use Rattle.reader.specs.Entry.{room, Says, Ended, Refuses, hasRoom, HasRoom, Accepts}
 
 -- clearing every buffer, and clearing the tails
-pub refuses : {n p : ℕ} {r r′ w w′ t t′ : List ℕ} → Wiped 0 r r′ → Wiped 0 w w′ → Wiped 0 t t′ → Refuses n p r r′ w w′ t t′ (Refused n p)
+pub refuses : {x : Refusal} {r r′ w w′ t t′ : List ℕ} → Wiped 0 r r′ → Wiped 0 w w′ → Wiped 0 t t′ → Refuses x r r′ w w′ t t′ (Refused x)
 refuses {r = r} {w = w} {t = t} a b c = record {
   verdict = refl;
   rows-left = a .is ∙ clear-all r;
@@ -61,11 +63,11 @@ text-room {r} {w} {t} {f} g h = record { is = rw (le-ltb (r / 16) (f .rows) g, l
 pub ruleset rooms = (no-rows, no-warnings, text-room, needs)
 
 -- the meaning of a document, by its limit and its UTF-8
-long : (doc : List ℕ) → 1048576 < length doc → meaning doc ≡ refused 2 1048576
+long : (doc : List ℕ) → 1048576 < length doc → meaning doc ≡ refused (bare 2 1048576)
 unfolding meaning
 long doc h = simp (lt-ltb 1048576 (length doc) h)
 
-ill : (doc : List ℕ) → length doc ≤ 1048576 → illFormed doc < length doc → meaning doc ≡ refused 1 (illFormed doc)
+ill : (doc : List ℕ) → length doc ≤ 1048576 → illFormed doc < length doc → meaning doc ≡ refused (bare 1 (illFormed doc))
 unfolding meaning
 ill doc h l = simp (le-ltb 1048576 (length doc) h, lt-ltb (illFormed doc) (length doc) l)
 
@@ -98,25 +100,25 @@ done {doc} {r} {w} {t} {a} {f} x e =
     (y .ends .0, y .ends .1, sound doc (x .sound) ∙ y .ends .2)
 
 -- a refusal
-turned : {doc : List ℕ} {n p : ℕ} {r r′ w w′ t t′ : List ℕ} {v : Verdict} → read doc (room (length r) (length w) (length t)) ≡ refused n p → Refuses n p r r′ w w′ t t′ v → Says doc (length r) (length w) (length t) r′ w′ t′ v
+turned : {doc : List ℕ} {x : Refusal} {r r′ w w′ t t′ : List ℕ} {v : Verdict} → read doc (room (length r) (length w) (length t)) ≡ refused x → Refuses x r r′ w w′ t t′ v → Says doc (length r) (length w) (length t) r′ w′ t′ v
 turned e z = record { verdict = rw e (z .verdict); rows-left = rw e (z .rows-left); warnings-left = rw e (z .warnings-left); text-left = rw e (z .text-left) }
 
 module _ {doc : List ℕ} {r r′ w w′ t t′ : List ℕ} {v : Verdict} where
-  pub too-long : 1048576 < length doc → Refuses 2 1048576 r r′ w w′ t t′ v → Says doc (length r) (length w) (length t) r′ w′ t′ v
+  pub too-long : 1048576 < length doc → Refuses (bare 2 1048576) r r′ w w′ t t′ v → Says doc (length r) (length w) (length t) r′ w′ t′ v
   unfolding read
   too-long h = turned (rw (long doc h))
 
-  pub not-utf8 : {p : ℕ} → length doc ≤ 1048576 → p ≡ illFormed doc → p < length doc → Refuses 1 p r r′ w w′ t t′ v → Says doc (length r) (length w) (length t) r′ w′ t′ v
+  pub not-utf8 : {p : ℕ} → length doc ≤ 1048576 → p ≡ illFormed doc → p < length doc → Refuses (bare 1 p) r r′ w w′ t t′ v → Says doc (length r) (length w) (length t) r′ w′ t′ v
   unfolding read
   not-utf8 h e l = turned (rw (ill doc h (rw e at l), e))
 
   module _ {a : Answer} (x : Ended doc r w t a) where
-    pub faulty : {n p : ℕ} → a ≡ Answer.Fault n p → Refuses n p r r′ w w′ t t′ v → Says doc (length r) (length w) (length t) r′ w′ t′ v
+    pub faulty : {y : Refusal} → a ≡ Answer.Fault y → Refuses y r r′ w w′ t t′ v → Says doc (length r) (length w) (length t) r′ w′ t′ v
     unfolding read
     faulty e = turned (rw (sound doc (x .sound) ∙ (rw e at x) .ends))
 
     module _ {f : Fill} (e : a ≡ Answer.Done f) where
-      pub crowded : {b : Bool} → HasRoom (length r) (length w) (length t) f b → b ≡ false → Refuses 18 (length doc) r r′ w w′ t t′ v → Says doc (length r) (length w) (length t) r′ w′ t′ v
+      pub crowded : {b : Bool} → HasRoom (length r) (length w) (length t) f b → b ≡ false → Refuses (bare 18 (length doc)) r r′ w w′ t t′ v → Says doc (length r) (length w) (length t) r′ w′ t′ v
       unfolding read
       crowded {b} h g =
           let d = done x e in

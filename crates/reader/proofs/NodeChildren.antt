@@ -4,7 +4,8 @@ use mathlib.Core.List.{_∷_}
 use borrow.Author.Needs.{needs}
 use Rattle.document.proofs.Loops.{child-begins}
 use Rattle.document.proofs.Openings.{definitions}
-use Rattle.members.proofs.Members.{HoldsDefinitions, holds-definitions, holds-more, child-definition, definition-kind, among-none, none-more, child-else, child-parent}
+use Rattle.members.proofs.Members.{none-more, child-else, child-parent}
+use Rattle.interfaces.proofs.Interfaces.{HoldsDefinitions, holds-definitions, holds-more, child-definition, definition-kind, among-none}
 
 pub node-holds : HoldsDefinitions (1 ∷ 2 ∷ definitions)
 node-holds = holds-more (holds-more holds-definitions)

@@ -19,10 +19,11 @@ use Rattle.slices.proofs.Runs.{both}
 use Rattle.document.specs.Tags.{Shown}
 use Rattle.document.specs.Tokens.{Tag}
 use Rattle.document.specs.Rows.{Row, Tables}
-use Rattle.document.specs.Elements.{opens, refuses, opensAs, kindOf, localKind, localName}
+use Rattle.document.specs.Elements.{bare, opens, refuses, opensAs, kindOf, localKind, localName}
 use Rattle.document.specs.Reading.{Frame, element, State, reading, refused, closed, parentOf, withRow, entered, begins}
 use Rattle.document.specs.Outcome.{Lent, lent, Stands, Bounded, Ready, TagIs, TagFits, Opening, runs, whole}
 use Rattle.document.specs.declared.StartTag.{StartTag}
+use Rattle.document.specs.declared.Refusal.{Refusal}
 use Rattle.document.specs.declared.Fill.{Fill}
 use Rattle.document.specs.declared.Answer.{Answer}
 use Rattle.document.proofs.Runs.{run-refused}
@@ -100,11 +101,11 @@ module _ {doc opened : List ℕ} {c : StartTag} {s : Walk} (begun : Started doc 
   level-inside n = omega (arith, g .few, g .long)
 
   module _ (i : ℕ) {rows rows′ text text′ : List ℕ} {a : Answer} (o : Opening doc 1 c (i + 1) (moved (s .fill) (c .end)) rows rows′ text text′ a) where
-    pub open-fault : {n q : ℕ} → a ≡ Answer.Fault n q → Opens doc c i s opened opened rows rows′ text text′ (Fault n q)
+    pub open-fault : {y : Refusal} → a ≡ Answer.Fault y → Opens doc c i s opened opened rows rows′ text text′ (Fault y)
     unfolding begins
-    open-fault {n} {q} e = record {
+    open-fault {y} e = record {
       onward = tt;
-      leads = λ root t v w z d h x. rw (h, ← add-one i, (rw e at o) .is t z) (run-refused whole doc (c .end) n q);
+      leads = λ root t v w z d h x. rw (h, ← add-one i, (rw e at o) .is t z) (run-refused whole doc (c .end) y);
     }
 
     module _ {h : Fill} (e : a ≡ Answer.Done h) where
@@ -147,12 +148,12 @@ module _ {doc opened : List ℕ} {c : StartTag} {s : Walk} (begun : Started doc 
       }
 
       module _ (x : c .closes ≡ false) where
-        deep-at : (root : List ℕ) (t : Tag) (v : Tables Shown) → TagIs doc c t → s .depth ≡ 1024 → (row : Row Shown) → runs doc (c .end) (entered whole doc 1 t row (framesOf root opened (s .depth)) v) ≡ refused 7 (c .end)
+        deep-at : (root : List ℕ) (t : Tag) (v : Tables Shown) → TagIs doc c t → s .depth ≡ 1024 → (row : Row Shown) → runs doc (c .end) (entered whole doc 1 t row (framesOf root opened (s .depth)) v) ≡ refused (bare 7 (c .end))
         deep-at root t v z n row =
             let b : leb 1024 (length (framesOf root opened (s .depth))) ≡ true = le-leb 1024 (length (framesOf root opened (s .depth))) (omega (arith, frames-length root opened (s .depth))) in
-            rw (sym (z .closes) ∙ x, b) (run-refused whole doc (c .end) 7 (t .after)) ∙ ap (refused 7) (sym (z .end))
+            rw (sym (z .closes) ∙ x, b) (run-refused whole doc (c .end) (bare 7 (t .after))) ∙ ap (λ q. refused (bare 7 q)) (sym (z .end))
 
-        pub open-deep : s .depth ≡ 1024 → Opens doc c i s opened opened rows rows′ text text′ (Fault 7 (c .end))
+        pub open-deep : s .depth ≡ 1024 → Opens doc c i s opened opened rows rows′ text text′ (Fault (bare 7 (c .end)))
         open-deep n = record {
           onward = tt;
           leads = λ root t v w z d k y.

@@ -14,11 +14,12 @@ use Rattle.tables.proofs.Tables.{empty-stands}
 use Rattle.document.specs.Tags.{Shown}
 use Rattle.document.specs.Tokens.{Tag}
 use Rattle.document.specs.Rows.{Row, Tables}
-use Rattle.document.specs.Elements.{opens, opensAs}
+use Rattle.document.specs.Elements.{bare, opens, opensAs}
 use Rattle.document.specs.Reading.{Frame, element, State, begun, reading, accepted, refused, withRow, entered, begins, step}
 use Rattle.document.specs.Outcome.{Lent, lent, Stands, Bounded, Ready, Sound, TagIs, TagFits, Tokenises, Opening, runs, whole}
 use Rattle.document.specs.declared.StartTag.{StartTag}
 use Rattle.document.specs.declared.ClosingTag.{ClosingTag}
+use Rattle.document.specs.declared.Refusal.{Refusal}
 use Rattle.document.specs.declared.Fill.{Fill}
 use Rattle.document.specs.declared.Answer.{Answer}
 use Rattle.document.specs.declared.Token.{Token}
@@ -44,7 +45,7 @@ pub walk-begins : {doc root opened : List ℕ} {s : Walk} {b : Lent} → Walking
 walk-begins g = record { walks = g; leads = λ v d y. (v, y, refl, d) }
 
 module _ {doc root opened₀ opened opened′ : List ℕ} {s₀ s : Walk} {b₀ b b′ : Lent} (g : Sofar doc root opened₀ s₀ b₀ opened s b) {k : Turn} (h : Turns doc root opened opened′ s b b′ k) where
-  pub walk-fault : {n p : ℕ} → k ≡ Fault n p → Walks doc root opened₀ s₀ b₀ b′ (Answer.Fault n p)
+  pub walk-fault : {x : Refusal} → k ≡ Fault x → Walks doc root opened₀ s₀ b₀ b′ (Answer.Fault x)
   walk-fault e = record { leads = λ v d y. let x = g .leads v d y in x .2 ∙ (rw e at h) .leads (x .0) (x .3) (x .1) }
 
   pub walk-done : {f : Fill} → k ≡ Done f → Walks doc root opened₀ s₀ b₀ b′ (Answer.Done f)
@@ -74,7 +75,7 @@ module _ {doc root opened₀ opened opened′ : List ℕ} {s₀ s : Walk} {b₀ 
 pub ruleset walking = (walk-begins, walk-fault, walk-done, walk-on, walk-less, needs)
 
 carried : {s s′ : State Shown} (b : Lent) (r : Answer) → s ≡ s′ → EndsNodes s′ b r → EndsNodes s b r
-carried b (Answer.Fault n p) h e = h ∙ e
+carried b (Answer.Fault x) h e = h ∙ e
 carried b (Answer.Done f) h e = (e .0, e .1, h ∙ e .2)
 
 -- the root's row, in tables that are empty
@@ -82,9 +83,9 @@ pub root-ready : {doc : List ℕ} {c : StartTag} → Sound doc → TagFits doc c
 root-ready sound fits l = record { sound = sound; fits = fits; at = refl; few = omega arith; text = omega arith }
 
 module _ {doc : List ℕ} {c : StartTag} {rows rows′ text text′ : List ℕ} {a : Answer} (o : Opening doc 1 c 0 (record { at = c .end; rows = 0; warnings = 0; text = 0 }) rows rows′ text text′ a) where
-  pub root-fault : {w : List ℕ} {n q : ℕ} → a ≡ Answer.Fault n q → ReadsRoot doc c (lent rows′ w text′) (Answer.Fault n q)
+  pub root-fault : {w : List ℕ} {x : Refusal} → a ≡ Answer.Fault x → ReadsRoot doc c (lent rows′ w text′) (Answer.Fault x)
   unfolding begins
-  root-fault {w} {n} {q} e = record { ends = λ t z. rw ((rw e at o) .is t z) (run-refused whole doc (c .end) n q) }
+  root-fault {w} {x} e = record { ends = λ t z. rw ((rw e at o) .is t z) (run-refused whole doc (c .end) x) }
 
   module _ {h : Fill} (e : a ≡ Answer.Done h) where
     done : Opening doc 1 c 0 (record { at = c .end; rows = 0; warnings = 0; text = 0 }) rows rows′ text text′ (Answer.Done h)
@@ -155,20 +156,20 @@ pub ruleset rooted = (root-ready, root-fault, root-closes, root-open, needs)
 
 -- the first token
 module _ {doc : List ℕ} {k : Token} (x : Tokenises doc 0 k) where
-  pub first-fault : {b : Lent} {n p : ℕ} → k ≡ Token.Fault n p → ReadsWhole doc b (Answer.Fault n p)
+  pub first-fault : {b : Lent} {n p : ℕ} → k ≡ Token.Fault n p → ReadsWhole doc b (Answer.Fault (bare n p))
   unfolding step
   first-fault e = record { ends = run-last whole doc 0 begun _ ((rw e at x) .is) }
 
-  pub first-end : {b : Lent} {p : ℕ} → k ≡ Token.End p → ReadsWhole doc b (Answer.Fault 3 p)
+  pub first-end : {b : Lent} {p : ℕ} → k ≡ Token.End p → ReadsWhole doc b (Answer.Fault (bare 3 p))
   unfolding step
   first-end e = record { ends = run-last whole doc 0 begun _ ((rw e at x) .is) }
 
-  pub first-close : {b : Lent} {c : ClosingTag} → k ≡ Token.Close c → ReadsWhole doc b (Answer.Fault 4 (c .lt + 1))
+  pub first-close : {b : Lent} {c : ClosingTag} → k ≡ Token.Close c → ReadsWhole doc b (Answer.Fault (bare 4 (c .lt + 1)))
   unfolding step
   first-close {c = c} e =
       let t : Tokenises doc 0 (Token.Close c) = rw e at x in
       record {
-        ends = run-more whole doc 0 begun _ (c .end) (t .is) (omega (arith, t .onward)) (t .onward .3) ∙ rw add-one (run-refused whole doc (c .end) 4 (suc (c .lt)));
+        ends = run-more whole doc 0 begun _ (c .end) (t .is) (omega (arith, t .onward)) (t .onward .3) ∙ rw add-one (run-refused whole doc (c .end) (bare 4 (suc (c .lt))));
       }
 
   module _ {c : StartTag} (e : k ≡ Token.Start c) where

@@ -18,6 +18,7 @@ use Rattle.document.specs.Elements.{kindOf, mayHold}
 use Rattle.document.specs.Reading.{Frame, element, State, reading, accepted, refused, nameOf, closed, child, begins}
 use Rattle.document.specs.Outcome.{Lent, lent, Stands, Bounded, Ready, TagIs, TagFits, Steps, OnwardNext, Leads, Child, Ends, runs, whole}
 use Rattle.document.specs.declared.StartTag.{StartTag}
+use Rattle.document.specs.declared.Refusal.{Refusal}
 use Rattle.document.specs.declared.Fill.{Fill}
 use Rattle.document.specs.declared.Answer.{Answer}
 use Rattle.document.specs.declared.Next.{Next}
@@ -46,7 +47,7 @@ pub ruleset nexts = (next-root, next-nested, needs)
 
 -- a child that is no node
 module _ {doc : List ℕ} {c : StartTag} {i : ℕ} {s : Walk} {b b′ : Lent} {a : Answer} (h : Child doc (1 ∷ 2 ∷ 8 ∷ 9 ∷ 11 ∷ 13 ∷ []) true c i (moved (s .fill) (c .end)) b b′ a) where
-  pub child-fault : {n p : ℕ} → a ≡ Answer.Fault n p → ChildIn doc c i s b b′ (Fault n p)
+  pub child-fault : {x : Refusal} → a ≡ Answer.Fault x → ChildIn doc c i s b b′ (Fault x)
   child-fault e = record { is = rw e at h }
 
   pub child-on : {g : Fill} → a ≡ Answer.Done g → ChildIn doc c i s b b′ (On (record { depth = s .depth; at = s .at; len = s .len; fill = g }))
@@ -55,7 +56,7 @@ module _ {doc : List ℕ} {c : StartTag} {i : ℕ} {s : Walk} {b b′ : Lent} {a
 pub ruleset childIns = (child-fault, child-on, needs)
 
 prefixed : (doc root opened : List ℕ) (b : Lent) {x x′ : State Shown} (k : Turn) → x ≡ x′ → LeadsFrom doc root opened x′ b k → LeadsFrom doc root opened x b k
-prefixed doc root opened b (Fault m p) h l = h ∙ l
+prefixed doc root opened b (Fault y) h l = h ∙ l
 prefixed doc root opened b (Done f) h l = (l .0, l .1, h ∙ l .2)
 prefixed doc root opened b (On s′) h l = (l .0, l .1, h ∙ l .2, l .3)
 
@@ -63,11 +64,11 @@ module _ {doc root opened : List ℕ} {s : Walk} (g : Walking doc opened s) {r :
   frames : framesOf root opened (s .depth) ≡ element 1 (nameIn root s) (getD opened (s .depth - 1) 0) ∷ framesOf root opened (s .depth - 1)
   frames = frames-top root opened (s .depth) (g .deep)
 
-  pub turn-fault : {n p : ℕ} {b : Lent} → r ≡ Next.Fault n p → Turns doc root opened opened s b b (Fault n p)
-  turn-fault {n} {p} e = record {
+  pub turn-fault : {q : Refusal} {b : Lent} → r ≡ Next.Fault q → Turns doc root opened opened s b b (Fault q)
+  turn-fault {q} e = record {
     onward = tt;
     leads = λ v d y.
-        let z : NextIn doc root s (Next.Fault n p) = rw e at x in
+        let z : NextIn doc root s (Next.Fault q) = rw e at x in
         rw frames (z .leads (element 1 (nameIn root s) (getD opened (s .depth - 1) 0)) (framesOf root opened (s .depth - 1)) v d refl);
   }
 
@@ -106,7 +107,7 @@ module _ {doc root opened : List ℕ} {s : Walk} (g : Walking doc opened s) {r :
       }
 
       go : (k : Turn) → IsShut s end k → Turns doc root opened opened s b b k
-      go (Fault n p) h = absurd h
+      go (Fault y) h = absurd h
       go (Done f) h = record {
         onward = rw (h .1) bounded;
         leads = λ v d y. (v, rw (h .1) (moved-stands end y), shuts v d ∙ last v (h .0));
@@ -194,7 +195,7 @@ module _ {doc opened : List ℕ} {c : StartTag} {s : Walk} (begun : Started doc 
       same-name s′ a b l d h = rw (b, l) (d (omega (arith, a)))
 
       go : (k : Turn) → IsChildIn doc c i s b b′ k → Begun doc c s opened opened b b′ k
-      go (Fault n p) m = record { onward = tt; leads = λ root t v z d y. ends root m v t z y }
+      go (Fault x) m = record { onward = tt; leads = λ root t v z d y. ends root m v t z y }
       go (Done f) m = absurd m
       go (On s′) m =
           let d′ : s′ .depth ≡ s .depth = ap (λ (x : Walk). x .depth) (m .1) in

@@ -11,6 +11,7 @@ use Rattle.document.specs.Tags.{Shown}
 use Rattle.document.specs.Reading.{State, begun}
 use Rattle.document.specs.Whole.{Room, read, verdictOf, rowsLeft, warningsLeft, textLeft}
 use Rattle.document.specs.Outcome.{Lent, lent, Sound, runs}
+use Rattle.document.specs.declared.Refusal.{Refusal}
 use Rattle.document.specs.declared.Fill.{Fill}
 use Rattle.document.specs.declared.Answer.{Answer}
 use Rattle.document.specs.declared.Verdict.{Verdict}
@@ -34,8 +35,8 @@ pub record Ended (doc rows warnings text : List ℕ) (a : Answer) : Type 0 where
   pub ends : EndsNodes (runs doc 0 begun) (lent rows warnings text) a
 
 -- what a refusal says: zeros in every buffer
-pub record Refuses (n p : ℕ) (rows rows′ warnings warnings′ text text′ : List ℕ) (v : Verdict) : Type 0 where
-  pub verdict : v ≡ Refused n p
+pub record Refuses (x : Refusal) (rows rows′ warnings warnings′ text text′ : List ℕ) (v : Verdict) : Type 0 where
+  pub verdict : v ≡ Refused x
   pub rows-left : rows′ ≡ replicate (length rows) 0
   pub warnings-left : warnings′ ≡ replicate (length warnings) 0
   pub text-left : text′ ≡ replicate (length text) 0

@@ -40,13 +40,13 @@ pub record Walking (doc opened : List ℕ) (s : Walk) : Type 0 where
   pub owners : (j : ℕ) → j < s .depth → getD opened j 0 < s .fill .rows
 
 abbrev pub OnwardTurn : List ℕ → List ℕ → Walk → Turn → Type 0
-OnwardTurn doc opened s (Fault n p) = Unit {0}
+OnwardTurn doc opened s (Fault x) = Unit {0}
 OnwardTurn doc opened s (Done g) = Bounded doc g
 OnwardTurn doc opened s (On s′) = (s .fill .at < s′ .fill .at) × Walking doc opened s′
 
 -- where a run in the open nodes comes to
 abbrev pub LeadsFrom : List ℕ → List ℕ → List ℕ → State Shown → Lent → Turn → Type 0
-LeadsFrom doc root opened x b (Fault n p) = x ≡ refused n p
+LeadsFrom doc root opened x b (Fault y) = x ≡ refused y
 LeadsFrom doc root opened x b (Done g) = (u : Tables Shown) × Stands u b g × (x ≡ accepted u)
 LeadsFrom doc root opened x b (On s) = (u : Tables Shown) × Stands u b (s .fill) × (x ≡ runs doc (s .fill .at) (reading (framesOf root opened (s .depth)) u)) × Nested doc s
 
@@ -89,7 +89,7 @@ moved f at = record { at = at; rows = f .rows; warnings = f .warnings; text = f 
 
 -- what closing the innermost open node says: the root's end, or one level less
 abbrev pub IsShut : Walk → ℕ → Turn → Type 0
-IsShut s end (Fault n p) = ⊥
+IsShut s end (Fault x) = ⊥
 IsShut s end (Done g) = (s .depth ≡ 1) × (g ≡ moved (s .fill) end)
 IsShut s end (On s′) = (s .depth ≡ 1 → ⊥) × (s′ ≡ record { depth = s .depth - 1; at = s .at; len = s .len; fill = moved (s .fill) end })
 
@@ -98,7 +98,7 @@ pub record Shuts (s : Walk) (end : ℕ) (r : Turn) : Type 0 where
 
 -- what a child that is no node says, where row i is the innermost open node's
 abbrev pub IsChildIn : List ℕ → StartTag → ℕ → Walk → Lent → Lent → Turn → Type 0
-IsChildIn doc c i s b b′ (Fault n p) = Child doc (1 ∷ 2 ∷ 8 ∷ 9 ∷ 11 ∷ 13 ∷ []) true c i (moved (s .fill) (c .end)) b b′ (Answer.Fault n p)
+IsChildIn doc c i s b b′ (Fault x) = Child doc (1 ∷ 2 ∷ 8 ∷ 9 ∷ 11 ∷ 13 ∷ []) true c i (moved (s .fill) (c .end)) b b′ (Answer.Fault x)
 IsChildIn doc c i s b b′ (Done g) = ⊥
 IsChildIn doc c i s b b′ (On s′) =
     Child doc (1 ∷ 2 ∷ 8 ∷ 9 ∷ 11 ∷ 13 ∷ []) true c i (moved (s .fill) (c .end)) b b′ (Answer.Done (s′ .fill))
@@ -125,7 +125,7 @@ pub record Begun (doc : List ℕ) (c : StartTag) (s : Walk) (opened opened′ : 
 
 -- what walking the open nodes to the root's end says
 abbrev pub EndsNodes : State Shown → Lent → Answer → Type 0
-EndsNodes x b (Answer.Fault n p) = x ≡ refused n p
+EndsNodes x b (Answer.Fault y) = x ≡ refused y
 EndsNodes x b (Answer.Done g) = (u : Tables Shown) × Stands u b g × (x ≡ accepted u)
 
 pub record Walks (doc root opened : List ℕ) (s : Walk) (b b′ : Lent) (r : Answer) : Type 0 where

@@ -2,6 +2,7 @@
 use document::Answer;
 use document::Fill;
 use document::Next;
+use document::Refusal;
 use document::StartTag;
 use document::Token;
 use document::Verdict;
@@ -27,7 +28,7 @@ pub struct Walk {
 
 // What a turn of the node loop comes to: a fault, the root's end, or one token more.
 pub enum Turn {
-    Fault(u32, usize),
+    Fault(Refusal),
     Done(Fill),
     On(Walk),
 }
@@ -48,9 +49,9 @@ fn node_child(
 {
     let kind = c.kind;
     if kind == 2 {
-        return members::interface(doc, classes, rows, warnings, text, c, i + 1, f);
+        return interfaces::interface(doc, classes, rows, warnings, text, c, i + 1, f);
     }
-    if members::is_definition(kind) {
+    if interfaces::is_definition(kind) {
         return telepathy::definition(doc, classes, rows, warnings, text, c, i + 1, f);
     }
     skip::docstring_or_skip(doc, classes, rows, warnings, c, i, f)
@@ -79,7 +80,7 @@ fn open_node(
         text: f.text,
     };
     match elements::node_row(doc, rows, text, c, i + 1, moved) {
-        Answer::Fault(number, place) => Turn::Fault(number, place),
+        Answer::Fault(refusal) => Turn::Fault(refusal),
         Answer::Done(g) => {
             if closes {
                 return Turn::On(Walk {
@@ -90,7 +91,10 @@ fn open_node(
                 });
             }
             if depth == 1024 {
-                return Turn::Fault(7, c.end);
+                return Turn::Fault(Refusal {
+                    number: 7,
+                    place: c.end,
+                });
             }
             opened[depth] = f.rows as u32;
             Turn::On(Walk {
@@ -160,7 +164,7 @@ fn read_child(
         text: f.text,
     };
     match node_child(doc, classes, rows, warnings, text, c, i, fill) {
-        Answer::Fault(number, place) => Turn::Fault(number, place),
+        Answer::Fault(refusal) => Turn::Fault(refusal),
         Answer::Done(g) => Turn::On(Walk {
             depth: s.depth,
             at: s.at,
@@ -208,7 +212,7 @@ fn turn_at(
     ensures { λ r. ⌜ Turns (now (doc .entry)) (take len (drop «at» (now (doc .entry)))) (now (opened .entry)) (now (opened .exit)) s (lent (now (rows .entry)) (now (warnings .entry)) (now (text .entry))) (lent (now (rows .exit)) (now (warnings .exit)) (now (text .exit))) r ⌝ }
 {
     match next_in(doc, classes, at, len, s) {
-        Next::Fault(number, place) => Turn::Fault(number, place),
+        Next::Fault(refusal) => Turn::Fault(refusal),
         Next::Close(_, end) => close_node(s, end),
         Next::Start(c) => start_in(doc, classes, rows, warnings, text, opened, c, s),
     }
@@ -238,8 +242,8 @@ fn nodes(
     let mut w = s;
     loop {
         match turn_at(doc, classes, rows, warnings, text, opened, at, len, w) {
-            Turn::Fault(number, place) => {
-                return Answer::Fault(number, place);
+            Turn::Fault(refusal) => {
+                return Answer::Fault(refusal);
             }
             Turn::Done(f) => {
                 return Answer::Done(f);
@@ -310,7 +314,7 @@ fn root_node(
         text: 0,
     };
     match elements::node_row(doc, rows, text, c, 0, fill) {
-        Answer::Fault(number, place) => Answer::Fault(number, place),
+        Answer::Fault(refusal) => Answer::Fault(refusal),
         Answer::Done(g) => {
             if c.closes {
                 return Answer::Done(g);
@@ -332,27 +336,24 @@ fn document_node(
     ensures { λ r. ⌜ ReadsWhole (now (doc .entry)) (lent (now (rows .exit)) (now (warnings .exit)) (now (text .exit))) r ⌝ }
 {
     match tags::token(doc, classes, 0) {
-        Token::Fault(number, place) => Answer::Fault(number, place),
-        Token::End(place) => Answer::Fault(3, place),
-        Token::Close(c) => Answer::Fault(4, c.lt + 1),
+        Token::Fault(number, place) => Answer::Fault(Refusal { number, place }),
+        Token::End(place) => Answer::Fault(Refusal { number: 3, place }),
+        Token::Close(c) => Answer::Fault(Refusal {
+            number: 4,
+            place: c.lt + 1,
+        }),
         Token::Start(c) => root_node(doc, classes, rows, warnings, text, c),
     }
 }
 
 // Leaves zeros in every buffer.
-fn refuse(
-    rows: &mut [u32],
-    warnings: &mut [u32],
-    text: &mut [u8],
-    number: u32,
-    place: usize,
-) -> Verdict
-    ensures { λ r. ⌜ Refuses number place (now (rows .entry)) (now (rows .exit)) (now (warnings .entry)) (now (warnings .exit)) (now (text .entry)) (now (text .exit)) r ⌝ }
+fn refuse(rows: &mut [u32], warnings: &mut [u32], text: &mut [u8], refusal: Refusal) -> Verdict
+    ensures { λ r. ⌜ Refuses refusal (now (rows .entry)) (now (rows .exit)) (now (warnings .entry)) (now (warnings .exit)) (now (text .entry)) (now (text .exit)) r ⌝ }
 {
     tables::clear_words(rows, 0);
     tables::clear_words(warnings, 0);
     tables::clear_bytes(text, 0);
-    Verdict::Refused(number, place)
+    Verdict::Refused(refusal)
 }
 
 // Leaves zeros past the used part of every buffer.
@@ -385,12 +386,16 @@ fn finish(doc: &[u8], rows: &mut [u32], warnings: &mut [u32], text: &mut [u8], a
     ensures { λ r. ⌜ Says (now (doc .entry)) (length (now (rows .entry))) (length (now (warnings .entry))) (length (now (text .entry))) (now (rows .exit)) (now (warnings .exit)) (now (text .exit)) r ⌝ }
 {
     match a {
-        Answer::Fault(number, place) => refuse(rows, warnings, text, number, place),
+        Answer::Fault(refusal) => refuse(rows, warnings, text, refusal),
         Answer::Done(f) => {
             if has_room(rows.len(), warnings.len(), text.len(), f) {
                 return accept(rows, warnings, text, f);
             }
-            refuse(rows, warnings, text, 18, doc.len())
+            let short = Refusal {
+                number: 18,
+                place: doc.len(),
+            };
+            refuse(rows, warnings, text, short)
         }
     }
 }
@@ -408,11 +413,19 @@ pub fn parse_with_warnings(
     ensures text { λ r. ⌜ now (text .exit) ≡ textLeft (room (length (now (rows .entry))) (length (now (warnings .entry))) (length (now (text .entry)))) (read (now (document .entry)) (room (length (now (rows .entry))) (length (now (warnings .entry))) (length (now (text .entry))))) ⌝ }
 {
     if 1048576 < document.len() {
-        return refuse(rows, warnings, text, 2, 1048576);
+        let long = Refusal {
+            number: 2,
+            place: 1048576,
+        };
+        return refuse(rows, warnings, text, long);
     }
     let bad = utf8::ill_formed(document);
     if bad < document.len() {
-        return refuse(rows, warnings, text, 1, bad);
+        let ill = Refusal {
+            number: 1,
+            place: bad,
+        };
+        return refuse(rows, warnings, text, ill);
     }
     read_sound(document, rows, warnings, text)
 }

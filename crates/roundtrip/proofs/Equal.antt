@@ -54,7 +54,7 @@ rowsIn : State → List Row
 rowsIn reading.begun = []
 rowsIn (reading.reading fs t) = t .rows
 rowsIn (reading.accepted t) = t .rows
-rowsIn (reading.refused n p) = []
+rowsIn (reading.refused x) = []
 
 -- rows tell their content
 item-of : (c d : Item) → nodeRow ∷ rows 1 1 c ≡ nodeRow ∷ rows 1 1 d → c ≡ d

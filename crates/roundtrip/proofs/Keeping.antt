@@ -14,8 +14,9 @@ use Rattle.names.specs.Signature.{signature}
 use Rattle.document.specs.Tags.{Shown, tpType}
 use Rattle.document.specs.Tokens.{Tag, Token, start, close, fault, end, tokens}
 use Rattle.document.specs.Rows.{Doc, Row, Tables, documented}
-use Rattle.document.specs.Elements.{kindOf, mayHold, among, accessOf, directionOf, attr, Opened, opens, refuses, kept, row, required, valid, namedRow, propertyRow, annotationRow, directed, argRow, opensAs}
+use Rattle.document.specs.Elements.{kindOf, mayHold, among, accessOf, directionOf, attr, bare, Opened, opens, refuses, kept, row, required, valid, namedRow, propertyRow, annotationRow, directed, argRow, opensAs}
 use Rattle.document.specs.Reading.{Definition, Purpose, ignored, captures, Frame, element, definition, passing, State, begun, reading, accepted, refused, nameOf, parentOf, reasonOf, noted, frameOf, withRow, closed, judged, captured, passed, shut, tooDeep, entered, opened, begins, unsupported, docstringIn, child, started, turn, root, inside, step, fold, run}
+use Rattle.document.specs.declared.Refusal.{Refusal}
 use Rattle.items.specs.View.{over, viewRow, viewTables, view}
 
 -- a function on both ways of a test
@@ -60,7 +61,7 @@ module _ {A B : Type 0} (f : A → B) where
 
   abbrev viewOpened : Opened A → Opened B
   viewOpened (opens r) = opens (viewRow f r)
-  viewOpened (refuses n p) = refuses n p
+  viewOpened (refuses x) = refuses x
 
 module _ {A B : Type 0} (f : A → B) (keep : Shown → A) where
   abbrev seen : Shown → B
@@ -76,20 +77,20 @@ module _ {A B : Type 0} (f : A → B) (keep : Shown → A) where
   view-row k p n v tp w = λ j. opens (record { kind = k; parent = p; name = view-kept n j; value = view-kept v j; tp = view-kept tp j; doc = none; word = w })
 
   -- a function that leaves refusals, on a row that wants an attribute, a valid text, or a direction
-  module _ (g : Opened A → Opened B) (refusal : (n p : ℕ) → g (refuses n p) ≡ refuses n p) (t : Tag) where
+  module _ (g : Opened A → Opened B) (refusal : (x : Refusal) → g (refuses x) ≡ refuses x) (t : Tag) where
     on-required : (o : Option Shown) {x : Shown → Opened A} {y : Shown → Opened B} → ((s : Shown) → g (x s) ≡ y s) → g (required keep o t x) ≡ required seen o t y
-    on-required none h = refusal 12 (suc (t .at))
+    on-required none h = refusal (bare 12 (suc (t .at)))
     on-required (some s) h = h s
 
     on-valid : (b : Bool) (n p : ℕ) {x : Opened A} {y : Opened B} → g x ≡ y → g (valid keep b n p x) ≡ valid seen b n p y
-    on-valid b n p h = branch g b h (refusal n p)
+    on-valid b n p h = branch g b h (refusal (bare n p))
 
     on-directed : (o : Option Shown) {x : ℕ → Opened A} {y : ℕ → Opened B} → ((d : ℕ) → g (x d) ≡ y d) → g (directed keep o t x) ≡ directed seen o t y
     on-directed none h = h 0
     on-directed (some d) h = on-valid (not (eqb (directionOf (d .value)) 0)) 16 (t .after) (h (directionOf (d .value)))
 
-  refusal-seen : (n p : ℕ) → viewOpened f (refuses n p) ≡ refuses n p
-  refusal-seen n p = refl
+  refusal-seen : (x : Refusal) → viewOpened f (refuses x) ≡ refuses x
+  refusal-seen x = refl
 
   module _ (p : ℕ) (t : Tag) where
     view-named : (good : List ℕ → Bool) (k : ℕ) → viewOpened f (namedRow keep good k p t) ≡ namedRow seen good k p t
@@ -147,7 +148,7 @@ module _ {A B : Type 0} (f : A → B) (keep : Shown → A) where
 
     view-opened : (k : ℕ) (t : Tag) (o : Opened A) (fs : List Frame) (u : Tables A) → view f (opened keep doc k t o fs u) ≡ opened seen doc k t (viewOpened f o) fs (viewTables f u)
     view-opened k t (opens r) fs u = view-entered k t r fs u
-    view-opened k t (refuses n p) fs u = refl
+    view-opened k t (refuses x) fs u = refl
 
     view-begins : (k : ℕ) (t : Tag) (fs : List Frame) (u : Tables A) → view f (begins keep doc k t fs u) ≡ begins seen doc k t fs (viewTables f u)
     unfolding begins
@@ -194,7 +195,7 @@ module _ {A B : Type 0} (f : A → B) (keep : Shown → A) where
     view-step begun t = view-root t
     view-step (reading fs u) t = view-inside fs u t
     view-step (accepted u) t = refl
-    view-step (refused n p) t = refl
+    view-step (refused x) t = refl
 
     view-fold : (s : State A) (ts : List Token) → view f (fold keep doc s ts) ≡ fold seen doc (view f s) ts
     view-fold s [] = refl

@@ -118,11 +118,11 @@ accepted-view (accepted t) u e = (t, refl, tablesOf e)
     inState begun = u
     inState (states.reading fs v) = v
     inState (accepted v) = v
-    inState (states.refused m p) = u
+    inState (states.refused x) = u
 
     tablesOf : accepted (viewTables held t) ≡ accepted u → viewTables held t ≡ u
     tablesOf e = ap inState e
-accepted-view (states.refused m p) u e = let z : _≡_ {A = ℕ} 0 1 = cc in absurd (omega arith)
+accepted-view (states.refused x) u e = let z : _≡_ {A = ℕ} 0 1 = cc in absurd (omega arith)
 
 text-held : (o : Option Shown) → over textShown o ≡ over valueOf (over held o)
 text-held none = refl

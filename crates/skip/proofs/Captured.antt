@@ -24,6 +24,7 @@ use Rattle.slices.specs.Bytes.{if}
 use Rattle.document.specs.Rows.{Tables, documented}
 use Rattle.document.specs.Reading.{Frame, State, reading, refused, closed, passing, captures, captured, docstringIn}
 use Rattle.document.specs.Outcome.{lent, Stands, Bounded, Ready, TagIs, Passes, Captures, runs, whole}
+use Rattle.document.specs.declared.Refusal.{Refusal}
 use Rattle.document.specs.declared.StartTag.{StartTag}
 use Rattle.document.specs.declared.Fill.{Fill}
 use Rattle.document.specs.declared.Answer.{Answer}
@@ -108,7 +109,7 @@ module _ {doc : List ℕ} {c : StartTag} {f : Fill} (r : Ready doc c f) where
     unfolding docstringIn
     opens i t fs u z = rw (sym (z .closes) ∙ x) (ap (λ n. runs doc (c .end) (reading (passing (captures (t .after) i) (n ∷ []) ∷ fs) u)) (z .named .is) ∙ ap (λ e. runs doc (c .end) (reading (passing (captures e i) (take (c .len) (drop (c .at) doc) ∷ []) ∷ fs) u)) (sym (z .end)))
 
-    pub captured-fault : {i n q : ℕ} {rows : List ℕ} → d ≡ Passed.Fault n q → Captures doc c i f rows rows (Answer.Fault n q)
+    pub captured-fault : {i : ℕ} {y : Refusal} {rows : List ℕ} → d ≡ Passed.Fault y → Captures doc c i f rows rows (Answer.Fault y)
     captured-fault {i} e = record {
       onward = tt;
       ends = λ t fs u w bytes z s. opens i t fs u z ∙ (rw e at l) .leads (captures (c .end) i) [] fs u refl;

@@ -13,8 +13,10 @@ use lib.ListN.{length, take, drop, getD}
 use Rattle.document.specs.Tags.{Shown}
 use Rattle.document.specs.Tokens.{Tag}
 use Rattle.document.specs.Rows.{Tables}
+use Rattle.document.specs.Elements.{bare}
 use Rattle.document.specs.Reading.{Purpose, Frame, State, reading, refused, passing, shut, started}
 use Rattle.document.specs.Outcome.{Steps, OnwardNext, Leads, Passes, OnwardPassed, Passing, TagFits, TagIs, NameIs, runs, whole}
+use Rattle.document.specs.declared.Refusal.{Refusal}
 use Rattle.document.specs.declared.StartTag.{StartTag}
 use Rattle.document.specs.declared.Next.{Next}
 use Rattle.document.specs.declared.Passed.{Passed}
@@ -30,7 +32,7 @@ pub pass-begins : {doc : List ℕ} {from at len depth : ℕ} → from ≤ length
 pass-begins h = record { since = omega arith; inside = h; leads = λ p ns fs u e. refl }
 
 module _ {doc : List ℕ} {from at len depth here : ℕ} (g : Sofar doc from at len depth here) {r : Next} (s : Steps doc here at len r) where
-  pub pass-fault : {n p : ℕ} → r ≡ Next.Fault n p → Passes doc from at len depth (Passed.Fault n p)
+  pub pass-fault : {x : Refusal} → r ≡ Next.Fault x → Passes doc from at len depth (Passed.Fault x)
   pass-fault q = record {
     onward = tt;
     leads = λ p ns fs u e. g .leads p ns fs u e ∙ (rw q at s) .leads (passing p (take len (drop at doc) ∷ ns)) fs u refl;
@@ -62,13 +64,13 @@ module _ {doc : List ℕ} {from at len depth here : ℕ} (g : Sofar doc from at 
       leads = λ p ns fs u e. let i = child p ns fs u e in i .2 ∙ rw (sym (i .1 .closes) ∙ k);
     }
 
-    pub pass-deep : c .closes ≡ false → depth ≡ 1024 → Passes doc from at len depth (Passed.Fault 7 (c .end))
+    pub pass-deep : c .closes ≡ false → depth ≡ 1024 → Passes doc from at len depth (Passed.Fault (bare 7 (c .end)))
     pass-deep k h = record {
       onward = tt;
       leads = λ p ns fs u e.
           let i = child p ns fs u e in
           let l : leb 1024 (suc (length ns)) ≡ true = le-leb 1024 (suc (length ns)) (omega arith) in
-          i .2 ∙ rw (sym (i .1 .closes) ∙ k, l) (run-refused whole doc (c .end) 7 (i .0 .after)) ∙ ap (refused 7) (sym (i .1 .end));
+          i .2 ∙ rw (sym (i .1 .closes) ∙ k, l) (run-refused whole doc (c .end) (bare 7 (i .0 .after))) ∙ ap (λ q. refused (bare 7 q)) (sym (i .1 .end));
     }
 
     -- what is open in it is passed over too
@@ -79,7 +81,7 @@ module _ {doc : List ℕ} {from at len depth here : ℕ} (g : Sofar doc from at 
           let l : leb 1024 (suc (length ns)) ≡ false = lt-leb 1024 (suc (length ns)) (omega arith) in
           i .2 ∙ rw (sym (i .1 .closes) ∙ k, l, i .1 .named .is)
 
-      pub pass-inner-fault : {n p : ℕ} → r′ ≡ Passed.Fault n p → Passes doc from at len depth (Passed.Fault n p)
+      pub pass-inner-fault : {x : Refusal} → r′ ≡ Passed.Fault x → Passes doc from at len depth (Passed.Fault x)
       pass-inner-fault w = record {
         onward = tt;
         leads = λ p ns fs u e. inner p ns fs u e ∙ (rw w at d) .leads p (take len (drop at doc) ∷ ns) fs u (rw add-one (ap suc e));

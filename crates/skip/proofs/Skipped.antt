@@ -13,6 +13,7 @@ use Rattle.document.specs.Tokens.{Tag}
 use Rattle.document.specs.Rows.{Tables}
 use Rattle.document.specs.Reading.{Frame, State, reading, refused, closed, passing, ignored, withWarning, unsupported}
 use Rattle.document.specs.Outcome.{lent, Stands, Bounded, Ready, TagIs, Passes, Ignores, runs, whole}
+use Rattle.document.specs.declared.Refusal.{Refusal}
 use Rattle.document.specs.declared.StartTag.{StartTag}
 use Rattle.document.specs.declared.Fill.{Fill}
 use Rattle.document.specs.declared.Answer.{Answer}
@@ -73,7 +74,7 @@ module _ {doc : List ℕ} {c : StartTag} {f g : Fill} {w w′ : List ℕ} (r : R
     unfolding unsupported
     opens t fs u z = rw (sym (z .closes) ∙ x) (ap (λ n. runs doc (c .end) (reading (passing ignored (n ∷ []) ∷ fs) (withWarning 1 (t .at) (t .name) u))) (z .named .is))
 
-    pub skipped-fault : {n q : ℕ} → d ≡ Passed.Fault n q → Ignores doc c f w w′ (Answer.Fault n q)
+    pub skipped-fault : {y : Refusal} → d ≡ Passed.Fault y → Ignores doc c f w w′ (Answer.Fault y)
     skipped-fault e = record {
       onward = tt;
       ends = λ t fs u rows bytes z s. opens t fs u z ∙ (rw e at l) .leads ignored [] fs (withWarning 1 (t .at) (t .name) u) refl;

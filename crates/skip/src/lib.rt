@@ -3,6 +3,7 @@ use document::Answer;
 use document::Fill;
 use document::Next;
 use document::Passed;
+use document::Refusal;
 use document::StartTag;
 use tags::step;
 ghost use mathlib.Core.Path.{_≡_};
@@ -28,8 +29,8 @@ pub fn skip(
     let mut here = from;
     loop {
         match step(doc, classes, here, at, len) {
-            Next::Fault(number, place) => {
-                return Passed::Fault(number, place);
+            Next::Fault(refusal) => {
+                return Passed::Fault(refusal);
             }
             Next::Close(lt, end) => {
                 return Passed::Closed(lt, end);
@@ -39,11 +40,14 @@ pub fn skip(
                     here = t.end;
                 } else {
                     if depth == 1024 {
-                        return Passed::Fault(7, t.end);
+                        return Passed::Fault(Refusal {
+                            number: 7,
+                            place: t.end,
+                        });
                     }
                     match skip(doc, classes, t.end, t.at, t.len, depth + 1) {
-                        Passed::Fault(number, place) => {
-                            return Passed::Fault(number, place);
+                        Passed::Fault(refusal) => {
+                            return Passed::Fault(refusal);
                         }
                         Passed::Closed(_, end) => {
                             here = end;
@@ -71,7 +75,7 @@ pub fn unsupported(
         return Answer::Done(g);
     }
     match skip(doc, classes, c.end, c.at, c.len, 1) {
-        Passed::Fault(number, place) => Answer::Fault(number, place),
+        Passed::Fault(refusal) => Answer::Fault(refusal),
         Passed::Closed(_, end) => Answer::Done(Fill {
             at: end,
             rows: g.rows,
@@ -112,7 +116,7 @@ pub fn docstring(
     }
     let from = c.end;
     match skip(doc, classes, from, c.at, c.len, 1) {
-        Passed::Fault(number, place) => Answer::Fault(number, place),
+        Passed::Fault(refusal) => Answer::Fault(refusal),
         Passed::Closed(lt, end) => {
             capture(doc, rows, from, lt, i);
             Answer::Done(Fill {

@@ -52,8 +52,8 @@ fn read(doc: &[u8], rows: &mut [u32], often: usize) -> usize {
     let mut count = 0;
     for _ in 0..often {
         match reader::parse_with_warnings(doc, rows, &mut warnings, &mut text) {
-            Verdict::Refused(_, place) => {
-                count = place;
+            Verdict::Refused(refusal) => {
+                count = refusal.place;
             }
             Verdict::Accepted(n, _, _) => {
                 count = n;

@@ -11,6 +11,7 @@ use native.Mathlib.Omega.{arith}
 use lib.ListN.{length, take, drop}
 use Rattle.slices.specs.Bytes.{same}
 use Rattle.document.specs.Tokens.{start, close, fault, end}
+use Rattle.document.specs.Elements.{bare}
 use Rattle.document.specs.Reading as reading
 use Rattle.document.specs.Outcome.{whole, Tokenises, Steps}
 use Rattle.document.specs.declared.ClosingTag.{ClosingTag}
@@ -20,13 +21,13 @@ use Rattle.document.specs.declared.Next.{Next}
 use Rattle.document.proofs.Runs.{run-more, run-last, run-refused}
 
 module _ {doc : List ℕ} {from : ℕ} (at len : ℕ) {r : Token} (t : Tokenises doc from r) where
-  pub step-fault : {n p : ℕ} → r ≡ Token.Fault n p → Steps doc from at len (Next.Fault n p)
+  pub step-fault : {n p : ℕ} → r ≡ Token.Fault n p → Steps doc from at len (Next.Fault (bare n p))
   unfolding reading.step
   step-fault {n} {p} e =
       let d : Tokenises doc from (Token.Fault n p) = rw e at t in
       record { onward = tt; leads = λ f fs u h. run-last whole doc from (reading.reading (f ∷ fs) u) (fault n p) (d .is) }
 
-  pub step-end : {p : ℕ} → r ≡ Token.End p → Steps doc from at len (Next.Fault 5 p)
+  pub step-end : {p : ℕ} → r ≡ Token.End p → Steps doc from at len (Next.Fault (bare 5 p))
   unfolding reading.step
   step-end {p} e =
       let d : Tokenises doc from (Token.End p) = rw e at t in
@@ -73,7 +74,7 @@ module _ {doc : List ℕ} {from : ℕ} (at len : ℕ) {r : Token} (t : Tokenises
                 ∙ rw (h, compared, p);
           }
 
-      pub step-other : b ≡ false → Steps doc from at len (Next.Fault 6 (c .end))
+      pub step-other : b ≡ false → Steps doc from at len (Next.Fault (bare 6 (c .end)))
       unfolding reading.step
       step-other p =
           let d : Tokenises doc from (Token.Close c) = rw e at t in
@@ -82,7 +83,7 @@ module _ {doc : List ℕ} {from : ℕ} (at len : ℕ) {r : Token} (t : Tokenises
             onward = tt;
             leads = λ f fs u h.
                 run-more whole doc from (reading.reading (f ∷ fs) u) (close (c .lt) (take (c .len) (drop (c .at) doc)) (c .end)) (c .end) (d .is) (omega (arith, o .0, o .1, o .2)) (o .3)
-                ∙ rw (h, compared, p) (run-refused whole doc (c .end) 6 (c .end));
+                ∙ rw (h, compared, p) (run-refused whole doc (c .end) (bare 6 (c .end)));
           }
 
 pub ruleset stepping = (step-fault, step-end, step-start, name-inside, name-fits, step-close, step-other, needs)

@@ -12,6 +12,7 @@ ghost use Rattle.tags.specs.Outcome.{TagStart, TagAt, Ends};
 use attributes::Attrs;
 use document::ClosingTag;
 use document::Next;
+use document::Refusal;
 use document::StartTag;
 use document::Token;
 use scan::Scan;
@@ -214,8 +215,8 @@ pub fn step(doc: &[u8], classes: &[u8; 256], from: usize, at: usize, len: usize)
     ensures { λ r. ⌜ Steps (now (doc .entry)) from at len r ⌝ }
 {
     match token(doc, classes, from) {
-        Token::Fault(number, place) => Next::Fault(number, place),
-        Token::End(place) => Next::Fault(5, place),
+        Token::Fault(number, place) => Next::Fault(Refusal { number, place }),
+        Token::End(place) => Next::Fault(Refusal { number: 5, place }),
         Token::Close(c) => {
             let open = at + len;
             let named = c.at;
@@ -223,7 +224,10 @@ pub fn step(doc: &[u8], classes: &[u8; 256], from: usize, at: usize, len: usize)
             if slices::equal(&doc[named..close], &doc[at..open]) {
                 return Next::Close(c.lt, c.end);
             }
-            Next::Fault(6, c.end)
+            Next::Fault(Refusal {
+                number: 6,
+                place: c.end,
+            })
         }
         Token::Start(c) => Next::Start(c),
     }

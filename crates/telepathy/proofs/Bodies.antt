@@ -19,6 +19,7 @@ use Rattle.document.specs.Reading as reading
 use Rattle.document.specs.Reading.{Frame, definition, State, reading, closed, child, begins, noted, oneMore}
 use Rattle.document.specs.Outcome as outcome
 use Rattle.document.specs.Outcome.{Lent, lent, Stands, Bounded, Ready, Steps, Begins, Others, runs, whole}
+use Rattle.document.specs.declared.Refusal.{Refusal}
 use Rattle.document.specs.declared.StartTag.{StartTag}
 use Rattle.document.specs.declared.Fill.{Fill}
 use Rattle.document.specs.declared.Answer.{Answer}
@@ -59,7 +60,7 @@ noted-is : {m : ℕ} (k i lt why : ℕ) (n : List ℕ) (t : Tag) (fs : List Fram
 noted-is {m} k i lt why n t fs p q h e = rw (h .is) (ap (λ (x : reading.Parts). definition (record { kind = k; at = lt; name = n; row = i; reason = why; parts = x }) ∷ fs) (sym e))
 
 module _ {doc : List ℕ} {c : StartTag} {i : ℕ} {f : Fill} {b b′ : Lent} {a : Answer} (h : Begins doc (c .kind) c (i + 1) f b b′ a) where
-  pub noted-fault : {p : Parts} {n q : ℕ} → a ≡ Answer.Fault n q → Noted doc c i p f b b′ (Inner.Fault n q)
+  pub noted-fault : {p : Parts} {x : Refusal} → a ≡ Answer.Fault x → Noted doc c i p f b b′ (Inner.Fault x)
   noted-fault {p} e = record {
     onward = tt;
     ends = λ k lt why n t fs u z s. (rw e at h) .ends t (definition (openAs k i lt n why p) ∷ fs) u z (rw add-one) s;
@@ -107,11 +108,11 @@ module _ {k : ℕ} (d : DefinitionKind k) {c : StartTag} {o : Bool} (y : Holds k
         begun t fs u q = rw (← q, by-part (λ m. eqb m 14 ≡ false) refl refl (held-part d y e), sym (y .is) ∙ e)
 
         kept : {s s′ : State Shown} (after : Parts → Tables Shown → State Shown) (u : List (Row Shown)) (r : Inner) → s ≡ s′ → Ends doc s′ after (f .rows) u b′ r → Ends doc s after i (take i u) b′ r
-        kept after u (Inner.Fault m q) e x = e ∙ x
+        kept after u (Inner.Fault y) e x = e ∙ x
         kept after u (Inner.Done g q) e x = (x .0, x .1, e ∙ x .2, rows-kept i (f .rows) (x .0 .rows) u (omega arith) (x .3))
 
     module _ {rows rows′ w w′ bytes : List ℕ} {a : Answer} (e : o ≡ false) (h : Others doc c i f rows rows′ w w′ a) where
-      pub child-other-fault : {n q : ℕ} → a ≡ Answer.Fault n q → Child doc k i c p f (lent rows w bytes) (lent rows′ w′ bytes) (Inner.Fault n q)
+      pub child-other-fault : {x : Refusal} → a ≡ Answer.Fault x → Child doc k i c p f (lent rows w bytes) (lent rows′ w′ bytes) (Inner.Fault x)
       child-other-fault x = record {
         onward = tt;
         ends = λ lt why n t fs u z s. (rw x at h) .ends k t (definition (openAs k i lt n why p) ∷ fs) u bytes (sym (y .is) ∙ e) (by-definition (λ m. not (eqb m 6) ≡ true) refl refl refl refl d) z s;
@@ -155,7 +156,7 @@ module _ {doc : List ℕ} {k at len i : ℕ} {f₀ : Fill} {b₀ : Lent} where
   })
 
   module _ {f : Fill} {p : Parts} {b : Lent} (g : Sofar doc k at len i f₀ b₀ f p b) {r : Next} (s : Steps doc (f .at) at len r) where
-    pub body-fault : {n q : ℕ} → r ≡ Next.Fault n q → Body doc k at len i f₀ b₀ b (Inner.Fault n q)
+    pub body-fault : {x : Refusal} → r ≡ Next.Fault x → Body doc k at len i f₀ b₀ b (Inner.Fault x)
     body-fault e = record {
       onward = tt;
       ends = λ lt why fs u z.
@@ -200,7 +201,7 @@ module _ {doc : List ℕ} {k at len i : ℕ} {f₀ : Fill} {b₀ : Lent} where
       body-count = omega (arith, g .few, start .onward .0, start .onward .1 .inside)
 
       module _ {b′ : Lent} {a : Inner} (h : Child doc k i c p (moved f (c .end)) b b′ a) where
-        pub body-child-fault : {n m : ℕ} → a ≡ Inner.Fault n m → Body doc k at len i f₀ b₀ b′ (Inner.Fault n m)
+        pub body-child-fault : {x : Refusal} → a ≡ Inner.Fault x → Body doc k at len i f₀ b₀ b′ (Inner.Fault x)
         body-child-fault w = record {
           onward = tt;
           ends = λ lt why fs u z.

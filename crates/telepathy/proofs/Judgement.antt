@@ -16,6 +16,7 @@ use Rattle.document.specs.Tokens.{Tag}
 use Rattle.document.specs.Rows.{Row, Tables}
 use Rattle.document.specs.Reading.{Definition, Frame, closed, withRow, dropped, judged, reasonOf, noted, entered}
 use Rattle.document.specs.Outcome.{Lent, lent, Bounded, Ready, Opening, Begins, runs, whole}
+use Rattle.document.specs.declared.Refusal.{Refusal}
 use Rattle.document.specs.declared.StartTag.{StartTag}
 use Rattle.document.specs.declared.Fill.{Fill}
 use Rattle.document.specs.declared.Answer.{Answer}
@@ -105,7 +106,7 @@ pub ruleset definition-rows = (row-typed, row-untyped, needs)
 -- ---- from the row on
 
 module _ {doc : List ℕ} {c : StartTag} {f g : Fill} {b b′ : Lent} {x : Inner} (l : Content doc c (f .rows) g b b′ x) where
-  pub rest-fault : {n q : ℕ} → x ≡ Inner.Fault n q → Rest doc c f g b b′ (Answer.Fault n q)
+  pub rest-fault : {y : Refusal} → x ≡ Inner.Fault y → Rest doc c f g b b′ (Answer.Fault y)
   rest-fault e = record {
     kind = l .kind;
     onward = tt;

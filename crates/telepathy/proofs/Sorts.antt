@@ -102,7 +102,7 @@ pub ruleset contents = (content-none, content-children, needs)
 
 -- an answer of a run is one of another that comes to the same
 pub carried : {s s′ : State Shown} {before before′ : List (Row Shown)} (doc : List ℕ) (n : ℕ) (fs : List Frame) (b : Lent) (r : Answer) → s ≡ s′ → before ≡ before′ → Ends doc s′ fs n before b r → Ends doc s fs n before′ b r
-carried doc n fs b (Answer.Fault m q) h k e = h ∙ e
+carried doc n fs b (Answer.Fault x) h k e = h ∙ e
 carried doc n fs b (Answer.Done g) h k e = (e .0, e .1, h ∙ e .2, e .3 ∙ k)
 
 -- from the row on, whatever the element is
@@ -118,7 +118,7 @@ module _ {doc : List ℕ} {k : ℕ} {c : StartTag} {p : ℕ} {f : Fill} {rows ro
   after t fs u z h = let i = done .is t z in (i .0, rw (h, i .1), λ w s. i .2 u w s)
 
   further : (r : Answer) → Onward doc g r → Onward doc f r
-  further (Answer.Fault n q) h = tt
+  further (Answer.Fault x) h = tt
   further (Answer.Done m) h = (omega (arith, done .onward .0, h .0), omega (arith, done .onward .1, h .1), h .2)
 
   pub opening-then :

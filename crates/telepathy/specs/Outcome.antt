@@ -90,13 +90,13 @@ pub record Told (doc : List ℕ) (c : StartTag) (p : Parts) (r : ℕ) : Type 0 w
 
 -- an answer that is no fault is further on, with no fewer rows and no more parts than its place, within bounds
 abbrev pub Onward : List ℕ → Fill → Inner → Type 0
-Onward doc f (Inner.Fault n p) = Unit {0}
+Onward doc f (Inner.Fault x) = Unit {0}
 Onward doc f (Inner.Done g p) = (f .at ≤ g .at) × (f .rows ≤ g .rows) × (p .count ≤ g .at) × Bounded doc g
 
 -- a run refuses as the answer says; or it goes on in the state for the parts seen and for tables that the buffers stand for,
 -- and the first i rows are as they were
 abbrev pub Ends : List ℕ → State Shown → (Parts → Tables Shown → State Shown) → ℕ → List (Row Shown) → Lent → Inner → Type 0
-Ends doc s after i before b (Inner.Fault m q) = s ≡ refused m q
+Ends doc s after i before b (Inner.Fault x) = s ≡ refused x
 Ends doc s after i before b (Inner.Done g p) =
     (v : Tables Shown) × Stands v b g × (s ≡ runs doc (g .at) (after p v)) × (take i (v .rows) ≡ before)
 

@@ -3,6 +3,7 @@
 use document::Answer;
 use document::Fill;
 use document::Next;
+use document::Refusal;
 use document::StartTag;
 use tags::step;
 ghost use Prim.Native.Nat.{_+_, _≤_, _<_};
@@ -22,7 +23,7 @@ pub struct Parts {
 
 // What reading the content of a definition comes to: a fault, or where it ended and its parts.
 pub enum Inner {
-    Fault(u32, usize),
+    Fault(Refusal),
     Done(Fill, Parts),
 }
 
@@ -44,8 +45,8 @@ fn leaf(
     let mut g = f;
     loop {
         match step(doc, classes, g.at, at, len) {
-            Next::Fault(number, place) => {
-                return Answer::Fault(number, place);
+            Next::Fault(refusal) => {
+                return Answer::Fault(refusal);
             }
             Next::Close(_, end) => {
                 return Answer::Done(Fill {
@@ -63,8 +64,8 @@ fn leaf(
                     text: g.text,
                 };
                 match skip::docstring_or_skip(doc, classes, rows, warnings, c, i, h) {
-                    Answer::Fault(number, place) => {
-                        return Answer::Fault(number, place);
+                    Answer::Fault(refusal) => {
+                        return Answer::Fault(refusal);
                     }
                     Answer::Done(m) => {
                         g = m;
@@ -128,7 +129,7 @@ fn part(
     ensures { λ r. ⌜ Begins (now (doc .entry)) (c .kind) c (i + 1) f (lent (now (rows .entry)) (now (warnings .entry)) (now (text .entry))) (lent (now (rows .exit)) (now (warnings .exit)) (now (text .exit))) r ⌝ }
 {
     match leaf_row(doc, rows, text, c, i + 1, f) {
-        Answer::Fault(number, place) => Answer::Fault(number, place),
+        Answer::Fault(refusal) => Answer::Fault(refusal),
         Answer::Done(g) => part_content(doc, classes, rows, warnings, text, c, f.rows, g),
     }
 }
@@ -235,7 +236,7 @@ fn noted_part(
 {
     let q = one_more(doc, c, p, f);
     match part(doc, classes, rows, warnings, text, c, i, f) {
-        Answer::Fault(number, place) => Inner::Fault(number, place),
+        Answer::Fault(refusal) => Inner::Fault(refusal),
         Answer::Done(g) => Inner::Done(g, q),
     }
 }
@@ -260,7 +261,7 @@ fn child(
         return noted_part(doc, classes, rows, warnings, text, c, i, p, f);
     }
     match skip::docstring_or_skip(doc, classes, rows, warnings, c, i, f) {
-        Answer::Fault(number, place) => Inner::Fault(number, place),
+        Answer::Fault(refusal) => Inner::Fault(refusal),
         Answer::Done(g) => Inner::Done(g, p),
     }
 }
@@ -285,8 +286,8 @@ fn body(
     let mut p = no_parts();
     loop {
         match step(doc, classes, g.at, at, len) {
-            Next::Fault(number, place) => {
-                return Inner::Fault(number, place);
+            Next::Fault(refusal) => {
+                return Inner::Fault(refusal);
             }
             Next::Close(_, end) => {
                 let h = Fill {
@@ -305,8 +306,8 @@ fn body(
                     text: g.text,
                 };
                 match child(doc, classes, rows, warnings, text, kind, c, i, p, h) {
-                    Inner::Fault(number, place) => {
-                        return Inner::Fault(number, place);
+                    Inner::Fault(refusal) => {
+                        return Inner::Fault(refusal);
                     }
                     Inner::Done(m, q) => {
                         g = m;
@@ -461,7 +462,7 @@ fn rest(
     ensures { λ r. ⌜ Rest (now (doc .entry)) c f g (lent (now (rows .entry)) (now (warnings .entry)) (now (text .entry))) (lent (now (rows .exit)) (now (warnings .exit)) (now (text .exit))) r ⌝ }
 {
     match content(doc, classes, rows, warnings, text, c, f.rows, g) {
-        Inner::Fault(number, place) => Answer::Fault(number, place),
+        Inner::Fault(refusal) => Answer::Fault(refusal),
         Inner::Done(h, p) => Answer::Done(judge(doc, warnings, c, p, f, h)),
     }
 }
@@ -481,7 +482,7 @@ pub fn definition(
     ensures { λ r. ⌜ Begins (now (doc .entry)) (c .kind) c parent f (lent (now (rows .entry)) (now (warnings .entry)) (now (text .entry))) (lent (now (rows .exit)) (now (warnings .exit)) (now (text .exit))) r ⌝ }
 {
     match definition_row(doc, rows, text, c, parent, f) {
-        Answer::Fault(number, place) => Answer::Fault(number, place),
+        Answer::Fault(refusal) => Answer::Fault(refusal),
         Answer::Done(g) => rest(doc, classes, rows, warnings, text, c, f, g),
     }
 }

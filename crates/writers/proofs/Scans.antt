@@ -7,12 +7,13 @@ use mathlib.Core.Path.{_≡_, refl, ap, sym, subst, _∙_}
 use mathlib.Core.List.{List, [], _∷_}
 use mathlib.Core.Bool.{Bool, true, false, not, _&&_}
 use borrow.Author.Needs.{needs}
-use borrow.Author.Tests.{eq-eqb, ne-eqb, lt-ltb, le-ltb}
+use borrow.Author.Tests.{eq-eqb, ne-eqb, lt-ltb, le-ltb, ltb-true, eqb-true, eqb-false, not-true}
 use lib.Dec.{T, eqb, ltb}
 use lib.ListN.{length, drop, getD}
 use lib.Seq.{drop-drop, getD-drop}
 use Rattle.slices.specs.Bytes.{if}
 use Rattle.items.specs.Words.{RowWords, rowOf, rowsOf}
+use Rattle.items.proofs.Rows.{both-true}
 use Rattle.writers.specs.Rows.{Word, wordAt, Absent, wordsIn, Held, isChild, anyChild, Child, SomeChild, SomeChildren, strays, Stray, NextChild, InOrder, Ordered, ChildOf, Last}
 
 -- the words of a triple
@@ -138,10 +139,8 @@ pub record Ordering (ws : List ℕ) (n i last k : ℕ) : Type 0 where
   pub within : k ≤ n
   pub under : last < k
   pub seen : (m : ℕ) → i < m → m < k → wordAt ws m 1 ≡ suc i → m ≤ last
+  pub child : i < last → wordAt ws last 1 ≡ suc i
   pub good : InOrder ws k i
-
-pub order-not : {ws : List ℕ} {n i : ℕ} → Ordered ws n i false
-order-not = record { is = λ e. absurd (subst T (sym e) tt) }
 
 pub order-begins : {ws : List ℕ} {n i : ℕ} → i < n → Ordering ws n i i (i + 1)
 order-begins h = record {
@@ -149,6 +148,7 @@ order-begins h = record {
   within = omega (arith, h);
   under = omega arith;
   seen = λ m a b. absurd (omega (arith, a, b));
+  child = λ a. absurd (omega (arith, a));
   good = λ j m k a b c d. absurd (omega (arith, a, b, c, d));
 }
 
@@ -156,7 +156,7 @@ module _ {ws : List ℕ} {n i last k : ℕ} (g : Ordering ws n i last k) where
   pub order-ends : n ≤ k → Ordered ws n i true
   order-ends h =
       let e : k ≡ n = omega (arith, g .within, h) in
-      record { is = λ _. rw e at (g .good) }
+      record { is = λ _. rw e at (g .good); exact = λ _. refl }
 
   module _ (h : k < n) {q : ℕ} (c : Word ws k 1 q) where
     module _ (held : Held ws n) where
@@ -168,6 +168,38 @@ module _ {ws : List ℕ} {n i last k : ℕ} (g : Ordering ws n i last k) where
 
       pub order-last : last < 262144
       order-last = omega (arith, g .under, held .few, h)
+
+      -- a row that strays is out of order
+      pub order-strayed : {t : Bool} → Stray ws (i + 1) last q t → t ≡ true → Ordered ws n i false
+      order-strayed s e = record { is = λ f. absurd (subst T (sym f) tt); exact = λ o. absurd (out o) }
+        where
+          both : (ltb (i + 1) q && eqb (wordAt ws (q - 1) 1) (i + 1) ≡ true) × (not (eqb q (suc last)) ≡ true)
+          both = both-true (ltb (i + 1) q && eqb (wordAt ws (q - 1) 1) (i + 1)) (not (eqb q (suc last))) (sym (s .is) ∙ e)
+
+          front : (ltb (i + 1) q ≡ true) × (eqb (wordAt ws (q - 1) 1) (i + 1) ≡ true)
+          front = both-true (ltb (i + 1) q) (eqb (wordAt ws (q - 1) 1) (i + 1)) (both .0)
+
+          above : i + 1 < q
+          above = ltb-true (i + 1) q (front .0)
+
+          stands : wordAt ws (q - 1) 1 ≡ suc i
+          stands = eqb-true (wordAt ws (q - 1) 1) (i + 1) (front .1) ∙ omega arith
+
+          other-than : q ≡ suc last → ⊥
+          other-than = eqb-false q (suc last) (not-true (eqb q (suc last)) (both .1))
+
+          first : q - 1 ≤ last
+          first = g .seen (q - 1) (omega (arith, above)) (omega (arith, held .parents k h, c .is, above)) stands
+
+          under-last : q - 1 < last
+          under-last = go (decLt (q - 1) last)
+            where
+              go : Dec (q - 1 < last) → q - 1 < last
+              go (yes l) = l
+              go (no l) = absurd (other-than (omega (arith, l, first, above)))
+
+          out : InOrder ws n i → ⊥
+          out o = o (q - 1) last k (omega (arith, above)) under-last (omega (arith, g .under)) h stands (g .child (omega (arith, under-last, above))) (sym (c .is) ∙ omega (arith, above))
 
     -- row k too, where it is no child of a child before the last
     longer : ((j m : ℕ) → i < j → j < m → m ≤ k → wordAt ws j 1 ≡ suc i → wordAt ws m 1 ≡ suc i → wordAt ws k 1 ≡ suc j → ⊥) → InOrder ws (k + 1) i
@@ -185,6 +217,7 @@ module _ {ws : List ℕ} {n i last k : ℕ} (g : Ordering ws n i last k) where
       within = omega (arith, h);
       under = omega arith;
       seen = λ m a b e. omega (arith, b);
+      child = λ a. sym (c .is) ∙ f ∙ omega arith;
       good = longer (λ j m a b d x y z. absurd (omega (arith, a, f, c .is, z)));
     }
 
@@ -194,6 +227,7 @@ module _ {ws : List ℕ} {n i last k : ℕ} (g : Ordering ws n i last k) where
       within = omega (arith, h);
       under = omega (arith, g .under);
       seen = λ m a b x. earlier m a b x (decLt m k);
+      child = g .child;
       good = longer (λ j m a b d x y z. strayed j m a b d x y z (decLt m k));
     }
       where
@@ -228,4 +262,4 @@ last-ordered {p = p} {j = j} {r = r} c e m = record {
 pub last-all : {ws : List ℕ} {n j : ℕ} → j < n → Last ws n j n
 last-all h = record { onward = h; within = omega arith; none = λ k a b. absurd (omega (arith, a, b)) }
 
-pub ruleset scans = (absent-not, absent-no, absent-by, child-kind, child-other, stray-below, stray-other, stray-child, seek-begins, seek-ends, seek-found, seek-more, children-args, children-notes, pass-begins, pass-ends, pass-found, pass-more, order-not, order-begins, order-ends, order-child, order-other, order-few, order-held, order-last, last-ordered, last-all, needs)
+pub ruleset scans = (absent-not, absent-no, absent-by, child-kind, child-other, stray-below, stray-other, stray-child, seek-begins, seek-ends, seek-found, seek-more, children-args, children-notes, pass-begins, pass-ends, pass-found, pass-more, order-strayed, order-begins, order-ends, order-child, order-other, order-few, order-held, order-last, last-ordered, last-all, needs)

@@ -93,6 +93,7 @@ InOrder ws n i =
 
 pub record Ordered (ws : List ℕ) (n i : ℕ) (r : Bool) : Type 0 where
   pub is : r ≡ true → InOrder ws n i
+  pub exact : InOrder ws n i → r ≡ true
 
 -- the children of row p less one are in order if `ordered` says so
 pub record Orders (ws : List ℕ) (n p : ℕ) (ordered : Bool) : Type 0 where

@@ -63,7 +63,7 @@ fn put_read(out: &mut [u8], n: usize, document: &[u8], item: &[u8]) -> usize {
     let mut warnings = [0u32; 4096];
     let mut text = [0u8; 65536];
     match reader::parse_with_warnings(document, &mut rows, &mut warnings, &mut text) {
-        Verdict::Refused(number, place) => output::put_refused(out, n, number, place),
+        Verdict::Refused(refusal) => output::put_refused(out, n, refusal.number, refusal.place),
         Verdict::Accepted(r, t, w) => {
             let m = output::put_counts(out, n, r, t, w);
             put_again(out, m, document, output::front(&text, t), &rows, r, item)

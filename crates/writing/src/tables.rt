@@ -1,5 +1,6 @@
 // Where rows come from: a document that is read, or words that are given.
 use crate::item::Asked;
+use document::Refusal;
 use document::Verdict;
 ghost use Prim.Native.Nat.{_<_};
 
@@ -70,9 +71,9 @@ fn put_items<'a>(
     m
 }
 
-fn put_unread(out: &mut [u8], n: usize, number: u32, place: usize) -> usize {
+fn put_unread(out: &mut [u8], n: usize, refusal: Refusal) -> usize {
     let m = output::put_bytes(out, n, b"not read: ");
-    output::put_refused(out, m, number, place)
+    output::put_refused(out, m, refusal.number, refusal.place)
 }
 
 // Reads a document, and writes a row of it.
@@ -87,7 +88,7 @@ pub fn row_of_document(
     let mut warnings = [0u32; 4096];
     let mut text = [0u8; 65536];
     match reader::parse_with_warnings(document, &mut rows, &mut warnings, &mut text) {
-        Verdict::Refused(number, place) => put_unread(out, n, number, place),
+        Verdict::Refused(refusal) => put_unread(out, n, refusal),
         Verdict::Accepted(r, t, _) => {
             let asked = Asked {
                 claimed: r,
@@ -105,7 +106,7 @@ pub fn rows_of_document(out: &mut [u8], n: usize, document: &[u8]) -> usize {
     let mut warnings = [0u32; 4096];
     let mut text = [0u8; 65536];
     match reader::parse_with_warnings(document, &mut rows, &mut warnings, &mut text) {
-        Verdict::Refused(number, place) => put_unread(out, n, number, place),
+        Verdict::Refused(refusal) => put_unread(out, n, refusal),
         Verdict::Accepted(r, t, w) => {
             let m = output::put_counts(out, n, r, t, w);
             put_items(out, m, document, output::front(&text, t), &rows, r)

@@ -1,0 +1,3 @@
+-- The laws of interfaces.
+-- Assumes nothing.
+pub mod Interfaces

@@ -1,0 +1,3 @@
+-- What the functions need that read an interface.
+-- Assumes nothing.
+pub mod Among
