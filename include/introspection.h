@@ -94,7 +94,7 @@ enum introspection_number {
     INTROSPECTION_NOT_UTF8 = 1,                 /* [the first ill-formed sequence] */
     INTROSPECTION_TOO_LONG = 2,                 /* [1,048,576] */
     INTROSPECTION_NO_ROOT = 3,                  /* [the length] */
-    INTROSPECTION_MALFORMED_MARKUP = 4,         /* [docs/FORMAT.md, Answers] */
+    INTROSPECTION_MALFORMED_MARKUP = 4,         /* a tag [docs/FORMAT.md, Answers] */
     INTROSPECTION_UNCLOSED_ELEMENT = 5,         /* [the length] */
     INTROSPECTION_CROSSED_CLOSE = 6,            /* [after the closing tag] */
     INTROSPECTION_TOO_DEEP = 7,                 /* more than 1,024 open [after the start tag] */
@@ -112,7 +112,11 @@ enum introspection_number {
     INTROSPECTION_UNSOUND_ROWS = 19,            /* [262,144 if more rows are claimed; else the rows lent if fewer than
                                                    claimed; else the first bad row] */
     INTROSPECTION_NOT_WRITABLE = 20,            /* no such row, or its kind is not 3, 5, 6 or 7 [the row asked for] */
-    INTROSPECTION_OUTPUT_SHORT = 21             /* [the bytes needed] */
+    INTROSPECTION_OUTPUT_SHORT = 21,            /* [the bytes needed] */
+    INTROSPECTION_UNCLOSED_COMMENT = 22,        /* [past its <!--] */
+    INTROSPECTION_UNCLOSED_CDATA = 23,          /* [past its <![CDATA[] */
+    INTROSPECTION_UNCLOSED_INSTRUCTION = 24,    /* [past its <?] */
+    INTROSPECTION_UNCLOSED_DECLARATION = 25     /* [past the quote that never closes; else the length] */
 };
 
 /* Word 0 of a warning; words 1 to 3 are the place of `<` and the place and the length of the element name, in the
@@ -137,7 +141,8 @@ enum introspection_reason {
  * reference, tab, LF or CR, as they are shown; all others are left in the document. So the rows are good for as long as
  * the document and the text are there, unchanged.
  *
- * answer: number, place, rows, text bytes, warnings. Refusals: 2, 1, the first of 3 to 17 met in reading, then 18.
+ * answer: number, place, rows, text bytes, warnings. Refusals: 2, 1, the first of 3 to 17 and 22 to 25 met in reading,
+ * then 18.
  */
 void introspection_read(const uint8_t *document, size_t document_length, uint32_t *rows, size_t rows_length,
                         uint32_t *warnings, size_t warnings_length, uint8_t *text, size_t text_length,

@@ -240,7 +240,12 @@ static void refused_documents(void)
 {
     REFUSES("<node>\xff</node>", INTROSPECTION_NOT_UTF8, 6);
     REFUSES("no element", INTROSPECTION_NO_ROOT, 10);
-    REFUSES("<node><!-- open</node>", INTROSPECTION_MALFORMED_MARKUP, 10);
+    REFUSES("<node><", INTROSPECTION_MALFORMED_MARKUP, 7);
+    REFUSES("<node><!-- open</node>", INTROSPECTION_UNCLOSED_COMMENT, 10);
+    REFUSES("<node><![CDATA[ open</node>", INTROSPECTION_UNCLOSED_CDATA, 15);
+    REFUSES("<node><? open</node>", INTROSPECTION_UNCLOSED_INSTRUCTION, 8);
+    REFUSES("<node><!open", INTROSPECTION_UNCLOSED_DECLARATION, 12);
+    REFUSES("<node><!open \"></node>", INTROSPECTION_UNCLOSED_DECLARATION, 14);
     REFUSES("<node><node>", INTROSPECTION_UNCLOSED_ELEMENT, 12);
     REFUSES("<node><node></x></node>", INTROSPECTION_CROSSED_CLOSE, 16);
     REFUSES("<node a=\"1\" a=\"2\"/>", INTROSPECTION_DUPLICATE_ATTRIBUTE, 12);

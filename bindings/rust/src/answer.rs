@@ -15,7 +15,7 @@ pub enum ErrorKind {
     TooLong = 2,
     /// No root element. Place: the length.
     NoRoot = 3,
-    /// MalformedMarkup markup. Place: docs/FORMAT.md, Answers.
+    /// A malformed tag. Place: docs/FORMAT.md, Answers.
     MalformedMarkup = 4,
     /// An element that is not closed. Place: the length.
     UnclosedElement = 5,
@@ -51,11 +51,19 @@ pub enum ErrorKind {
     NotWritable = 20,
     /// An output that is too short. This crate lends enough, so no caller sees it.
     OutputShort = 21,
+    /// A comment that never closes. Place: past its `<!--`.
+    UnclosedComment = 22,
+    /// A CDATA section that never closes. Place: past its `<![CDATA[`.
+    UnclosedCdata = 23,
+    /// A processing instruction that never closes. Place: past its `<?`.
+    UnclosedInstruction = 24,
+    /// A declaration that never closes. Place: past the quote that never closes, else the length.
+    UnclosedDeclaration = 25,
 }
 
 use ErrorKind::*;
 
-const KINDS: [ErrorKind; 21] = [
+const KINDS: [ErrorKind; 25] = [
     NotUtf8,
     TooLong,
     NoRoot,
@@ -77,10 +85,14 @@ const KINDS: [ErrorKind; 21] = [
     UnsoundRows,
     NotWritable,
     OutputShort,
+    UnclosedComment,
+    UnclosedCdata,
+    UnclosedInstruction,
+    UnclosedDeclaration,
 ];
 
 impl ErrorKind {
-    /// The number, 1 to 21.
+    /// The number, 1 to 25.
     pub fn number(self) -> u32 {
         self as u32
     }
@@ -109,6 +121,10 @@ impl ErrorKind {
             UnsoundRows => "unsound rows",
             NotWritable => "not a writable row",
             OutputShort => "the output is too short",
+            UnclosedComment => "a comment is not closed",
+            UnclosedCdata => "a CDATA section is not closed",
+            UnclosedInstruction => "a processing instruction is not closed",
+            UnclosedDeclaration => "a declaration is not closed",
         }
     }
 }
@@ -136,7 +152,7 @@ impl Error {
         self.kind
     }
 
-    /// Its number in docs/FORMAT.md, 1 to 21.
+    /// Its number in docs/FORMAT.md, 1 to 25.
     pub fn number(&self) -> u32 {
         self.kind.number()
     }

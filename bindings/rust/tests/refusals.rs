@@ -14,12 +14,19 @@ fn each_number_with_its_place() {
     let many: String = (0..257).map(|k| format!(" a{k}=''")).collect();
     let many = format!("<node{many}/>");
     let deep = "<node>".repeat(1025);
-    let cases: [(&[u8], u32, usize); 24] = [
+    let cases: [(&[u8], u32, usize); 31] = [
         (b"<node>\xff</node>", 1, 6),
         (b"<node/>\xc3", 1, 7),
         (b"", 3, 0),
         (b"text only", 3, 9),
-        (b"<node><!-- never closed</node>", 4, 10),
+        (b"<node><!-- never closed</node>", 22, 10),
+        (b"<node><![CDATA[ never closed</node>", 23, 15),
+        (b"<node><? never closed</node>", 24, 8),
+        (b"<node><!never closed", 25, 20),
+        (b"<!never 'closed><node/>", 25, 9),
+        (b"<!-", 25, 3),
+        (b"<!-->", 22, 4),
+        (b"<node a='never closed></node>", 4, 6),
         (b"<node", 4, 5),
         (b"<node a></node>", 4, 6),
         (b"< node/>", 4, 1),
@@ -97,6 +104,24 @@ fn a_refusal_is_an_error_value() {
     let error: &Error = error.downcast_ref().unwrap();
     assert_eq!(error.kind(), ErrorKind::MalformedMarkup);
     assert!(error.to_string().starts_with("malformed markup (4, "));
+}
+
+#[test]
+fn each_sort_of_markup_that_never_closes() {
+    use ErrorKind::*;
+    let sorts: [(&str, ErrorKind, &str); 4] = [
+        ("<!--", UnclosedComment, "a comment is not closed (22, at byte 10)"),
+        ("<![CDATA[", UnclosedCdata, "a CDATA section is not closed (23, at byte 15)"),
+        ("<?", UnclosedInstruction, "a processing instruction is not closed (24, at byte 8)"),
+        ("<!x", UnclosedDeclaration, "a declaration is not closed (25, at byte 9)"),
+    ];
+    for (begun, kind, message) in sorts {
+        let error = Document::parse(format!("<node>{begun}").as_bytes()).unwrap_err();
+        assert_eq!(error.kind(), kind);
+        assert_eq!(error.to_string(), message);
+        // nothing after the root is read
+        assert!(Document::parse(format!("<node/>{begun}").as_bytes()).is_ok());
+    }
 }
 
 #[test]

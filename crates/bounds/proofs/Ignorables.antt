@@ -21,12 +21,12 @@ Scanned from top (Fault n p) = Number n × (p ≤ top)
 Scanned from top (At p) = (from ≤ p) × (p ≤ top)
 
 module _ (from top : ℕ) where
-  seek-within : (key : List ℕ) (c : ℕ) (l : List ℕ) (p : ℕ) → c ≤ top → from ≤ p → p + length l ≡ top → Scanned from top (seek key c l p)
-  seek-within key c [] p h f e = (refl, h)
-  seek-within key c (b ∷ l) p h f e =
+  seek-within : (n : ℕ) → Number n → (key : List ℕ) (c : ℕ) (l : List ℕ) (p : ℕ) → c ≤ top → from ≤ p → p + length l ≡ top → Scanned from top (seek n key c l p)
+  seek-within n m key c [] p h f e = (m, h)
+  seek-within n m key c (b ∷ l) p h f e =
       either (Scanned from top) (starts key (b ∷ l))
       (λ t. (omega arith, omega (arith, starts-fits key (b ∷ l) t)))
-      (λ t. seek-within key c l (suc p) h (omega arith) (omega arith))
+      (λ t. seek-within n m key c l (suc p) h (omega arith) (omega arith))
 
   -- the inside of an open quote begins before the end
   abbrev Inside : Mode → Type 0
@@ -55,11 +55,11 @@ module _ (from top : ℕ) where
       either (Scanned from top) (starts (bytes "--") l)
       (λ t.
       let n : 2 ≤ length l = starts-fits (bytes "--") l t in
-      seek-within (bytes "-->") (at + 4) (drop 2 l) (at + 4) (omega arith) (omega arith) (rw length-drop (omega arith)))
+      seek-within 22 refl (bytes "-->") (at + 4) (drop 2 l) (at + 4) (omega arith) (omega arith) (rw length-drop (omega arith)))
       (λ t. either (Scanned from top) (starts (bytes "[CDATA[") l)
       (λ t.
       let n : 7 ≤ length l = starts-fits (bytes "[CDATA[") l t in
-      seek-within (bytes "]]>") (at + 9) (drop 7 l) (at + 9) (omega arith) (omega arith) (rw length-drop (omega arith)))
+      seek-within 23 refl (bytes "]]>") (at + 9) (drop 7 l) (at + 9) (omega arith) (omega arith) (rw length-drop (omega arith)))
       (λ t. declaration-within (bare 0) l (at + 2) f (omega arith) tt))
 
   -- what begins at a `<` is ignored up to such a place
@@ -73,7 +73,7 @@ module _ (from top : ℕ) where
       either Marked (eqb b 33)
       (λ t. declared-within l at (omega arith) (omega arith))
       (λ t. either Marked (eqb b 63)
-      (λ t. seek-within (bytes "?>") (at + 2) l (at + 2) (omega arith) (omega arith) (omega arith))
+      (λ t. seek-within 24 refl (bytes "?>") (at + 2) l (at + 2) (omega arith) (omega arith) (omega arith))
       (λ t. tt))
 
 module _ (from top : ℕ) where

@@ -69,7 +69,7 @@ pub declare-begins : {s : List ℕ} {from : ℕ} → from ≤ length s → Decla
 declare-begins h = record { left = refl; since = omega arith; inside = h; nested = omega arith }
 
 module _ {s : List ℕ} {from at depth : ℕ} (g : Declaring s from at depth) where
-  pub declare-ended : length s ≤ at → Scans (declarationIn (bare 0)) s from (Fault 4 at)
+  pub declare-ended : length s ≤ at → Scans (declarationIn (bare 0)) s from (Fault 25 at)
   declare-ended h = record { is = sym (g .left ∙ rw (drop-of-length-le s h)); onward = tt }
 
   module _ (h : at < length s) where
@@ -84,7 +84,7 @@ module _ {s : List ℕ} {from at depth : ℕ} (g : Declaring s from at depth) wh
           (run-past (declarationIn (quoted depth (getD s at 0) (at + 1))) (other (getD s at 0))
           (λ b l p o. rw (not-true (eqb b (getD s at 0)) o)) s (at + 1) n))
 
-      pub declare-unclosed : length s ≤ close → Scans (declarationIn (bare 0)) s from (Fault 4 (at + 1))
+      pub declare-unclosed : length s ≤ close → Scans (declarationIn (bare 0)) s from (Fault 25 (at + 1))
       declare-unclosed c = record { is = sym (to-close ∙ rw (drop-of-length-le s c)); onward = tt }
 
       pub declare-quote : close < length s → Declaring s from (close + 1) depth

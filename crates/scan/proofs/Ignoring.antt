@@ -37,13 +37,13 @@ pub cdata-fits : (s : List ℕ) (at : ℕ) {t : Bool} → at + 2 ≤ length s �
 cdata-fits s at = key-fits s at (bytes "[CDATA[")
 
 module _ (s : List ℕ) (at : ℕ) {t : Bool} (e : t ≡ starts (bytes "--") (drop (at + 2) s)) where
-  pub declared-comment : {r : Scan} → t ≡ true → Scans (seek (bytes "-->") (at + 4)) s (at + 4) r → Ignores declared s at r
+  pub declared-comment : {r : Scan} → t ≡ true → Scans (seek 22 (bytes "-->") (at + 4)) s (at + 4) r → Ignores declared s at r
   declared-comment {r} f c =
       let n : at + 2 + 2 ≡ at + 4 = omega arith in
       record { is = c .is ∙ rw (sym e ∙ f, drop-drop 2 (at + 2) s, n); onward = past-it s (at + 4) r at (omega arith) (c .onward) }
 
   module _ (f : t ≡ false) {u : Bool} (d : u ≡ starts (bytes "[CDATA[") (drop (at + 2) s)) where
-    pub declared-cdata : {r : Scan} → u ≡ true → Scans (seek (bytes "]]>") (at + 9)) s (at + 9) r → Ignores declared s at r
+    pub declared-cdata : {r : Scan} → u ≡ true → Scans (seek 23 (bytes "]]>") (at + 9)) s (at + 9) r → Ignores declared s at r
     declared-cdata {r} g c =
         let n : at + 2 + 7 ≡ at + 9 = omega arith in
         record { is = c .is ∙ rw (sym e ∙ f, sym d ∙ g, drop-drop 7 (at + 2) s, n); onward = past-it s (at + 9) r at (omega arith) (c .onward) }
@@ -66,7 +66,7 @@ module _ (s : List ℕ) (at : ℕ) where
     pub markup-declared : {r : Scan} → getD s (at + 1) 0 ≡ 33 → Ignores declared s at r → Marks s at (Ignored r)
     markup-declared b c = record { is = rw (after, b, c .is); onward = c .onward }
 
-    pub markup-instruction : {r : Scan} → getD s (at + 1) 0 ≡ 63 → Scans (seek (bytes "?>") (at + 2)) s (at + 2) r → Marks s at (Ignored r)
+    pub markup-instruction : {r : Scan} → getD s (at + 1) 0 ≡ 63 → Scans (seek 24 (bytes "?>") (at + 2)) s (at + 2) r → Marks s at (Ignored r)
     markup-instruction {r} b c = record { is = rw (after, b, c .is); onward = past-it s (at + 2) r at (omega arith) (c .onward) }
 
     pub markup-tag : (getD s (at + 1) 0 ≡ 33 → ⊥) → (getD s (at + 1) 0 ≡ 63 → ⊥) → Marks s at Tag

@@ -13,10 +13,10 @@ use Rattle.scan.specs.declared.Scan.the-variants.{Fault, At}
 use Rattle.scan.specs.declared.Markup.{Markup}
 use Rattle.scan.specs.declared.Markup.the-variants.{Tag, Ignored}
 
--- past the first place of a key, or the fault at c
-abbrev pub seek : List ℕ → ℕ → List ℕ → ℕ → Scan
-seek key c [] p = Fault 4 c
-seek key c (b ∷ l) p = let r = seek key c l (suc p) in if (starts key (b ∷ l)) (At (p + length key)) r
+-- past the first place of a key, or the fault n at c
+abbrev pub seek : ℕ → List ℕ → ℕ → List ℕ → ℕ → Scan
+seek n key c [] p = Fault n c
+seek n key c (b ∷ l) p = let r = seek n key c l (suc p) in if (starts key (b ∷ l)) (At (p + length key)) r
 
 -- `"` and `'`
 abbrev pub quote : ℕ → Bool
@@ -40,8 +40,8 @@ ends (quoted d q c) b = false
 
 -- past the unclosed quote, else the length
 abbrev pub unended : Mode → ℕ → Scan
-unended (bare d) p = Fault 4 p
-unended (quoted d q c) p = Fault 4 c
+unended (bare d) p = Fault 25 p
+unended (quoted d q c) p = Fault 25 c
 
 abbrev pub declarationIn : Mode → List ℕ → ℕ → Scan
 declarationIn m [] p = unended m p
@@ -50,8 +50,8 @@ declarationIn m (b ∷ l) p = let r = declarationIn (changed m b p) l (suc p) in
 -- after `<!`, for the place of `<`: comment first, then CDATA section, then declaration
 abbrev pub declared : List ℕ → ℕ → Scan
 declared l at =
-    let c = seek (bytes "-->") (at + 4) (drop 2 l) (at + 4) in
-    let d = seek (bytes "]]>") (at + 9) (drop 7 l) (at + 9) in
+    let c = seek 22 (bytes "-->") (at + 4) (drop 2 l) (at + 4) in
+    let d = seek 23 (bytes "]]>") (at + 9) (drop 7 l) (at + 9) in
     let o = declarationIn (bare 0) l (at + 2) in
     if (starts (bytes "--") l) c (if (starts (bytes "[CDATA[") l) d o)
 
@@ -60,7 +60,7 @@ abbrev pub markup : List ℕ → ℕ → Markup
 markup [] at = Tag
 markup (b ∷ l) at =
     let d = Ignored (declared l at) in
-    let i = Ignored (seek (bytes "?>") (at + 2) l (at + 2)) in
+    let i = Ignored (seek 24 (bytes "?>") (at + 2) l (at + 2)) in
     if (eqb b 33) d (if (eqb b 63) i Tag)
 
 abbrev pub further : Markup → ℕ → (ℕ → Scan) → Scan

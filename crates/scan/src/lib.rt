@@ -83,9 +83,9 @@ pub fn name_end(s: &[u8], classes: &[u8; 256], from: usize) -> usize
 }
 
 // Past the first place of the key, or a fault where the search began.
-pub fn until(s: &[u8], from: usize, key: &[u8]) -> Scan
+pub fn until(s: &[u8], from: usize, key: &[u8], number: u32) -> Scan
     requires { ⌜ (from ≤ length (now s)) × (0 < length (now key)) × (length (now key) < 256) ⌝ }
-    ensures { λ r. ⌜ Scans (seek (now (key .entry)) from) (now (s .entry)) from r ⌝ }
+    ensures { λ r. ⌜ Scans (seek number (now (key .entry)) from) (now (s .entry)) from r ⌝ }
 {
     let first = key[0];
     let mut at = slices::find(s, from, first);
@@ -95,7 +95,7 @@ pub fn until(s: &[u8], from: usize, key: &[u8]) -> Scan
         }
         at = slices::find(s, at + 1, first);
     }
-    Scan::Fault(4, from)
+    Scan::Fault(number, from)
 }
 
 pub fn is_quote(b: u8) -> bool
@@ -147,7 +147,7 @@ pub fn declaration(s: &[u8], from: usize) -> Scan
             let inner = at + 1;
             let close = slices::find(s, inner, b);
             if s.len() <= close {
-                return Scan::Fault(4, inner);
+                return Scan::Fault(25, inner);
             }
             at = close + 1;
         } else {
@@ -158,7 +158,7 @@ pub fn declaration(s: &[u8], from: usize) -> Scan
             at += 1;
         }
     }
-    Scan::Fault(4, at)
+    Scan::Fault(25, at)
 }
 
 // What begins with `<!` at a place: comment first, then CDATA section, then declaration.
@@ -168,10 +168,10 @@ fn declared_at(s: &[u8], at: usize) -> Scan
 {
     let inner = at + 2;
     if slices::starts_at(s, inner, b"--") {
-        return until(s, at + 4, b"-->");
+        return until(s, at + 4, b"-->", 22);
     }
     if slices::starts_at(s, inner, b"[CDATA[") {
-        return until(s, at + 9, b"]]>");
+        return until(s, at + 9, b"]]>", 23);
     }
     declaration(s, inner)
 }
@@ -190,7 +190,7 @@ fn markup_at(s: &[u8], at: usize) -> Markup
         return Markup::Ignored(declared_at(s, at));
     }
     if b == 63 {
-        return Markup::Ignored(until(s, at + 2, b"?>"));
+        return Markup::Ignored(until(s, at + 2, b"?>", 24));
     }
     Markup::Tag
 }

@@ -8,10 +8,10 @@ use Rattle.scan.proofs.until.Statement.{statement}
 use Rattle.scan.proofs.until.Tie as tie
 
 abbrev Inv-loop : tie.InvT-loop
-Inv-loop s from key first at₀ at = Seeking key s from at
+Inv-loop s from key number first at₀ at = Seeking number key s from at
 
 abbrev μ-loop : tie.MeasureT-loop
-μ-loop s from key first at₀ at = length s - at
+μ-loop s from key number first at₀ at = length s - at
 
 pub until-spec : {M : Type 1} → statement M
 until-spec =
