@@ -7,6 +7,10 @@ use mathlib.Core.Bool.{Bool}
 use borrow.Author.Needs.{needs}
 use Rattle.tables.specs.declared.Triple.{Triple}
 use Rattle.tables.specs.Triple.{inside, resolved}
+use Rattle.columns.specs.Entries.{Outcome}
+use Rattle.columns.specs.Entries as entries-of
+use Rattle.columns.specs.declared.ColumnsAnswer.{ColumnsAnswer}
+use Rattle.columns.specs.declared.ColumnsAnswer.the-variants as columns
 use Rattle.references.specs.Unescape.{Text}
 use Rattle.references.specs.Entries.{answerOf}
 use Rattle.references.specs.declared.Answer.{Answer}
@@ -17,7 +21,7 @@ use Rattle.document.specs.Whole.{verdictOf}
 use Rattle.document.specs.declared.Refusal.{Refusal}
 use Rattle.document.specs.declared.Verdict.{Verdict}
 use Rattle.document.specs.declared.Verdict.the-variants as verdict
-use Rattle.capi.specs.Words.{verdictWords, answerWords, readWords, textWords, partWords, lookupWords}
+use Rattle.capi.specs.Words.{verdictWords, answerWords, columnsWords, readWords, textWords, outcomeWords, partWords, lookupWords}
 
 module _ {v : Verdict} where
   pub verdict-refused : {x : Refusal} → v ≡ verdict.Refused x → (x .number ∷ x .place ∷ 0 ∷ 0 ∷ 0 ∷ []) ≡ verdictWords v
@@ -39,9 +43,19 @@ module _ {a : Answer} where
   pub text-words : (t : Text) {ws : List ℕ} → ws ≡ answerWords a → a ≡ answerOf t → ws ≡ textWords t
   text-words t h e = h ∙ ap answerWords e
 
+module _ {a : ColumnsAnswer} where
+  pub columns-refused : {n p : ℕ} → a ≡ columns.Refused n p → (n ∷ p ∷ []) ≡ columnsWords a
+  columns-refused e = rw e refl
+
+  pub columns-done : a ≡ columns.Done → (0 ∷ 0 ∷ []) ≡ columnsWords a
+  columns-done e = rw e refl
+
+  pub outcome-words : (o : Outcome) {ws : List ℕ} → ws ≡ columnsWords a → a ≡ entries-of.answerOf o → ws ≡ outcomeWords o
+  outcome-words o h e = h ∙ ap columnsWords e
+
 pub lookup-words : (document text : List ℕ) (t : Triple) {p : Triple} {b : Bool} {ws : List ℕ} → ws ≡ partWords b p → b ≡ inside document text t → p ≡ resolved document text t → ws ≡ lookupWords document text t
 lookup-words document text t h e f = h ∙ rw (e, f) refl
 
-pub ruleset words = (verdict-refused, verdict-accepted, answer-refused, answer-done, needs)
+pub ruleset words = (verdict-refused, verdict-accepted, answer-refused, answer-done, columns-refused, columns-done, needs)
 
-pub ruleset entries = (read-words, text-words, lookup-words, needs)
+pub ruleset entries = (read-words, text-words, outcome-words, lookup-words, needs)
