@@ -38,7 +38,7 @@ extern "C" {
 #define INTROSPECTION_VERSION "0.1.0"
 
 /* Limits. A longer document, text or value is refused with INTROSPECTION_TOO_LONG, more rows claimed for writing with
- * INTROSPECTION_UNSOUND_ROWS. */
+ * INTROSPECTION_UNSOUND_ROWS, more rows to put down as columns, or to make from them, with INTROSPECTION_TOO_MANY_ROWS. */
 #define INTROSPECTION_MAX_BYTES 1048576
 #define INTROSPECTION_MAX_ROWS 262144
 
@@ -117,7 +117,8 @@ enum introspection_number {
     INTROSPECTION_BAD_ACCESS = 15,              /* [after the start tag] */
     INTROSPECTION_BAD_DIRECTION = 16,           /* [after the start tag] */
     INTROSPECTION_TOO_MANY_ATTRIBUTES = 17,     /* more than 256 in a tag [the 257th name] */
-    INTROSPECTION_NO_ROOM = 18,                 /* a lent table is short [the input's length] */
+    INTROSPECTION_NO_ROOM = 18,                 /* a lent table is short [the input's length; of introspection_columns and
+                                                   introspection_rows the count] */
     INTROSPECTION_UNSOUND_ROWS = 19,            /* [262,144 if more rows are claimed; else the rows lent if fewer than
                                                    claimed; else the first bad row] */
     INTROSPECTION_NOT_WRITABLE = 20,            /* no such row, or its kind is not 3, 5, 6 or 7 [the row asked for] */
@@ -125,7 +126,8 @@ enum introspection_number {
     INTROSPECTION_UNCLOSED_COMMENT = 22,        /* [past its <!--] */
     INTROSPECTION_UNCLOSED_CDATA = 23,          /* [past its <![CDATA[] */
     INTROSPECTION_UNCLOSED_INSTRUCTION = 24,    /* [past its <?] */
-    INTROSPECTION_UNCLOSED_DECLARATION = 25     /* [past the quote that never closes; else the length] */
+    INTROSPECTION_UNCLOSED_DECLARATION = 25,    /* [past the quote that never closes; else the length] */
+    INTROSPECTION_TOO_MANY_ROWS = 30            /* [262,144] */
 };
 
 /* Word 0 of a warning; words 1 to 3 are the place of `<` and the place and the length of the element name, in the
@@ -200,6 +202,24 @@ void introspection_write(const uint8_t *document, size_t document_length, const 
  */
 void introspection_lookup(const uint8_t *document, size_t document_length, const uint8_t *text, size_t text_length,
                           uint32_t source, uint32_t start, uint32_t length, uint64_t answer[4]);
+
+/*
+ * Puts rows down as columns: of count rows, word k of row r at k times count plus r, as that word less the same word of
+ * the row before, modulo 2 to the 32nd; the words of row 0 as they are. Any words will do, sound rows or not. The 16
+ * columns have 16 times count words; rows may hold more, which are not looked at.
+ *
+ * answer: number, place. Refusals: 30, then 18 at count if rows or columns have fewer than 16 times count words.
+ */
+void introspection_columns(const uint32_t *rows, size_t rows_length, uint64_t count, uint32_t *columns,
+                           size_t columns_length, uint64_t answer[2]);
+
+/*
+ * Puts columns down as rows again. Either function after the other restores the 16 times count words, for any words.
+ *
+ * answer: number, place. Refusals: as of introspection_columns.
+ */
+void introspection_rows(const uint32_t *columns, size_t columns_length, uint64_t count, uint32_t *rows,
+                        size_t rows_length, uint64_t answer[2]);
 
 #ifdef __cplusplus
 }

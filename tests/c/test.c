@@ -488,6 +488,108 @@ static void writing_too_long(void)
     free(spaces);
 }
 
+/* ---- columns */
+
+typedef void turn(const uint32_t *, size_t, uint64_t, uint32_t *, size_t, uint64_t *);
+
+/* So many words of a source, lent with so much room. */
+struct turning {
+    uint32_t *source, *made;
+    size_t source_length, made_length;
+    uint64_t answer[2];
+};
+
+static struct turning turn_with(turn *f, const uint32_t *words, size_t length, uint64_t count, size_t room)
+{
+    struct turning t;
+    t.source = lend(length * 4);
+    if (length != 0)
+        memcpy(t.source, words, length * 4);
+    t.source_length = length;
+    t.made = lend(room * 4);
+    t.made_length = room;
+    memset(t.answer, 0xa5, sizeof t.answer);
+    f(t.source, length, count, t.made, room, t.answer);
+    return t;
+}
+
+static void end_turning(struct turning *t)
+{
+    free(t->source);
+    free(t->made);
+}
+
+/* Three rows: words 0 and 1 go up, down and past the ends of a word. */
+static const uint32_t three_rows[48] = {10, 20, 7, [16] = 12, 19, 7, [32] = 15, 0xffffffff, 7};
+static const uint32_t three_columns[48] = {10, 2, 3, 20, 0xffffffff, 0xffffffec, 7};
+
+static void columns_and_back(void)
+{
+    struct turning t = turn_with(introspection_columns, three_rows, 48, 3, 50), u;
+    CHECK(t.answer[0] == INTROSPECTION_ACCEPTED && t.answer[1] == 0);
+    CHECK(memcmp(t.made, three_columns, sizeof three_columns) == 0 && t.made[48] == 0 && t.made[49] == 0);
+    u = turn_with(introspection_rows, t.made, 50, 3, 49);
+    CHECK(u.answer[0] == INTROSPECTION_ACCEPTED && u.answer[1] == 0);
+    CHECK(memcmp(u.made, three_rows, sizeof three_rows) == 0 && u.made[48] == 0);
+    end_turning(&t);
+    end_turning(&u);
+    /* and the other way round */
+    t = turn_with(introspection_rows, three_rows, 48, 3, 48);
+    u = turn_with(introspection_columns, t.made, 48, 3, 48);
+    CHECK(t.answer[0] == INTROSPECTION_ACCEPTED && u.answer[0] == INTROSPECTION_ACCEPTED);
+    CHECK(memcmp(u.made, three_rows, sizeof three_rows) == 0);
+    end_turning(&t);
+    end_turning(&u);
+}
+
+/* Refused, with a source and a room of so many words, which are zeros then. */
+static void not_turned(turn *f, size_t length, uint64_t count, size_t room, uint64_t number, uint64_t place, int line)
+{
+    struct turning t = turn_with(f, three_rows, length, count, room);
+    check(t.answer[0] == number && t.answer[1] == place, "number and place", line);
+    check(all_zero(t.made, 0, room * 4), "zeros after a refusal", line);
+    end_turning(&t);
+}
+
+static void columns_refused(turn *f)
+{
+    struct turning t;
+    not_turned(f, 47, 3, 48, INTROSPECTION_NO_ROOM, 3, __LINE__);
+    not_turned(f, 48, 3, 47, INTROSPECTION_NO_ROOM, 3, __LINE__);
+    not_turned(f, 0, 1, 0, INTROSPECTION_NO_ROOM, 1, __LINE__);
+    not_turned(f, 48, INTROSPECTION_MAX_ROWS, 48, INTROSPECTION_NO_ROOM, INTROSPECTION_MAX_ROWS, __LINE__);
+    not_turned(f, 48, INTROSPECTION_MAX_ROWS + 1, 48, INTROSPECTION_TOO_MANY_ROWS, INTROSPECTION_MAX_ROWS, __LINE__);
+    not_turned(f, 0, UINT64_MAX, 0, INTROSPECTION_TOO_MANY_ROWS, INTROSPECTION_MAX_ROWS, __LINE__);
+    /* 16 times this is 0 in 64 bits */
+    not_turned(f, 48, (uint64_t)1 << 60, 48, INTROSPECTION_TOO_MANY_ROWS, INTROSPECTION_MAX_ROWS, __LINE__);
+    t = turn_with(f, NULL, 0, 0, 0);
+    CHECK(t.answer[0] == INTROSPECTION_ACCEPTED && t.answer[1] == 0);
+    end_turning(&t);
+    t = turn_with(f, three_rows, 48, 0, 5);
+    CHECK(t.answer[0] == INTROSPECTION_ACCEPTED && t.answer[1] == 0 && all_zero(t.made, 0, 20));
+    end_turning(&t);
+}
+
+static void columns_at_the_limit(void)
+{
+    const size_t words = (size_t)INTROSPECTION_MAX_ROWS * INTROSPECTION_ROW_WORDS;
+    uint32_t *rows = lend(words * 4);
+    struct turning t, u;
+    size_t i;
+    for (i = 0; i < words; i++)
+        rows[i] = (uint32_t)i * 2654435761u;
+    t = turn_with(introspection_columns, rows, words, INTROSPECTION_MAX_ROWS, words);
+    CHECK(t.answer[0] == INTROSPECTION_ACCEPTED && t.answer[1] == 0);
+    CHECK(t.made[0] == rows[0] && t.made[1] == rows[16] - rows[0]);
+    CHECK(t.made[INTROSPECTION_MAX_ROWS] == rows[1] && t.made[words - 1] == rows[words - 1] - rows[words - 17]);
+    u = turn_with(introspection_rows, t.made, words, INTROSPECTION_MAX_ROWS, words);
+    CHECK(u.answer[0] == INTROSPECTION_ACCEPTED && u.answer[1] == 0);
+    CHECK(memcmp(u.made, rows, words * 4) == 0);
+    end_turning(&t);
+    end_turning(&u);
+    free(rows);
+}
+
 int main(void)
 {
     the_hinge();
@@ -499,6 +601,10 @@ int main(void)
     parts();
     writing();
     writing_too_long();
+    columns_and_back();
+    columns_refused(introspection_columns);
+    columns_refused(introspection_rows);
+    columns_at_the_limit();
     printf("%u passed, %u failed\n", passed, failed);
     return failed != 0;
 }

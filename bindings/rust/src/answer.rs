@@ -45,7 +45,8 @@ pub enum ErrorKind {
     BadDirection = 16,
     /// More than 256 attributes in a tag. Place: the 257th name.
     TooManyAttributes = 17,
-    /// No room in a lent table. This crate lends enough, so no caller sees it.
+    /// No room in a lent table: rows or columns of fewer than 16 times the count of words. Place:
+    /// the count. For reading and unescaping this crate lends enough.
     NoRoom = 18,
     /// Rows that are not sound. What the reader leaves is, so no caller sees it.
     UnsoundRows = 19,
@@ -61,11 +62,13 @@ pub enum ErrorKind {
     UnclosedInstruction = 24,
     /// A declaration that never closes. Place: past the quote that never closes, else the length.
     UnclosedDeclaration = 25,
+    /// More than 262,144 rows, to be put down as columns or to be made from them. Place: 262,144.
+    TooManyRows = 30,
 }
 
 use ErrorKind::*;
 
-const KINDS: [ErrorKind; 25] = [
+const KINDS: [ErrorKind; 26] = [
     NotUtf8,
     TooLong,
     NoRoot,
@@ -91,6 +94,7 @@ const KINDS: [ErrorKind; 25] = [
     UnclosedCdata,
     UnclosedInstruction,
     UnclosedDeclaration,
+    TooManyRows,
 ];
 
 impl ErrorKind {
@@ -127,6 +131,7 @@ impl ErrorKind {
             UnclosedCdata => "a CDATA section is not closed",
             UnclosedInstruction => "a processing instruction is not closed",
             UnclosedDeclaration => "a declaration is not closed",
+            TooManyRows => "too many rows",
         }
     }
 }
@@ -159,27 +164,33 @@ impl Error {
         self.kind.number()
     }
 
-    /// Where: bytes from the start of the document or of the value. It is at most its length.
+    /// Where: bytes from the start of the document or of the value. It is at most its length. Of
+    /// [`columns`](crate::columns()) and [`rows`](crate::rows()) it is a number of rows.
     pub fn place(&self) -> usize {
         self.place
     }
 
     /// The answer's first two words: number 0 is no refusal.
     pub(crate) fn unless_accepted(number: usize, place: usize) -> Result<(), Self> {
-        match number.checked_sub(1) {
-            None => Ok(()),
-            Some(index) => Err(Self {
-                kind: KINDS[index],
-                place,
-            }),
+        if number == 0 {
+            return Ok(());
         }
+        let kind = KINDS
+            .into_iter()
+            .find(|kind| kind.number() as usize == number);
+        let kind = kind.expect("a number of docs/FORMAT.md");
+        Err(Self { kind, place })
     }
 }
 
 impl fmt::Display for Error {
     fn fmt(&self, f: &mut fmt::Formatter<'_>) -> fmt::Result {
         let message = self.kind.message();
-        write!(f, "{message} ({}, at byte {})", self.number(), self.place)
+        let unit = match self.kind {
+            NoRoom | TooManyRows => "row",
+            _ => "byte",
+        };
+        write!(f, "{message} ({}, at {unit} {})", self.number(), self.place)
     }
 }
 

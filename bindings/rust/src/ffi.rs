@@ -53,6 +53,24 @@ extern "C" {
         answer: *mut u64,
     );
 
+    fn introspection_columns(
+        rows: *const u32,
+        rows_len: usize,
+        count: u64,
+        columns: *mut u32,
+        columns_len: usize,
+        answer: *mut u64,
+    );
+
+    fn introspection_rows(
+        columns: *const u32,
+        columns_len: usize,
+        count: u64,
+        rows: *mut u32,
+        rows_len: usize,
+        answer: *mut u64,
+    );
+
     #[cfg(test)]
     fn introspection_lookup(
         document: *const u8,
@@ -164,6 +182,37 @@ pub(crate) fn write(
         );
     }
     written(answer)
+}
+
+/// Puts rows down as columns.
+pub(crate) fn columns(rows: &[u32], count: usize, columns: &mut [u32]) -> Result<(), Error> {
+    laid(introspection_columns, rows, count, columns)
+}
+
+/// Puts columns down as rows again.
+pub(crate) fn rows(columns: &[u32], count: usize, rows: &mut [u32]) -> Result<(), Error> {
+    laid(introspection_rows, columns, count, rows)
+}
+
+/// `introspection_columns` or `introspection_rows`.
+type Lay = unsafe extern "C" fn(*const u32, usize, u64, *mut u32, usize, *mut u64);
+
+fn laid(lay: Lay, source: &[u32], count: usize, output: &mut [u32]) -> Result<(), Error> {
+    let mut answer = [0; 2];
+    // SAFETY: `lay` is one of the two functions; the two slices are as the head of this file says;
+    // the count may be any; `answer` has the 2 words that both write.
+    unsafe {
+        lay(
+            source.as_ptr(),
+            source.len(),
+            count as u64,
+            output.as_mut_ptr(),
+            output.len(),
+            answer.as_mut_ptr(),
+        );
+    }
+    let [number, place] = answer.map(size);
+    Error::unless_accepted(number, place)
 }
 
 /// The part that a triple leads to: whether it lies inside its buffer, source, start and length.

@@ -36,12 +36,16 @@
 //! # Ok::<(), introspection::Error>(())
 //! ```
 //!
+//! [`columns`](columns()) puts the rows of a table down as columns of differences, and [`rows`](rows()) puts
+//! them back.
+//!
 //! The crate links the archive that `rt staticlib introspection` writes; README.md says where it is
 //! sought.
 
 #![deny(missing_docs, unsafe_code, rust_2018_idioms)]
 
 mod answer;
+mod columns;
 #[allow(unsafe_code)]
 mod ffi;
 mod item;
@@ -60,6 +64,7 @@ use std::fmt;
 use std::str;
 
 pub use answer::{Error, ErrorKind, Reason, Warning};
+pub use columns::{columns, rows};
 pub use item::{
     Annotation, Arg, ArgDirection, Child, Interface, Method, Node, Property, PropertyAccess, Signal,
 };
@@ -147,6 +152,11 @@ impl<'a> Document<'a> {
     /// What was left out, in the order in which that was found.
     pub fn warnings(&self) -> impl ExactSizeIterator<Item = Warning<'_>> + Clone {
         self.warnings.iter().map(|&words| Warning::new(self, words))
+    }
+
+    /// The rows as words, 16 for each (docs/FORMAT.md, Tables).
+    pub fn table(&self) -> &[u32] {
+        self.rows.as_flattened()
     }
 
     fn row(&self, index: usize) -> Row<'_> {

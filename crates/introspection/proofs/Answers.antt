@@ -7,6 +7,10 @@ use mathlib.Core.Bool.{Bool}
 use borrow.Author.Needs.{needs}
 use Rattle.tables.specs.declared.Triple.{Triple}
 use Rattle.tables.specs.Triple.{inside, resolved}
+use Rattle.columns.specs.Entries.{Outcome}
+use Rattle.columns.specs.Entries as entries-of
+use Rattle.columns.specs.declared.ColumnsAnswer.{ColumnsAnswer}
+use Rattle.columns.specs.declared.ColumnsAnswer.the-variants as columns
 use Rattle.answers.specs.Text.{Text, answerOf, leftOf}
 use Rattle.answers.specs.declared.TextAnswer.{TextAnswer}
 use Rattle.answers.specs.declared.TextAnswer.the-variants as answer
@@ -15,7 +19,7 @@ use Rattle.document.specs.declared.Refusal.{Refusal}
 use Rattle.document.specs.declared.Verdict.{Verdict}
 use Rattle.document.specs.declared.Verdict.the-variants as verdict
 use Rattle.items.specs.Writing.{writing, Writes}
-use Rattle.introspection.specs.Words.{verdictWords, answerWords, Reads, textWords, partWords, lookupWords}
+use Rattle.introspection.specs.Words.{verdictWords, answerWords, columnsWords, Reads, textWords, outcomeWords, partWords, lookupWords}
 
 module _ {v : Verdict} where
   pub verdict-refused : {x : Refusal} → v ≡ verdict.Refused x → (x .number ∷ x .place ∷ 0 ∷ 0 ∷ 0 ∷ []) ≡ verdictWords v
@@ -37,6 +41,16 @@ module _ {a : TextAnswer} where
   pub text-words : (t : Text) {ws : List ℕ} → ws ≡ answerWords a → a ≡ answerOf t → ws ≡ textWords t
   text-words t h e = h ∙ ap answerWords e
 
+module _ {a : ColumnsAnswer} where
+  pub columns-refused : {n p : ℕ} → a ≡ columns.Refused n p → (n ∷ p ∷ []) ≡ columnsWords a
+  columns-refused e = rw e refl
+
+  pub columns-done : a ≡ columns.Done → (0 ∷ 0 ∷ []) ≡ columnsWords a
+  columns-done e = rw e refl
+
+  pub outcome-words : (o : Outcome) {ws : List ℕ} → ws ≡ columnsWords a → a ≡ entries-of.answerOf o → ws ≡ outcomeWords o
+  outcome-words o h e = h ∙ ap columnsWords e
+
 pub lookup-words : (document text : List ℕ) (t : Triple) {p : Triple} {b : Bool} {ws : List ℕ} → ws ≡ partWords b p → b ≡ inside document text t → p ≡ resolved document text t → ws ≡ lookupWords document text t
 lookup-words document text t h e f = h ∙ rw (e, f) refl
 
@@ -47,6 +61,6 @@ write-words h w = h ∙ ap answerWords (w .says .answer)
 pub write-left : {document x ws out : List ℕ} {n i room : ℕ} {a : TextAnswer} → Writes document x ws n i room out a → out ≡ leftOf room (writing document x ws n i room)
 write-left w = w .says .left
 
-pub ruleset words = (verdict-refused, verdict-accepted, answer-refused, answer-done, needs)
+pub ruleset words = (verdict-refused, verdict-accepted, answer-refused, answer-done, columns-refused, columns-done, needs)
 
-pub ruleset entries = (reads, text-words, write-words, write-left, lookup-words, needs)
+pub ruleset entries = (reads, text-words, outcome-words, write-words, write-left, lookup-words, needs)

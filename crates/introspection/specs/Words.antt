@@ -7,6 +7,10 @@ use mathlib.Core.Bool.{Bool}
 use Rattle.slices.specs.Bytes.{if}
 use Rattle.tables.specs.Triple.{inside, resolved}
 use Rattle.tables.specs.declared.Triple.{Triple}
+use Rattle.columns.specs.Entries.{Outcome}
+use Rattle.columns.specs.Entries as entries
+use Rattle.columns.specs.declared.ColumnsAnswer.{ColumnsAnswer}
+use Rattle.columns.specs.declared.ColumnsAnswer.the-variants as columns
 use Rattle.answers.specs.Text.{Text, answerOf}
 use Rattle.answers.specs.declared.TextAnswer.{TextAnswer}
 use Rattle.answers.specs.declared.TextAnswer.the-variants as answer
@@ -26,6 +30,11 @@ abbrev pub answerWords : TextAnswer → List ℕ
 answerWords (answer.Refused n p) = n ∷ p ∷ 0 ∷ []
 answerWords (answer.Done n) = 0 ∷ 0 ∷ n ∷ []
 
+-- number, place
+abbrev pub columnsWords : ColumnsAnswer → List ℕ
+columnsWords (columns.Refused n p) = n ∷ p ∷ []
+columnsWords columns.Done = 0 ∷ 0 ∷ []
+
 -- of a document that was read; the number is 0 for those accepted alone, since every other number is more than 0 (crate bounds)
 abbrev pub readWords : State Shown → List ℕ
 readWords s = verdictWords (verdictOf s)
@@ -40,6 +49,10 @@ pub record Reads (doc : List ℕ) (room : Room) (rows warnings text answer : Lis
 -- of a text that was made
 abbrev pub textWords : Text → List ℕ
 textWords t = answerWords (answerOf t)
+
+-- of words that were made
+abbrev pub outcomeWords : Outcome → List ℕ
+outcomeWords o = columnsWords (entries.answerOf o)
 
 abbrev pub bit : Bool → ℕ
 bit b = if b 1 0

@@ -1,15 +1,17 @@
 // The library for C: the public entries, each answer written into the array that is lent last (include/introspection.h).
 use answers::TextAnswer;
+use columns::ColumnsAnswer;
 use document::Verdict;
 use tables::Triple;
 ghost use mathlib.Core.Path.{_≡_};
 ghost use lib.ListN.{length};
 ghost use Rattle.tables.specs.declared.Triple.{Triple};
+ghost use Rattle.columns.specs.Entries.{toColumns, toRows, wordsLeft};
 ghost use Rattle.answers.specs.Text.{leftOf};
 ghost use Rattle.references.specs.Entries.{escaping, unescaping};
 ghost use Rattle.document.specs.Whole.{roomOf};
 ghost use Rattle.items.specs.Writing.{writing};
-ghost use Rattle.introspection.specs.Words.{verdictWords, answerWords, partWords, bit, Reads, textWords, lookupWords};
+ghost use Rattle.introspection.specs.Words.{verdictWords, answerWords, columnsWords, partWords, bit, Reads, textWords, outcomeWords, lookupWords};
 
 fn verdict_words(v: Verdict) -> [u64; 5]
     ensures { λ r. ⌜ r ≡ verdictWords v ⌝ }
@@ -28,6 +30,15 @@ fn answer_words(a: TextAnswer) -> [u64; 3]
     match a {
         TextAnswer::Refused(number, place) => [number as u64, place as u64, 0],
         TextAnswer::Done(written) => [0, 0, written as u64],
+    }
+}
+
+fn columns_words(a: ColumnsAnswer) -> [u64; 2]
+    ensures { λ r. ⌜ r ≡ columnsWords a ⌝ }
+{
+    match a {
+        ColumnsAnswer::Refused(number, place) => [number as u64, place],
+        ColumnsAnswer::Done => [0, 0],
     }
 }
 
@@ -115,4 +126,34 @@ pub extern "C" fn introspection_lookup(
     let yes = tables::is_inside(document, text, t);
     let part = tables::resolve(document, text, t);
     *answer = part_words(yes, part);
+}
+
+// Puts rows down as columns.
+#[no_mangle]
+pub extern "C" fn introspection_columns(
+    rows: &[u32],
+    count: u64,
+    columns: &mut [u32],
+    answer: &mut [u64; 2],
+)
+    ensures answer { λ _. ⌜ now (answer .exit) ≡ outcomeWords (toColumns count (now (rows .entry)) (length (now (columns .entry)))) ⌝ }
+    ensures columns { λ _. ⌜ now (columns .exit) ≡ wordsLeft (length (now (columns .entry))) (toColumns count (now (rows .entry)) (length (now (columns .entry)))) ⌝ }
+{
+    let a = columns::columns(rows, count, columns);
+    *answer = columns_words(a);
+}
+
+// Puts columns down as rows again.
+#[no_mangle]
+pub extern "C" fn introspection_rows(
+    columns: &[u32],
+    count: u64,
+    rows: &mut [u32],
+    answer: &mut [u64; 2],
+)
+    ensures answer { λ _. ⌜ now (answer .exit) ≡ outcomeWords (toRows count (now (columns .entry)) (length (now (rows .entry)))) ⌝ }
+    ensures rows { λ _. ⌜ now (rows .exit) ≡ wordsLeft (length (now (rows .entry))) (toRows count (now (columns .entry)) (length (now (rows .entry)))) ⌝ }
+{
+    let a = columns::rows(columns, count, rows);
+    *answer = columns_words(a);
 }
