@@ -9,5 +9,3 @@ pub mod Answers
 pub mod Shapes
 pub mod Formed
 pub mod RoundTrip
-pub mod Normal
-pub mod Joining

@@ -4,8 +4,6 @@ pub mod Characters
 pub mod Escape
 pub mod Unescape
 pub mod Digits
-pub mod Normal
-pub mod Joining
 pub mod Outcome
 pub mod Entries
 pub mod RoundTrip

@@ -24,7 +24,4 @@ reference-of-spec =
     (λ c. search entities)
     (λ c. search entities)
     (λ c. search entities)
-    (λ c. search entities)
-    (λ c. search entities)
-    (λ c. search entities)
     (λ c. search entities))
