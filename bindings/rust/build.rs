@@ -1,4 +1,4 @@
-//! Finds the archive that `rt staticlib capi` writes.
+//! Finds the archive that `rt staticlib introspection` writes.
 
 use std::env;
 use std::path::PathBuf;
@@ -25,15 +25,15 @@ fn main() {
         Some(folder) => package.join(folder),
         None => package.join("../../target/staticlib"),
     };
-    let archive = folder.join("libcapi.a");
+    let archive = folder.join("libintrospection.a");
     println!("cargo:rerun-if-changed={}", archive.display());
     if !archive.is_file() {
         fail(&format!(
-            "{} is not there. Make it with `rt staticlib capi` at the repository's root, \
+            "{} is not there. Make it with `rt staticlib introspection` at the repository's root, \
              or set INTROSPECTION_LIB_DIR to the folder that has it.",
             archive.display()
         ));
     }
     println!("cargo:rustc-link-search=native={}", folder.display());
-    println!("cargo:rustc-link-lib=static=capi");
+    println!("cargo:rustc-link-lib=static=introspection");
 }

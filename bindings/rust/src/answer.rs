@@ -5,9 +5,11 @@ use std::fmt;
 
 use crate::Document;
 
-/// Why a document or a value was refused. The discriminants are the numbers of docs/FORMAT.md.
+/// Why a document or a value was refused. The discriminants are the numbers of docs/FORMAT.md;
+/// later versions may have more.
 #[derive(Clone, Copy, Debug, PartialEq, Eq, Hash)]
 #[repr(u32)]
+#[non_exhaustive]
 pub enum ErrorKind {
     /// Not UTF-8. Place: the first ill-formed sequence.
     NotUtf8 = 1,
@@ -48,7 +50,7 @@ pub enum ErrorKind {
     NoRoom = 18,
     /// Rows that are not sound. What the reader leaves is, so no caller sees it.
     UnsoundRows = 19,
-    /// A row that cannot be written. Only the types that can be have a writer.
+    /// A row that cannot be written. Only what can be has a writer here, so no caller sees it.
     NotWritable = 20,
     /// An output that is too short. This crate lends enough, so no caller sees it.
     OutputShort = 21,
@@ -162,7 +164,7 @@ impl Error {
         self.kind.number()
     }
 
-    /// Where: bytes from the start of the document or of the value. It is at most their length. Of
+    /// Where: bytes from the start of the document or of the value. It is at most its length. Of
     /// [`columns`](crate::columns()) and [`rows`](crate::rows()) it is a number of rows.
     pub fn place(&self) -> usize {
         self.place
@@ -194,9 +196,11 @@ impl fmt::Display for Error {
 
 impl error::Error for Error {}
 
-/// Why an element was left out. The discriminants are the reasons of docs/FORMAT.md.
+/// Why an element was left out. The discriminants are the reasons of docs/FORMAT.md; later versions
+/// may have more.
 #[derive(Clone, Copy, Debug, PartialEq, Eq, Hash)]
 #[repr(u32)]
+#[non_exhaustive]
 pub enum Reason {
     /// An element that its parent does not hold.
     UnsupportedElement = 1,
@@ -231,7 +235,7 @@ const REASONS: [Reason; 9] = [
 ];
 
 impl Reason {
-    /// The number, 1 to 9.
+    /// The number in docs/FORMAT.md.
     pub fn number(self) -> u32 {
         self as u32
     }
@@ -291,7 +295,7 @@ impl<'d> Warning<'d> {
         self.reason
     }
 
-    /// The reason's number in docs/FORMAT.md, 1 to 9.
+    /// The reason's number in docs/FORMAT.md.
     pub fn number(&self) -> u32 {
         self.reason.number()
     }

@@ -39,7 +39,8 @@
 //! [`columns`](columns()) puts the rows of a table down as columns of differences, and [`rows`](rows()) puts
 //! them back.
 //!
-//! The crate links the archive that `rt staticlib capi` writes; README.md says where it is sought.
+//! The crate links the archive that `rt staticlib introspection` writes; README.md says where it is
+//! sought.
 
 #![deny(missing_docs, unsafe_code, rust_2018_idioms)]
 
@@ -89,7 +90,7 @@ pub struct Document<'a> {
 }
 
 impl<'a> Document<'a> {
-    /// Reads a document.
+    /// Reads a document, in time that is in proportion to its length.
     ///
     /// ```
     /// use introspection::{Document, ErrorKind};
@@ -207,7 +208,7 @@ fn room(input: &[u8]) -> usize {
     text_room(input) / 4
 }
 
-/// Nor do the text bytes.
+/// Room for the text bytes, which do not exceed it either.
 fn text_room(input: &[u8]) -> usize {
     if input.len() > LIMIT {
         return 0;

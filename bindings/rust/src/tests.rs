@@ -150,3 +150,11 @@ fn a_short_output_is_told_the_bytes_needed() {
     let written = ffi::write(input, text, &document.rows, 5, &mut output).unwrap();
     assert_eq!(&output[..written], xml);
 }
+
+#[test]
+fn the_header_is_of_this_version() {
+    let header = include_str!("../../../include/introspection.h");
+    let version = env!("CARGO_PKG_VERSION");
+    let line = format!("#define INTROSPECTION_VERSION \"{version}\"\n");
+    assert!(header.contains(&line), "{line}");
+}

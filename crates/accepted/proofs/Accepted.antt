@@ -1,8 +1,8 @@
--- Of a document that is accepted: the rows that the reader leaves show what it read, and they are sound, whatever stands
+-- Of a document that is accepted: the rows that the reader leaves show what it read, are sound and in order, whatever stands
 -- after them in the buffers lent.
 -- Assumes nothing.
 use Prim.Native.Nat.{ℕ, _-_, _/_}
-use mathlib.Core.Path.{_≡_, refl}
+use mathlib.Core.Path.{_≡_, refl, sym, _∙_}
 use mathlib.Core.List.{List, [], _++_, map}
 use mathlib.Core.Bool.{Bool, true, false, _||_}
 use native.Mathlib.Omega.{arith}
@@ -13,11 +13,15 @@ use Rattle.document.specs.Tags.{Shown}
 use Rattle.document.specs.Rows.{Tables, wordsFrom, texts}
 use Rattle.document.specs.Elements.{bare}
 use Rattle.document.specs.Reading.{State, begun, reading, accepted, refused}
-use Rattle.document.specs.Whole.{Room, meaning, fitted, read, rowsLeft, textLeft}
+use Rattle.document.specs.Whole.{Room, meaning, fitted, read, verdictOf, rowsLeft, textLeft}
+use Rattle.document.specs.declared.Verdict.the-variants.{Accepted}
 use Rattle.items.specs.Words.{rowsShown}
 use Rattle.items.specs.View.{viewRow, textShown}
 use Rattle.items.specs.Sound.{sound, soundness}
-use Rattle.bounds.proofs.Whole.{room}
+use Rattle.items.specs.Order.{InOrder}
+use Rattle.bounds.proofs.Whole as bounds
+use Rattle.accepted.specs.Tables.{RowsInOrder}
+use Rattle.accepted.proofs.Order.{accepts-nested, parent-at}
 use Rattle.accepted.proofs.Folding.{meaning-accepts}
 use Rattle.accepted.proofs.Values.{accepts-held}
 use Rattle.accepted.proofs.Triples.{Within}
@@ -39,7 +43,7 @@ module _ (doc : List ℕ) (t : Tables Shown) (e : meaning doc ≡ accepted t) (y
   tables-sound =
       let a = meaning-accepts doc t e in
       let f = a .sound .utf8 in
-      words-sound doc (texts (t .rows) ++ y) f (t .rows) (accepts-holds doc f a) z (omega (arith, room doc e .few, a .sound .small)) (accepts-held doc a) (from-start (texts (t .rows)) y)
+      words-sound doc (texts (t .rows) ++ y) f (t .rows) (accepts-holds doc f a) z (omega (arith, bounds.room doc e .few, a .sound .small)) (accepts-held doc a) (from-start (texts (t .rows)) y)
 
 -- ---- with the room lent
 
@@ -68,3 +72,22 @@ module _ (doc : List ℕ) (r : Room) (t : Tables Shown) (e : read doc r ≡ acce
   left-sound =
       rw e
       (tables-sound doc t read-accepts (replicate (r .text - length (texts (t .rows))) 0) (replicate (r .rows - length (wordsFrom 0 (t .rows))) 0))
+
+-- ---- in order
+
+ordered : (doc : List ℕ) (t : Tables Shown) → meaning doc ≡ accepted t → (z : List ℕ) (i : ℕ) → InOrder (wordsFrom 0 (t .rows) ++ z) (length (t .rows)) i
+ordered doc t e z i j m k a b c l u v w =
+    let n = accepts-nested doc (meaning-accepts doc t e) in
+    let p = parent-at 0 (t .rows) z in
+    n .ordered i j m k a b c l (sym (p j (omega arith)) ∙ u) (sym (p m (omega arith)) ∙ v) (sym (p k l) ∙ w)
+
+pub rows-in-order : RowsInOrder
+rows-in-order doc rows warnings text room n x w s = go (read doc room) refl (s .verdict) (s .rows-left)
+  where
+    go : (r : State Shown) → read doc room ≡ r → Accepted n x w ≡ verdictOf r → rows ≡ rowsLeft room r → (i : ℕ) → InOrder rows n i
+    go begun q e f = let z : _≡_ {A = ℕ} 0 1 = cc in absurd (omega arith)
+    go (reading fs u) q e f = let z : _≡_ {A = ℕ} 0 1 = cc in absurd (omega arith)
+    go (accepted t) q e f =
+        let l : n ≡ length (t .rows) = cc in
+        rw (f, l) (ordered doc t (read-accepts doc room t q) (replicate (room .rows - length (wordsFrom 0 (t .rows))) 0))
+    go (refused y) q e f = let z : _≡_ {A = ℕ} 0 1 = cc in absurd (omega arith)

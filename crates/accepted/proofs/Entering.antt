@@ -12,22 +12,20 @@ use Rattle.utf8.proofs.Sequences.{below}
 use Rattle.document.specs.Tokens.{Tag}
 use Rattle.document.specs.Elements.{among, mayHold, attr}
 use Rattle.document.specs.Reading.{Frame, element, definition, passing, parentOf, tagReason, complete, notedIn, noted, frameOf}
-use Rattle.accepted.proofs.Holding.{never, kinds, definitions, parts, held-kind, part-parent}
+use Rattle.document.proofs.Tests.{never}
+use Rattle.accepted.proofs.Holding.{kinds, definitions, parts, held-kind, part-parent}
+use Rattle.document.proofs.Steps.{kindIn, Begins}
 use Rattle.accepted.proofs.Entries.{Brief, Complete, due}
 use Rattle.accepted.proofs.Frames.{Placed, Agree, Frames, frames-agree, frames-more}
 
--- an element of kind k may begin: the root, or what the innermost element may hold
-abbrev pub Begins : ℕ → ℕ → List Frame → Type 0
-Begins n k [] = (n ≡ 0) × (k ≡ 1)
-Begins n k (element c m r ∷ fs) = mayHold c k ≡ true
-Begins n k (definition d ∷ fs) = mayHold (d .kind) k ≡ true
-Begins n k (passing p ns ∷ fs) = ⊥
+-- nothing begins in content that is passed over
+pub none-passing : {X : Type 0} (k : ℕ) → mayHold 0 k ≡ true → X
+unfolding mayHold
+none-passing k b = never b
 
 pub begins-kind : (n k : ℕ) (fs : List Frame) → Begins n k fs → among k kinds ≡ true
 begins-kind n k [] b = rw (b .1) refl
-begins-kind n k (element c m r ∷ fs) b = held-kind c k b
-begins-kind n k (definition d ∷ fs) b = held-kind (d .kind) k b
-begins-kind n k (passing p ns ∷ fs) b = absurd b
+begins-kind n k (f ∷ fs) b = held-kind (kindIn f) k b
 
 placed-in : (ks : ℕ → ℕ) (n k r : ℕ) → r < n → mayHold (ks r) k ≡ true → Placed ks n k (suc r)
 placed-in ks zero k r l h = absurd (omega arith)
@@ -45,7 +43,7 @@ module _ (doc : List ℕ) (n : ℕ) (f g : ℕ → Brief) (a : Agree n f g) (k :
   placed-new [] b h = rw (b .0) (b .1, refl)
   placed-new (element c m r ∷ fs) b h = placed-in (λ j. g j .kind) n k r (h .0) (rw (same-kind r (h .0) ∙ h .1) b)
   placed-new (definition d ∷ fs) b h = placed-in (λ j. g j .kind) n k (d .row) (h .0) (rw (same-kind (d .row) (h .0) ∙ h .1) b)
-  placed-new (passing p ns ∷ fs) b h = absurd b
+  placed-new (passing p ns ∷ fs) b h = none-passing k b
 
   noted-frames : (fs : List Frame) → Frames doc n f fs → Frames doc n f (notedIn k t fs)
   noted-frames [] h = h
@@ -73,7 +71,7 @@ module _ (doc : List ℕ) (n : ℕ) (f g : ℕ → Brief) (a : Agree n f g) (k :
               below i n (λ x. j .3 (v .0) i l x) (λ x. let y : n ≡ i = omega arith in rw (← y) (c (v .1)))),
           j .4,
         )
-    frames-part (passing p ns ∷ fs) b q c h = absurd b
+    frames-part (passing p ns ∷ fs) b q c h = none-passing k b
 
     pub frames-entered : (fs : List Frame) → Begins n k fs → (due k t ≡ true → Complete (g n)) → Frames doc n f fs → Frames doc (suc n) g (frameOf k t n ∷ noted k t fs)
     frames-entered fs b c h = go (among k definitions) (among k parts) refl refl c

@@ -1,7 +1,7 @@
 -- The row of a start tag: what of it is sound at once, and what once its definition is complete.
 -- Assumes nothing.
 use Prim.Native.Nat.{ℕ}
-use mathlib.Core.Path.{_≡_, refl}
+use mathlib.Core.Path.{_≡_, refl, sym}
 use mathlib.Core.List.{List, [], _∷_}
 use mathlib.Core.Option.{Option, none, some}
 use mathlib.Core.Bool.{Bool, true, false, not, _&&_}
@@ -9,17 +9,18 @@ use lib.Dec.{eqb, leb, ltb}
 use Rattle.slices.specs.Bytes.{if, bytes, same}
 use Rattle.names.specs.Names.{interfaceName, memberName, propertyName}
 use Rattle.names.specs.Signature.{signature}
-use Rattle.names.proofs.Names.{and-both}
+use Rattle.slices.proofs.Runs.{and-both}
 use Rattle.document.specs.Tags.{Shown, tpType}
 use Rattle.document.specs.Tokens.{Tag}
 use Rattle.document.specs.Rows.{Row}
-use Rattle.document.specs.Elements.{attr, among, accessOf, directionOf, someSignature, Opened, opens, refuses, kept, row, required, namedRow, propertyRow, annotationRow, directed, argRow, opensAs}
+use Rattle.document.specs.Elements.{attr, among, accessOf, directionOf, someSignature, Opened, opens, refuses, kept, row, opensAs}
 use Rattle.document.specs.Reading.{tagReason, typeReason, isThere, isSome, complete}
 use Rattle.document.specs.Outcome.{whole}
+use Rattle.document.proofs.Opens.{opens-way}
 use Rattle.items.specs.Sound.{Use, optional, nameUse, valueUse, tpUse, validName, validValue, anyText, validWord}
 use Rattle.items.specs.Sound as items
-use Rattle.bounds.proofs.Branches.{either}
-use Rattle.accepted.proofs.Holding.{never, kinds, definitions, parts, among-each}
+use Rattle.document.proofs.Tests.{either, never, among-each}
+use Rattle.accepted.proofs.Holding.{kinds, definitions, parts}
 
 -- a value is absent where it may be, or it is used and valid
 abbrev pub GoodIn : Use → (List ℕ → Bool) → Option Shown → Type 0
@@ -101,110 +102,108 @@ direction-word s = either Q (same s (bytes "in")) (λ c. refl) (λ c. either Q (
 
 -- ---- each kind
 
+-- a definition with a type, and one without
+typed-full : (k : ℕ) (n ty : Option Shown) → among k (8 ∷ 9 ∷ []) ≡ true → eqb (tagReason k n ty) 0 ≡ true → GoodIn items.required anyText (kept whole n) × GoodIn items.required someSignature (kept whole ty)
+typed-full k none ty c e = never e
+typed-full k (some n) ty c e = ((refl, refl), type-good ty (rw c at e))
+
+untyped-full : (k : ℕ) (n ty : Option Shown) → eqb (tagReason k n ty) 0 ≡ true → GoodIn items.required anyText (kept whole n)
+untyped-full k none ty e = never e
+untyped-full k (some n) ty e = (refl, refl)
+
 module _ (p : ℕ) (t : Tag) where
-  required-opens : (k : ℕ) (o : Option Shown) (f : Shown → Opened Shown) → ((s : Shown) → Opens k p t (f s)) → Opens k p t (required whole o t f)
-  required-opens k none f h = tt
-  required-opens k (some s) f h = h s
+  -- a row with no tp type, and no word
+  plain : {k : ℕ} (n v : Option Shown) → GoodIn (tpUse k) anyText none → validWord k 0 ≡ true → (due k t ≡ true → Complete (brief (row whole k p n v none 0))) → Entry k p t (row whole k p n v none 0)
+  plain n v a b f = record { kind = refl; parent = refl; doc = refl; tp = a; word = b; full = f }
 
-  node-opens : Opens 1 p t (opens (row whole 1 p (attr (bytes "name") t) none none 0))
-  node-opens = record { kind = refl; parent = refl; doc = refl; tp = refl; word = refl; full = λ d. (may-be (validName 1) (attr (bytes "name") t) (λ s. refl), refl) }
-
-  named-opens : (good : List ℕ → Bool) (k : ℕ) → ((n : Shown) → good (n .value) ≡ true → Opens k p t (opens (row whole k p (some n) none none 0))) → Opens k p t (namedRow whole good k p t)
-  named-opens good k h =
-      required-opens k (attr (bytes "name") t) _ λ n. either (Opens k p t) (good (n .value)) (λ c. h n c) (λ c. tt)
-
-  interface-opens : Opens 2 p t (namedRow whole interfaceName 2 p t)
-  interface-opens = named-opens interfaceName 2 λ n c. record { kind = refl; parent = refl; doc = refl; tp = refl; word = refl; full = λ d. ((refl, c), refl) }
-
-  method-opens : Opens 3 p t (namedRow whole memberName 3 p t)
-  method-opens = named-opens memberName 3 λ n c. record { kind = refl; parent = refl; doc = refl; tp = refl; word = refl; full = λ d. ((refl, c), refl) }
-
-  signal-opens : Opens 5 p t (namedRow whole memberName 5 p t)
-  signal-opens = named-opens memberName 5 λ n c. record { kind = refl; parent = refl; doc = refl; tp = refl; word = refl; full = λ d. ((refl, c), refl) }
-
-  property-opens : Opens 4 p t (propertyRow whole p t)
-  property-opens =
-      required-opens 4 (attr (bytes "name") t) _ λ n.
-      either (Opens 4 p t) (propertyName (n .value))
-      (λ c. required-opens 4 (attr (bytes "type") t) _ λ s.
-      either (Opens 4 p t) (signature (s .value))
-      (λ d. required-opens 4 (attr (bytes "access") t) _ λ a.
-      either (Opens 4 p t) (not (eqb (accessOf (a .value)) 0))
-      (λ e. record { kind = refl; parent = refl; doc = refl; tp = may-be anyText (tpType (t .attrs)) (λ s. refl); word = access-word (a .value) e; full = λ f. ((refl, c), (refl, d)) })
-      (λ e. tt))
-      (λ d. tt))
-      (λ c. tt)
-
-  annotation-opens : Opens 6 p t (annotationRow whole p t)
-  annotation-opens =
-      required-opens 6 (attr (bytes "name") t) _ λ n.
-      required-opens 6 (attr (bytes "value") t) _ λ v.
-      record { kind = refl; parent = refl; doc = refl; tp = refl; word = refl; full = λ d. ((refl, refl), (refl, refl)) }
-
-  directed-opens : (k : ℕ) (o : Option Shown) (f : ℕ → Opened Shown) → ((d : ℕ) → leb d 2 ≡ true → Opens k p t (f d)) → Opens k p t (directed whole o t f)
-  directed-opens k none f h = h 0 refl
-  directed-opens k (some d) f h = either (Opens k p t) (not (eqb (directionOf (d .value)) 0)) (λ c. h (directionOf (d .value)) (direction-word (d .value))) (λ c. tt)
-
-  arg-opens : Opens 7 p t (argRow whole p t)
-  arg-opens =
-      required-opens 7 (attr (bytes "type") t) _ λ s.
-      either (Opens 7 p t) (signature (s .value))
-      (λ c. directed-opens 7 (attr (bytes "direction") t) _ λ d e.
-      record {
-        kind = refl;
-        parent = refl;
-        doc = refl;
-        tp = may-be anyText (tpType (t .attrs)) (λ s. refl);
-        word = e;
-        full = λ f. (may-be (validName 7) (attr (bytes "name") t) (λ s. refl), (refl, c));
-      })
-      (λ c. tt)
-
-  -- a definition with a type, and one without
-  typed-full : (k : ℕ) (n ty : Option Shown) → among k (8 ∷ 9 ∷ []) ≡ true → eqb (tagReason k n ty) 0 ≡ true → GoodIn items.required anyText (kept whole n) × GoodIn items.required someSignature (kept whole ty)
-  typed-full k none ty c e = never e
-  typed-full k (some n) ty c e = ((refl, refl), type-good ty (rw c at e))
-
-  untyped-full : (k : ℕ) (n ty : Option Shown) → eqb (tagReason k n ty) 0 ≡ true → GoodIn items.required anyText (kept whole n)
-  untyped-full k none ty e = never e
-  untyped-full k (some n) ty e = (refl, refl)
-
-  simple-opens : Opens 8 p t (opens (row whole 8 p (attr (bytes "name") t) (attr (bytes "type") t) none 0))
-  simple-opens = record { kind = refl; parent = refl; doc = refl; tp = refl; word = refl; full = λ d. typed-full 8 (attr (bytes "name") t) (attr (bytes "type") t) refl d }
-
-  enum-opens : Opens 9 p t (opens (row whole 9 p (attr (bytes "name") t) (attr (bytes "type") t) none 0))
-  enum-opens = record { kind = refl; parent = refl; doc = refl; tp = refl; word = refl; full = λ d. typed-full 9 (attr (bytes "name") t) (attr (bytes "type") t) refl d }
-
-  value-opens : Opens 10 p t (opens (row whole 10 p (attr (bytes "suffix") t) (attr (bytes "value") t) none 0))
-  value-opens = record {
-    kind = refl;
-    parent = refl;
-    doc = refl;
-    tp = refl;
-    word = refl;
-    full = λ d. let e = and-both (isThere (attr (bytes "suffix") t)) (isThere (attr (bytes "value") t)) d in
-        (there (attr (bytes "suffix") t) (e .0), there (attr (bytes "value") t) (e .1));
-  }
-
-  struct-opens : Opens 11 p t (opens (row whole 11 p (attr (bytes "name") t) none none 0))
-  struct-opens = record { kind = refl; parent = refl; doc = refl; tp = refl; word = refl; full = λ d. (untyped-full 11 (attr (bytes "name") t) (attr (bytes "type") t) d, refl) }
-
-  member-opens : Opens 12 p t (opens (row whole 12 p (attr (bytes "name") t) (attr (bytes "type") t) (tpType (t .attrs)) 0))
-  member-opens = record {
-    kind = refl;
-    parent = refl;
-    doc = refl;
-    tp = may-be anyText (tpType (t .attrs)) (λ s. refl);
-    word = refl;
-    full = λ d. let e = and-both (isThere (attr (bytes "name") t)) (isSome someSignature (attr (bytes "type") t)) d in
-        (there (attr (bytes "name") t) (e .0), some-there someSignature (attr (bytes "type") t) (e .1));
-  }
-
-  mapping-opens : Opens 13 p t (opens (row whole 13 p (attr (bytes "name") t) none none 0))
-  mapping-opens = record { kind = refl; parent = refl; doc = refl; tp = refl; word = refl; full = λ d. (untyped-full 13 (attr (bytes "name") t) (attr (bytes "type") t) d, refl) }
+  definition-opens : (k : ℕ) → among k kinds ≡ true → among k (1 ∷ 2 ∷ 3 ∷ 4 ∷ 5 ∷ 6 ∷ 7 ∷ 8 ∷ 9 ∷ 10 ∷ 12 ∷ []) ≡ false → Entry k p t (row whole k p (attr (bytes "name") t) none none 0)
+  definition-opens k e =
+      among-each (λ j. among j (1 ∷ 2 ∷ 3 ∷ 4 ∷ 5 ∷ 6 ∷ 7 ∷ 8 ∷ 9 ∷ 10 ∷ 12 ∷ []) ≡ false → Entry j p t (row whole j p (attr (bytes "name") t) none none 0)) k kinds e (
+        no,
+        (
+          no,
+          (
+            no,
+            (
+              no,
+              (
+                no,
+                (
+                  no,
+                  (
+                    no,
+                    (
+                      no,
+                      (
+                        no,
+                        (
+                          no,
+                          (
+                            (λ c. plain (attr (bytes "name") t) none refl refl (λ d. (untyped-full 11 (attr (bytes "name") t) (attr (bytes "type") t) d, refl))),
+                            (no, ((λ c. plain (attr (bytes "name") t) none refl refl (λ d. (untyped-full 13 (attr (bytes "name") t) (attr (bytes "type") t) d, refl))), tt)),
+                          ),
+                        ),
+                      ),
+                    ),
+                  ),
+                ),
+              ),
+            ),
+          ),
+        ),
+      )
+    where
+      no : {X : Type 0} → true ≡ false → X
+      no e = never (sym e)
 
   pub start-opens : (k : ℕ) → among k kinds ≡ true → Opens k p t (opensAs whole k p t)
-  unfolding opensAs
   start-opens k e =
-      among-each (λ k. Opens k p t (opensAs whole k p t)) k kinds e
-      (node-opens, (interface-opens, (method-opens, (property-opens, (signal-opens, (annotation-opens, (arg-opens, (simple-opens, (enum-opens, (value-opens, (struct-opens, (member-opens, (mapping-opens, tt)))))))))))))
+      opens-way whole whole p t (λ k o o′. among k kinds ≡ true → Opens k p t o) (record {
+        at-name = λ k n h e. tt;
+        at-end = λ k n h e. tt;
+        node = λ e. plain name none refl refl (λ d. (may-be (validName 1) name (λ s. refl), refl));
+        interface = λ c e. plain name none refl refl (λ d. (some-there interfaceName name c, refl));
+        method = λ c e. plain name none refl refl (λ d. (some-there memberName name c, refl));
+        property = λ c d a h e. record {
+          kind = refl;
+          parent = refl;
+          doc = refl;
+          tp = may-be anyText (tpType (t .attrs)) (λ s. refl);
+          word = access-word a h;
+          full = λ f. (some-there propertyName name c, some-there signature ty d);
+        };
+        signal = λ c e. plain name none refl refl (λ d. (some-there memberName name c, refl));
+        annotation = λ c d e. plain name value refl refl (λ f. (there name c, there value d));
+        arg = λ c d e. record {
+          kind = refl;
+          parent = refl;
+          doc = refl;
+          tp = may-be anyText (tpType (t .attrs)) (λ s. refl);
+          word = direction-word d;
+          full = λ f. (may-be (validName 7) name (λ s. refl), some-there signature ty c);
+        };
+        typed = λ k c e.
+            among-each (λ j. Entry j p t (row whole j p name ty none 0)) k (8 ∷ 9 ∷ []) c
+            (plain name ty refl refl (λ d. typed-full 8 name ty refl d), (plain name ty refl refl (λ d. typed-full 9 name ty refl d), tt));
+        enumvalue = λ e. plain (attr (bytes "suffix") t) value refl refl λ d.
+            let f = and-both (isThere (attr (bytes "suffix") t)) (isThere value) d in
+            (there (attr (bytes "suffix") t) (f .0), there value (f .1));
+        member = λ e. record {
+          kind = refl;
+          parent = refl;
+          doc = refl;
+          tp = may-be anyText (tpType (t .attrs)) (λ s. refl);
+          word = refl;
+          full = λ d. let f = and-both (isThere name) (isSome someSignature ty) d in (there name (f .0), some-there someSignature ty (f .1));
+        };
+        other = λ k c e. definition-opens k e c;
+      }) k e
+    where
+      name : Option Shown
+      name = attr (bytes "name") t
+
+      ty : Option Shown
+      ty = attr (bytes "type") t
+
+      value : Option Shown
+      value = attr (bytes "value") t

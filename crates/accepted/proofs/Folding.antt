@@ -18,14 +18,17 @@ use Rattle.document.specs.Elements.{bare}
 use Rattle.document.specs.Reading.{State, begun, accepted, refused, step, fold, run}
 use Rattle.document.specs.Whole.{meaning}
 use Rattle.document.specs.Outcome.{Sound, whole}
+use Rattle.document.proofs.Steps.{Known, Kept, Ways, step-kept}
 use Rattle.accepted.proofs.Tokens.{Comes, AllCome, tokens-come}
 
-module _ (doc : List ℕ) (Kept : State Shown → Type 0) (keeps : (s : State Shown) (t : Token) → Comes doc t → Kept s → Kept (step whole doc s t)) where
-  fold-kept : (s : State Shown) (ts : List Token) → AllCome doc ts → Kept s → Kept (fold whole doc s ts)
+module _ (doc : List ℕ) (i : Known Shown) (ways : (t : Token) → Comes doc t → Ways whole doc i i i t) (empty : i .first → i .inside [] (record { rows = []; warnings = [] })) (ended : (u : Tables Shown) → i .inside [] u → i .done u) where
+  fold-kept : (s : State Shown) (ts : List Token) → AllCome doc ts → Kept i s → Kept i (fold whole doc s ts)
   fold-kept s [] c h = h
-  fold-kept s (t ∷ ts) c h = fold-kept (step whole doc s t) ts (c .1) (keeps s t (c .0) h)
+  fold-kept s (t ∷ ts) c h =
+      fold-kept (step whole doc s t) ts (c .1)
+      (step-kept whole doc i i i s t (record { ways = ways t (c .0); empty = empty; ended = ended; done = λ u h. h; fault = λ x h. h }) h)
 
-  pub run-kept : Kept begun → Kept (run whole doc 0 begun)
+  pub run-kept : i .first → Kept i (run whole doc 0 begun)
   unfolding run
   run-kept h = fold-kept begun (tokens doc 0) (tokens-come doc) h
 

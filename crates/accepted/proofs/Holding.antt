@@ -1,18 +1,13 @@
 -- Kinds that may stand in an element: they are 1 to 13, and the parts of definitions stand in definitions.
 -- Assumes nothing.
 use Prim.Native.Nat.{ℕ}
-use mathlib.Core.Path.{_≡_, refl, subst, sym}
+use mathlib.Core.Path.{_≡_, refl}
 use mathlib.Core.List.{List, [], _∷_}
-use mathlib.Core.Bool.{Bool, true, false}
-use borrow.Author.Tests.{eqb-true}
-use native.Mathlib.Omega.{arith}
-use lib.Dec.{eqb}
+use mathlib.Core.Bool.{Bool, true}
 use Rattle.slices.specs.Bytes.{if, all}
-use Rattle.slices.proofs.Runs.{both, by-byte}
+use Rattle.slices.proofs.Runs.{by-byte}
 use Rattle.document.specs.Elements.{among, heldBy, mayHold}
-
-pub never : {A : Type 0} → false ≡ true → A
-never e = let z : _≡_ {A = ℕ} 0 1 = cc in absurd (omega arith)
+use Rattle.document.proofs.Tests.{among-all}
 
 -- every kind but 0 and 14
 abbrev pub kinds : List ℕ
@@ -23,26 +18,6 @@ definitions = 8 ∷ 9 ∷ 11 ∷ 13 ∷ []
 
 abbrev pub parts : List ℕ
 parts = 10 ∷ 12 ∷ []
-
-abbrev pub Each : (ℕ → Type 0) → List ℕ → Type 0
-Each P [] = Unit {0}
-Each P (x ∷ xs) = P x × Each P xs
-
--- what holds of each of some numbers holds of one among them
-pub among-each : (P : ℕ → Type 0) (k : ℕ) (xs : List ℕ) → among k xs ≡ true → Each P xs → P k
-among-each P k [] e h = never e
-among-each P k (x ∷ xs) e h = go (eqb k x) refl e (λ f. among-each P k xs f (h .1))
-  where
-    go : (t : Bool) → eqb k x ≡ t → if t true (among k xs) ≡ true → (among k xs ≡ true → P k) → P k
-    go true f e i = subst P (sym (eqb-true k x f)) (h .0)
-    go false f e i = i e
-
-among-all : (q : ℕ → Bool) (k : ℕ) (xs : List ℕ) → all q xs ≡ true → among k xs ≡ true → q k ≡ true
-among-all q k xs h e = among-each (λ x. q x ≡ true) k xs e (go xs h)
-  where
-    go : (xs : List ℕ) → all q xs ≡ true → Each (λ x. q x ≡ true) xs
-    go [] h = tt
-    go (x ∷ xs) h = let t = both (q x) (all q xs) h in (t .0, go xs (t .1))
 
 -- what holds of all that the elements may hold that hold any
 module _ (q : ℕ → ℕ → Bool) where

@@ -1,4 +1,4 @@
--- What the reader leaves of a document that it accepts: the rows show what was read, and they are sound.
+-- What the reader leaves of a document that it accepts: the rows show what was read, are sound, and in order.
 -- Assumes nothing.
 pub mod Places
 pub mod Tokens
@@ -12,5 +12,6 @@ pub mod Docstrings
 pub mod Frames
 pub mod Entering
 pub mod States
+pub mod Order
 pub mod Soundness
 pub mod Accepted

@@ -2,7 +2,7 @@
 -- Assumes nothing.
 use Prim.Native.Nat.{ℕ, suc, _+_, _<_}
 use mathlib.Core.Path.{_≡_, refl, sym, ap, _∙_}
-use mathlib.Core.List.{List, [], _∷_, _++_}
+use mathlib.Core.List.{List, [], _∷_}
 use mathlib.Core.Bool.{Bool, true, false}
 use native.Mathlib.Nat.{add-zero}
 use native.Mathlib.Numerals.{add-one}
@@ -11,15 +11,7 @@ use lib.ListN.{length, drop, take, getD, length-drop}
 use lib.Seq.{drop-drop, getD-drop, take-at}
 use Rattle.slices.specs.Bytes.{if, span, past}
 use Rattle.slices.proofs.Runs.{Stops, past-at}
-
--- a run and what follows it are the whole
-pub span-and-past : (p : ℕ → Bool) (l : List ℕ) → span p l ++ past p l ≡ l
-span-and-past p [] = refl
-span-and-past p (b ∷ l) = go (p b) (span-and-past p l)
-  where
-    go : (t : Bool) → span p l ++ past p l ≡ l → if t (b ∷ span p l) [] ++ if t (past p l) (b ∷ l) ≡ b ∷ l
-    go true e = ap (_∷_ b) e
-    go false e = refl
+use Rattle.bounds.proofs.Branches.{span-and-past}
 
 -- what follows a run does not begin with a byte of its class
 pub past-begins : (p : ℕ → Bool) (l : List ℕ) → Stops p (past p l)

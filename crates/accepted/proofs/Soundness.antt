@@ -19,7 +19,7 @@ use Rattle.document.specs.Rows.{Doc, Row, textOf, rowText, wordsFrom, texts}
 use Rattle.rows.proofs.Words.{length-wordsFrom}
 use Rattle.items.specs.Words.{RowWords}
 use Rattle.items.specs.Sound.{kindAt, placed, Use, nameUse, valueUse, tpUse, docUse, validName, validValue, anyText, validWord, goodTriple, inDocument, soundRow, firstBad, sound, soundness}
-use Rattle.bounds.proofs.Branches.{either}
+use Rattle.document.proofs.Tests.{either}
 use Rattle.accepted.proofs.Values.{HeldIn, RowHeld, RowsHeld}
 use Rattle.accepted.proofs.Triples.{tripleOf, docOf, wordsOf, Within, within-first, within-more, name-within, value-within, tp-within, Leads, leads-document, leads-value}
 use Rattle.accepted.proofs.Rows.{rowsFrom, rows-words}

@@ -18,11 +18,12 @@ use Rattle.scan.specs.declared.Scan.{Scan}
 use Rattle.scan.specs.declared.Scan.the-variants.{Fault, At}
 use Rattle.scan.specs.declared.Markup.{Markup}
 use Rattle.scan.specs.declared.Markup.the-variants as markups
-use Rattle.references.specs.Unescape.{Text, text, wrong, unescape}
+use Rattle.answers.specs.Text.{Text, text, wrong}
+use Rattle.references.specs.Unescape.{unescape}
 use Rattle.document.specs.Tags.{Attr, Found, absent, found, closeQuote, openQuote, equals, spaced, attribute, Gathered, gathered, tooMany, with, another, noMore, gather, Shown, Checked, good, also, member, check}
 use Rattle.document.specs.Tags as tags
 use Rattle.document.specs.Tokens.{Tag, Token, start, close, fault, end, Next, more, last, slashEnd, tagEnd, withShown, withAttrs, opening, closeEnd, closing, tag, tagOrEnd, pastIgnorable, next, joined, tokensFrom, tokens}
-use Rattle.bounds.proofs.Branches.{either}
+use Rattle.document.proofs.Tests.{either}
 use Rattle.bounds.proofs.Ignorables.{Scanned, ignorable-within}
 use Rattle.accepted.proofs.Places.{past-begins, next-left, byte-left, past-left, span-left}
 

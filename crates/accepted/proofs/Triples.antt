@@ -12,10 +12,11 @@ use lib.Seq.{take-at, drop-at}
 use Rattle.slices.specs.Bytes.{if, all}
 use Rattle.tables.specs.Triple.{inside, part, shown}
 use Rattle.tables.specs.declared.Triple.{Triple}
-use Rattle.references.specs.Unescape.{text, plain}
+use Rattle.answers.specs.Text.{text}
+use Rattle.references.specs.Unescape.{plain}
 use Rattle.document.specs.Tags.{Shown}
 use Rattle.document.specs.Rows.{Doc, Row, textOf, triple, docTriple, rowText, rowWords}
-use Rattle.rows.proofs.Shown.{unescape-plain}
+use Rattle.references.proofs.Shapes.{unescape-plain}
 use Rattle.items.specs.Words.{RowWords, rowOf, absent, shownBy, docstringBy, viewed}
 use Rattle.items.specs.View.{over, viewRow, textShown}
 use Rattle.accepted.proofs.Tokens.{Held}

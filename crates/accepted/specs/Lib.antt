@@ -1,2 +1,3 @@
--- No definitions: those of reading and of sound rows are in document and items.
+-- What is said of the tables that the reader leaves.
 -- Assumes nothing.
+pub mod Tables

@@ -6,32 +6,27 @@ use mathlib.Core.List.{List, [], _∷_, _++_, map, map-append, append-assoc}
 use mathlib.Core.Option.{Option, some}
 use mathlib.Core.Bool.{Bool, true, false, not}
 use borrow.Author.Needs.{needs}
-use borrow.Author.Tests.{le-leb, eqb-true, eqb-false, eq-eqb, ne-eqb}
+use borrow.Author.Tests.{le-leb, ne-eqb}
 use native.Mathlib.Numerals.{add-one}
 use native.Mathlib.Omega.{arith}
 use lib.Dec.{eqb}
 use lib.ListN.{length, take, drop, getD, drop-of-length-le}
 use lib.Seq.{drop-cons, length-take-le, getD-take, take-suc}
 use Rattle.slices.specs.Bytes.{if, all, same}
-use Rattle.references.specs.Unescape.{text, plain}
+use Rattle.slices.proofs.Runs.{eqb-swap}
+use Rattle.answers.specs.Text.{text}
+use Rattle.references.specs.Unescape.{plain}
+use Rattle.references.proofs.Shapes.{unescape-plain}
 use Rattle.document.specs.Tags.{Attr, Shown, Checked, good, fault, also, member, check}
 use Rattle.attributes.specs.One.{part, attrOf, Fit}
-use Rattle.attributes.specs.Lookup.{blank, partIs, nameIs, keyed, wanted, firstBy, valueOf, valueIn, Picks}
-use Rattle.attributes.specs.Outcome.{Checkable, attrsOf, References, listed, IsJudged, there, Weighs, Judges, Checks}
+use Rattle.attributes.specs.Lookup.{blank, partIs, nameIs, wanted, firstBy, valueOf, valueIn, Picks}
+use Rattle.attributes.specs.Outcome.{Checkable, attrsOf, References, listed, there, Weighs, Judges, Checks}
 use Rattle.document.specs.declared.Value.{Value}
 use Rattle.attributes.specs.declared.Attribute.{Attribute}
-use Rattle.attributes.specs.declared.Verdict.{Verdict}
-use Rattle.attributes.specs.declared.Verdict.the-variants.{Fault, Good}
-use Rattle.attributes.proofs.Shown.{plain-shows}
+use Rattle.attributes.specs.declared.AttributeCheck.{AttributeCheck}
+use Rattle.attributes.specs.declared.AttributeCheck.the-variants.{Fault, Good}
 
 -- ---- whether a name came before
-
-eqb-swap : (m n : ℕ) → eqb m n ≡ eqb n m
-eqb-swap m n = go (eqb m n) refl
-  where
-    go : (t : Bool) → eqb m n ≡ t → eqb m n ≡ eqb n m
-    go true e = e ∙ sym (eq-eqb n m (sym (eqb-true m n e)))
-    go false e = e ∙ sym (ne-eqb n m (λ q. eqb-false m n e (sym q)))
 
 same-swap : (a b : List ℕ) → same a b ≡ same b a
 same-swap [] [] = refl
@@ -40,7 +35,7 @@ same-swap (x ∷ a) [] = refl
 same-swap (x ∷ a) (y ∷ b) = rw (same-swap a b, eqb-swap x y)
 
 -- the names of attributes, the last first, before others
-abbrev pub back : List Attr → List (List ℕ) → List (List ℕ)
+abbrev back : List Attr → List (List ℕ) → List (List ℕ)
 back [] seen = seen
 back (x ∷ xs) seen = back xs (x .name ∷ seen)
 
@@ -106,16 +101,16 @@ module _ {doc : List ℕ} {a : Attribute} (f : Fit doc 0 (length doc) a) where
       new = rw e
 
       pub weigh-plain : a .kind ≡ 1 → Weighs doc a before Good
-      weigh-plain k = record { is = (attrOf doc a .raw, new, plain-shows _ (go (all plain (attrOf doc a .raw)) (sym (f .kind) ∙ k))) }
+      weigh-plain k = record { is = (attrOf doc a .raw, new, unescape-plain _ (go (all plain (attrOf doc a .raw)) (sym (f .kind) ∙ k))) }
         where
           go : (t : Bool) → _≡_ {A = ℕ} (if t 1 2) 1 → t ≡ true
           go true e = refl
           go false e = absurd (omega arith)
 
-      pub weigh-reference : {v : Verdict} → References doc (a .value) (a .«value_len») v → Weighs doc a before v
+      pub weigh-reference : {v : AttributeCheck} → References doc (a .value) (a .«value_len») v → Weighs doc a before v
       weigh-reference {v} c = go v c
         where
-          go : (v : Verdict) → References doc (a .value) (a .«value_len») v → Weighs doc a before v
+          go : (v : AttributeCheck) → References doc (a .value) (a .«value_len») v → Weighs doc a before v
           go Good c = record { is = (c .is .0, new, c .is .1) }
           go (Fault k p) c = record { is = λ d. rw (new, c .is .1, c .is .2) }
 
@@ -131,7 +126,7 @@ module _ {doc : List ℕ} {xs : List Attribute} {i : ℕ} (h : i < length xs) (g
   pub judge-below : i ≤ length xs
   judge-below = omega arith
 
-  pub judge-is : {v : Value} {r : Verdict} → Picks (wanted doc (getD xs i blank .name) (getD xs i blank .«name_len») false) doc xs i v → Weighs doc (getD xs i blank) v r → Judges doc xs i r
+  pub judge-is : {v : Value} {r : AttributeCheck} → Picks (wanted doc (getD xs i blank .name) (getD xs i blank .«name_len») false) doc xs i v → Weighs doc (getD xs i blank) v r → Judges doc xs i r
   unfolding valueIn
   judge-is {v} {r} p w = record { is = rw (← seen) (w .is) }
     where
@@ -144,7 +139,7 @@ module _ {doc : List ℕ} {xs : List Attribute} {i : ℕ} (h : i < length xs) (g
 -- ---- all attributes
 
 -- attributes that are shown, before the others
-abbrev pub onto : List Shown → Checked → Checked
+abbrev onto : List Shown → Checked → Checked
 onto ss (good s) = good (ss ++ s)
 onto ss (fault k p) = fault k p
 
@@ -170,7 +165,7 @@ onto-none (fault k p) = refl
 pub check-begins : {doc : List ℕ} {xs : List Attribute} {n : ℕ} → n ≤ length xs → Checking doc xs n 0
 check-begins {doc} {xs} {n} h = record { shown = []; left = sym (onto-none (check [] (attrsOf doc xs n))); room = omega arith; within = omega arith }
 
-pub checkable-to : {doc : List ℕ} {xs : List Attribute} {n i : ℕ} → Checkable doc xs n → i < n → Checkable doc xs (suc i)
+checkable-to : {doc : List ℕ} {xs : List Attribute} {n i : ℕ} → Checkable doc xs n → i < n → Checkable doc xs (suc i)
 checkable-to g h = record { small = g .small; fitted = record { rule = λ k l. g .fitted .rule k (omega arith) } }
 
 attrs-more : (doc : List ℕ) (xs : List Attribute) (i : ℕ) → i < length xs → attrsOf doc xs (suc i) ≡ attrsOf doc xs i ++ attrOf doc (getD xs i blank) ∷ []

@@ -21,7 +21,7 @@ use Rattle.references.specs.Unescape.{special}
 use Rattle.document.specs.Tags.{Found as Finding, attribute, equals, openQuote}
 use Rattle.attributes.specs.One.{part, kindFrom, Fit, Quotes, Named, Finds}
 use Rattle.attributes.specs.declared.Attribute.{Attribute}
-use Rattle.attributes.specs.declared.Inside.{Inside}
+use Rattle.attributes.specs.declared.ValueEnd.{ValueEnd}
 use Rattle.attributes.specs.declared.One.{One}
 use Rattle.attributes.specs.declared.One.the-variants.{Absent, Found}
 
@@ -123,7 +123,7 @@ module _ {doc : List ℕ} {name n at : ℕ} (g : Named doc name n at) where
     pub value-other : t ≡ false → Finds (openQuote name (part doc name n)) doc at Absent
     value-other f = record { onward = tt; is = rw (drop-cons doc at 0 h, sym e ∙ f) }
 
-    module _ (f : t ≡ true) {v : Inside} (c : Quotes (getD doc at 0) doc (at + 1) v) where
+    module _ (f : t ≡ true) {v : ValueEnd} (c : Quotes (getD doc at 0) doc (at + 1) v) where
       to-close : past (other (getD doc at 0)) (drop (suc at) doc) ≡ drop (v .end) doc
       to-close = rw add-one at (run-rest (c .run))
 

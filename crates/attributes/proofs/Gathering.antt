@@ -18,8 +18,8 @@ use Rattle.attributes.specs.Outcome.{Fitted, Checkable, attrsOf, Checks,
 use Rattle.attributes.specs.declared.Attribute.{Attribute}
 use Rattle.attributes.specs.declared.One.{One}
 use Rattle.attributes.specs.declared.One.the-variants.{Absent, Found}
-use Rattle.attributes.specs.declared.Verdict.{Verdict}
-use Rattle.attributes.specs.declared.Verdict.the-variants as verdict
+use Rattle.attributes.specs.declared.AttributeCheck.{AttributeCheck}
+use Rattle.attributes.specs.declared.AttributeCheck.the-variants as verdict
 use Rattle.attributes.specs.declared.Attrs.{Attrs}
 use Rattle.attributes.specs.declared.Attrs.the-variants.{Fault, All}
 use Rattle.attributes.proofs.Found.{fit-wide}
@@ -27,7 +27,7 @@ use Rattle.attributes.proofs.Picked.{values-fit, values-are}
 
 -- ---- the end: the check, and the values
 
-module _ {doc : List ℕ} {xs : List Attribute} {n at : ℕ} {v : Verdict} (c : Checks doc xs n v) where
+module _ {doc : List ℕ} {xs : List Attribute} {n at : ℕ} {v : AttributeCheck} (c : Checks doc xs n v) where
   pub finish-fault : {k p : ℕ} → v ≡ verdict.Fault k p → Finishes doc xs n at (Fault k p)
   finish-fault e = record { is = (rw e at c) .is }
 

@@ -3,7 +3,7 @@
 use Prim.Native.Nat.{ℕ, suc, _+_, _-_, _≤_, _<_}
 use mathlib.Core.Path.{_≡_, refl, sym, _∙_}
 use mathlib.Core.List.{List, [], _∷_}
-use mathlib.Core.Bool.{Bool, true, false, not, _&&_}
+use mathlib.Core.Bool.{Bool, true, false, not, and-false}
 use borrow.Author.Needs.{needs}
 use borrow.Author.Tests.{le-leb, lt-leb, eqb-true, eqb-false, eq-eqb, ne-eqb, not-true, not-false}
 use native.Mathlib.Decide.{decLe}
@@ -31,16 +31,12 @@ part-within p doc at n r h e =
     let m : (at + n) - at ≡ n = omega arith in
     (rw m at e) ∙ rw (le-leb (at + n) (length doc) h)
 
-and-false : (t : Bool) → false ≡ (t && false)
-and-false true = refl
-and-false false = refl
-
 -- a key: length first, then bytes
 module _ (doc keys : List ℕ) (at n key len : ℕ) where
   -- one that runs past the keys is no name
   pub key-past : length keys < key + len → false ≡ partIs (keyedAt keys key len) doc at n
   unfolding partIs
-  key-past h = rw (lt-leb (key + len) (length keys) h) (and-false (leb (at + n) (length doc)))
+  key-past h = rw (lt-leb (key + len) (length keys) h) (sym (and-false (leb (at + n) (length doc))))
 
   -- nor is one of another length
   pub key-other : (n ≡ len → ⊥) → false ≡ partIs (keyedAt keys key len) doc at n
@@ -66,7 +62,7 @@ module _ (name : List ℕ) where
   tp-elsewhere : (length name - length (span (other 58) name) ≡ 5 → ⊥) → false ≡ isTpType name
   tp-elsewhere h =
       let n : length (past (other 58) name) ≡ length name - length (span (other 58) name) = rw past-drop (length-drop (length (span (other 58) name)) name) in
-      rw (← same-short (past (other 58) name) (bytes ":type") (λ q. h (sym n ∙ q))) (and-false (not (empty (span (other 58) name))))
+      rw (← same-short (past (other 58) name) (bytes ":type") (λ q. h (sym n ∙ q))) (sym (and-false (not (empty (span (other 58) name)))))
 
   pub tp-short : length name < 6 → false ≡ isTpType name
   tp-short h = go (span (other 58) name) refl
@@ -89,7 +85,7 @@ module _ (name : List ℕ) where
         go false o = tp-elsewhere (λ q. eqb-false (length (span (other 58) name)) (length name - 5) o (omega arith))
         go true o =
             let n = eqb-true (length (span (other 58) name)) (length name - 5) o in
-            rw (sym (here n) ∙ not-true u f) (and-false (not (empty (span (other 58) name))))
+            rw (sym (here n) ∙ not-true u f) (sym (and-false (not (empty (span (other 58) name)))))
 
     pub tp-last : {colon : ℕ} → Run (other 58) name 0 colon → not u ≡ false → eqb colon (length name - 5) ≡ isTpType name
     tp-last {colon} r f = go (eqb (length (span (other 58) name)) (length name - 5)) refl

@@ -9,7 +9,8 @@ use native.Mathlib.Omega.{arith}
 use lib.ListN.{length, take, drop, getD, length-drop}
 use lib.Seq.{length-take-le, getD-take}
 use Rattle.slices.specs.Bytes.{if, bytes}
-use Rattle.references.specs.Unescape.{Text, text, wrong, unescape}
+use Rattle.answers.specs.Text.{Text, text, wrong}
+use Rattle.references.specs.Unescape.{unescape}
 use Rattle.document.specs.Tags.{Attr, Shown, Checked, good, fault, also, member, check, lookup, isTpType, tpType}
 use Rattle.document.specs.Outcome.{Held, ValueIs, ValueFits, ValuesFit, ValuesAre}
 use Rattle.attributes.specs.One.{attrOf, kindFrom, Fit}

@@ -1,42 +1,20 @@
--- What a raw value shows: itself where it is plain; and a fault's place lies in it.
+-- The check of a raw value: a fault's place lies in it.
 -- Assumes nothing.
 use Prim.Native.Nat.{ℕ, zero, suc, _+_, _-_, _≤_, _<_, _^_}
-use mathlib.Core.Path.{_≡_, refl}
+use mathlib.Core.Path.{_≡_}
 use mathlib.Core.List.{List, [], _∷_}
-use mathlib.Core.Bool.{Bool, true, false, not, _||_}
 use borrow.Author.Needs.{needs}
 use native.Mathlib.Omega.{arith}
-use lib.Dec.{eqb}
 use lib.ListN.{length, take, drop, length-drop}
 use lib.Seq.{length-take-le}
-use Rattle.slices.specs.Bytes.{if, all}
-use Rattle.slices.proofs.Runs.{both}
-use Rattle.references.specs.Unescape.{Piece, shows, bad, piece, Text, text, wrong, before, joined, shownFrom, unescape, plain}
+use Rattle.answers.specs.Text.{Text, text, wrong}
+use Rattle.references.specs.Unescape.{Piece, shows, bad, piece, before, joined, shownFrom, unescape}
 use Rattle.references.specs.Outcome as outcome
 use Rattle.references.specs.declared.ValuePlace.{ValuePlace}
 use Rattle.references.specs.declared.Checked.{Checked}
 use Rattle.references.specs.declared.Checked.the-variants as checked
 use Rattle.attributes.specs.Outcome.{References}
-use Rattle.attributes.specs.declared.Verdict.the-variants.{Fault, Good}
-
--- none of four tests passes
-none-of : {A : Type 0} (x y z w : Bool) (r c s t : A) → not (x || y || z || w) ≡ true → if x r (if w c (if (z || y) s t)) ≡ t
-none-of true y z w r c s t e = let q : _≡_ {A = ℕ} 0 1 = cc in absurd (omega arith)
-none-of false true z w r c s t e = let q : _≡_ {A = ℕ} 0 1 = cc in absurd (omega arith)
-none-of false false true w r c s t e = let q : _≡_ {A = ℕ} 0 1 = cc in absurd (omega arith)
-none-of false false false true r c s t e = let q : _≡_ {A = ℕ} 0 1 = cc in absurd (omega arith)
-none-of false false false false r c s t e = refl
-
-plain-from : (v : List ℕ) (at : ℕ) → all plain v ≡ true → shownFrom 0 v at ≡ text v
-unfolding piece
-plain-from [] at h = refl
-plain-from (b ∷ v) at h =
-    let t = both (plain b) (all plain v) h in
-    rw (none-of (eqb b 38) (eqb b 9) (eqb b 10) (eqb b 13) _ _ _ (shows (b ∷ []) 0) (t .0), plain-from v (suc at) (t .1))
-
-pub plain-shows : (v : List ℕ) → all plain v ≡ true → unescape v ≡ text v
-unfolding unescape
-plain-shows v h = plain-from v 0 h
+use Rattle.attributes.specs.declared.AttributeCheck.the-variants.{Fault, Good}
 
 -- a fault's place
 wrong-before : (s : List ℕ) (t : Text) (n p m : ℕ) → before s t ≡ wrong n p → (t ≡ wrong n p → p < m) → p < m

@@ -9,7 +9,7 @@ use Rattle.slices.specs.Run.{Run}
 use Rattle.references.specs.Unescape.{plain}
 use Rattle.document.specs.Tags.{Attr, Found, absent, found}
 use Rattle.attributes.specs.declared.Attribute.{Attribute}
-use Rattle.attributes.specs.declared.Inside.{Inside}
+use Rattle.attributes.specs.declared.ValueEnd.{ValueEnd}
 use Rattle.attributes.specs.declared.One.{One}
 
 -- so many bytes from a place on
@@ -37,7 +37,7 @@ pub record Fit (doc : List ℕ) (from to : ℕ) (a : Attribute) : Type 0 where
   pub kind : a .kind ≡ kindFrom 1 (part doc (a .value) (a .«value_len»))
 
 -- the end of a value that begins at a place, up to a quote
-pub record Quotes (q : ℕ) (doc : List ℕ) (from : ℕ) (r : Inside) : Type 0 where
+pub record Quotes (q : ℕ) (doc : List ℕ) (from : ℕ) (r : ValueEnd) : Type 0 where
   pub run : Run (other q) doc from (r .end)
   pub kind : r .kind ≡ kindFrom 1 (span (other q) (drop from doc))
 

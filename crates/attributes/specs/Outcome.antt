@@ -8,7 +8,8 @@ use lib.Dec.{eqb}
 use lib.ListN.{length, take, drop, getD}
 use Rattle.slices.specs.Bytes.{if, span, past, same}
 use Rattle.scan.specs.Classes.{white}
-use Rattle.references.specs.Unescape.{text, wrong, unescape}
+use Rattle.answers.specs.Text.{text, wrong}
+use Rattle.references.specs.Unescape.{unescape}
 use Rattle.document.specs.Tags.{Attr, Shown, Checked, good, fault, also, check, gather}
 use Rattle.document.specs.Tokens as tokens
 use Rattle.document.specs.Tokens.{last, tagEnd, withAttrs}
@@ -17,7 +18,7 @@ use Rattle.document.specs.declared.Value.{Value}
 use Rattle.attributes.specs.One.{part, attrOf, Fit}
 use Rattle.attributes.specs.Lookup.{blank, valuesIn}
 use Rattle.attributes.specs.declared.Attribute.{Attribute}
-use Rattle.attributes.specs.declared.Verdict.{Verdict}
+use Rattle.attributes.specs.declared.AttributeCheck.{AttributeCheck}
 use Rattle.attributes.specs.declared.Attrs.{Attrs}
 
 -- the first n of the attributes fit between two places
@@ -34,11 +35,11 @@ abbrev pub attrsOf : List ℕ → List Attribute → ℕ → List Attr
 attrsOf doc ys n = map (attrOf doc) (take n ys)
 
 -- the check of the references of one value, whose raw bytes have a place and a length
-abbrev pub IsShown : List ℕ → ℕ → ℕ → Verdict → Type 0
-IsShown doc at n Verdict.Good = (t : List ℕ) × (unescape (part doc at n) ≡ text t)
-IsShown doc at n (Verdict.Fault k p) = (q : ℕ) × (unescape (part doc at n) ≡ wrong k q) × (p ≡ at + q)
+abbrev pub IsShown : List ℕ → ℕ → ℕ → AttributeCheck → Type 0
+IsShown doc at n AttributeCheck.Good = (t : List ℕ) × (unescape (part doc at n) ≡ text t)
+IsShown doc at n (AttributeCheck.Fault k p) = (q : ℕ) × (unescape (part doc at n) ≡ wrong k q) × (p ≡ at + q)
 
-pub record References (doc : List ℕ) (at n : ℕ) (r : Verdict) : Type 0 where
+pub record References (doc : List ℕ) (at n : ℕ) (r : AttributeCheck) : Type 0 where
   pub is : IsShown doc at n r
 
 -- whether one of the attributes has the name
@@ -47,26 +48,26 @@ listed n [] = false
 listed n (x ∷ xs) = let r = listed n xs in if (same (x .name) n) true r
 
 -- the check of one attribute, whose name came before or not: duplicate before reference
-abbrev pub IsJudged : Attr → Bool → Verdict → Type 0
-IsJudged x seen Verdict.Good = (t : List ℕ) × (seen ≡ false) × (unescape (x .raw) ≡ text t)
-IsJudged x seen (Verdict.Fault k p) = (c : Checked) → if seen (fault 8 (x .at)) (also x (unescape (x .raw)) c) ≡ fault k p
+abbrev pub IsJudged : Attr → Bool → AttributeCheck → Type 0
+IsJudged x seen AttributeCheck.Good = (t : List ℕ) × (seen ≡ false) × (unescape (x .raw) ≡ text t)
+IsJudged x seen (AttributeCheck.Fault k p) = (c : Checked) → if seen (fault 8 (x .at)) (also x (unescape (x .raw)) c) ≡ fault k p
 
 -- a value that is there
 abbrev pub there : Value → Bool
 there v = not (eqb (v .kind) 0)
 
-pub record Weighs (doc : List ℕ) (a : Attribute) (before : Value) (r : Verdict) : Type 0 where
+pub record Weighs (doc : List ℕ) (a : Attribute) (before : Value) (r : AttributeCheck) : Type 0 where
   pub is : IsJudged (attrOf doc a) (there before) r
 
-pub record Judges (doc : List ℕ) (ys : List Attribute) (i : ℕ) (r : Verdict) : Type 0 where
+pub record Judges (doc : List ℕ) (ys : List Attribute) (i : ℕ) (r : AttributeCheck) : Type 0 where
   pub is : IsJudged (attrOf doc (getD ys i blank)) (listed (attrOf doc (getD ys i blank) .name) (attrsOf doc ys i)) r
 
 -- the check of all
-abbrev pub IsChecked : List Attr → Verdict → Type 0
-IsChecked xs Verdict.Good = (ss : List Shown) × (check [] xs ≡ good ss)
-IsChecked xs (Verdict.Fault k p) = check [] xs ≡ fault k p
+abbrev pub IsChecked : List Attr → AttributeCheck → Type 0
+IsChecked xs AttributeCheck.Good = (ss : List Shown) × (check [] xs ≡ good ss)
+IsChecked xs (AttributeCheck.Fault k p) = check [] xs ≡ fault k p
 
-pub record Checks (doc : List ℕ) (ys : List Attribute) (n : ℕ) (r : Verdict) : Type 0 where
+pub record Checks (doc : List ℕ) (ys : List Attribute) (n : ℕ) (r : AttributeCheck) : Type 0 where
   pub is : IsChecked (attrsOf doc ys n) r
 
 -- the check and the values of all, where they end at a place

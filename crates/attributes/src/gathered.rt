@@ -5,8 +5,8 @@ ghost use Rattle.attributes.specs.Lookup.{wanted, KeyTable, Picks, Picks
 ghost use Rattle.attributes.specs.One.{Fit};
 ghost use Rattle.attributes.specs.Outcome.{Checkable, Weighs, Judges, Checks, Finishes};
 use crate::Attribute;
+use crate::AttributeCheck;
 use crate::Attrs;
-use crate::Verdict;
 use crate::names::is_named;
 use crate::references_of;
 use document::Value;
@@ -61,21 +61,21 @@ fn values(doc: &[u8], attrs: &[Attribute], n: usize, keys: &[u8]) -> Values
 }
 
 // One attribute, and the value of the first before it that has its name: duplicate, then reference.
-fn weigh(doc: &[u8], a: Attribute, before: Value) -> Verdict
+fn weigh(doc: &[u8], a: Attribute, before: Value) -> AttributeCheck
     requires { ⌜ Fit (now doc) 0 (length (now doc)) a × (length (now doc) ≤ 1048576) ⌝ }
     ensures { λ r. ⌜ Weighs (now (doc .entry)) a before r ⌝ }
 {
     if before.kind != 0 {
-        return Verdict::Fault(8, a.name as usize);
+        return AttributeCheck::Fault(8, a.name as usize);
     }
     if a.kind == 1 {
-        return Verdict::Good;
+        return AttributeCheck::Good;
     }
     references_of(doc, a.value as usize, a.value_len as usize)
 }
 
 // One attribute after those before it.
-fn judge(doc: &[u8], attrs: &[Attribute], i: usize) -> Verdict
+fn judge(doc: &[u8], attrs: &[Attribute], i: usize) -> AttributeCheck
     requires { ⌜ (i < length (now attrs)) × Checkable (now doc) (now attrs) (suc i) ⌝ }
     ensures { λ r. ⌜ Judges (now (doc .entry)) (now (attrs .entry)) i r ⌝ }
 {
@@ -85,22 +85,22 @@ fn judge(doc: &[u8], attrs: &[Attribute], i: usize) -> Verdict
 }
 
 // The first n, one by one.
-fn check(doc: &[u8], attrs: &[Attribute], n: usize) -> Verdict
+fn check(doc: &[u8], attrs: &[Attribute], n: usize) -> AttributeCheck
     requires { ⌜ (n ≤ length (now attrs)) × Checkable (now doc) (now attrs) n ⌝ }
     ensures { λ r. ⌜ Checks (now (doc .entry)) (now (attrs .entry)) n r ⌝ }
 {
     let mut i: usize = 0;
     while i < n {
         match judge(doc, attrs, i) {
-            Verdict::Fault(number, place) => {
-                return Verdict::Fault(number, place);
+            AttributeCheck::Fault(number, place) => {
+                return AttributeCheck::Fault(number, place);
             }
-            Verdict::Good => {
+            AttributeCheck::Good => {
                 i += 1;
             }
         }
     }
-    Verdict::Good
+    AttributeCheck::Good
 }
 
 // The first n, which end at a place: the check, then the values.
@@ -109,7 +109,7 @@ pub fn finish(doc: &[u8], attrs: &[Attribute], n: usize, keys: &[u8], at: usize)
     ensures { λ r. ⌜ Finishes (now (doc .entry)) (now (attrs .entry)) n «at» r ⌝ }
 {
     match check(doc, attrs, n) {
-        Verdict::Fault(number, place) => Attrs::Fault(number, place),
-        Verdict::Good => Attrs::All(at, values(doc, attrs, n, keys)),
+        AttributeCheck::Fault(number, place) => Attrs::Fault(number, place),
+        AttributeCheck::Good => Attrs::All(at, values(doc, attrs, n, keys)),
     }
 }

@@ -30,13 +30,13 @@ pub enum One {
 }
 
 // Where a value ends, and its kind.
-pub struct Inside {
+pub struct ValueEnd {
     pub end: usize,
     pub kind: u32,
 }
 
 // What checking comes to: a fault's number and place, or none.
-pub enum Verdict {
+pub enum AttributeCheck {
     Fault(u32, usize),
     Good,
 }
@@ -67,7 +67,7 @@ fn is_special(b: u8) -> bool
 }
 
 // The end of a value, or the length where no quote closes it.
-fn quoted(doc: &[u8], from: usize, quote: u8) -> Inside
+fn quoted(doc: &[u8], from: usize, quote: u8) -> ValueEnd
     requires { ⌜ (from ≤ length (now doc)) × («quote» ≤ 39) ⌝ }
     ensures { λ r. ⌜ Quotes «quote» (now (doc .entry)) from r ⌝ }
 {
@@ -79,7 +79,7 @@ fn quoted(doc: &[u8], from: usize, quote: u8) -> Inside
             at += 1;
         } else {
             if b == quote {
-                return Inside { end: at, kind };
+                return ValueEnd { end: at, kind };
             }
             if is_special(b) {
                 kind = 2;
@@ -89,11 +89,11 @@ fn quoted(doc: &[u8], from: usize, quote: u8) -> Inside
             }
         }
     }
-    Inside { end: at, kind }
+    ValueEnd { end: at, kind }
 }
 
 // At the opening quote of the value, after a name and `=`.
-fn value_at(doc: &[u8], name: usize, n: usize, at: usize) -> One
+fn quoted_value(doc: &[u8], name: usize, n: usize, at: usize) -> One
     requires { ⌜ Named (now doc) name n at ⌝ }
     ensures { λ r. ⌜ Finds (openQuote name (take n (drop name (now (doc .entry))))) (now (doc .entry)) at r ⌝ }
 {
@@ -130,7 +130,7 @@ fn equals_at(doc: &[u8], classes: &[u8; 256], name: usize, n: usize, at: usize) 
     }
     if doc[at] == 61 {
         let open = scan::space_end(doc, classes, at + 1);
-        return value_at(doc, name, n, open);
+        return quoted_value(doc, name, n, open);
     }
     One::Absent
 }
@@ -153,15 +153,15 @@ fn attribute_at(doc: &[u8], classes: &[u8; 256], from: usize) -> One
 }
 
 // Whether the references of a raw value are good.
-fn references_of(doc: &[u8], at: usize, n: usize) -> Verdict
+fn references_of(doc: &[u8], at: usize, n: usize) -> AttributeCheck
     requires { ⌜ (at + n ≤ length (now doc)) × (length (now doc) ≤ 1048576) ⌝ }
     ensures { λ r. ⌜ References (now (doc .entry)) at n r ⌝ }
 {
     match references::check(&doc[at..at + n]) {
-        references::Checked::Good => Verdict::Good,
+        references::Checked::Good => AttributeCheck::Good,
         references::Checked::Fault(number, place) => {
             let p = references::in_document(at, place);
-            Verdict::Fault(number, p.0)
+            AttributeCheck::Fault(number, p.0)
         }
     }
 }

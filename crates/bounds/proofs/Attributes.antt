@@ -1,7 +1,7 @@
 -- The attributes of a tag: they lie in the document, one after another, so that the texts of all their values together are
 -- no longer than what has been read; and the faults in them.
 -- Assumes nothing.
-use Prim.Native.Nat.{ℕ, zero, suc, _+_, _≤_, _<_}
+use Prim.Native.Nat.{ℕ, zero, suc, _+_, _≤_}
 use mathlib.Core.Path.{_≡_, refl}
 use mathlib.Core.List.{List, [], _∷_}
 use native.Mathlib.Omega.{arith}
@@ -10,11 +10,13 @@ use lib.ListN.{length}
 use Rattle.slices.specs.Bytes.{other, span, past, empty}
 use Rattle.scan.specs.Classes.{white, nameByte}
 use Rattle.scan.specs.Ignorable.{quote}
-use Rattle.references.specs.Unescape.{Text, text, wrong, unescape}
+use Rattle.answers.specs.Text.{Text, text, wrong}
+use Rattle.references.specs.Unescape.{unescape}
 use Rattle.references.proofs.Shapes.{unescape-short}
 use Rattle.document.specs.Tags.{Attr, Found, absent, found, closeQuote, openQuote, equals, named, spaced, attribute, Gathered, gathered, tooMany, with, another, noMore, gather, Shown, Checked, good, also, member, check}
 use Rattle.document.specs.Tags as tags
-use Rattle.bounds.proofs.Branches.{either, span-past, Number}
+use Rattle.document.proofs.Tests.{either}
+use Rattle.bounds.proofs.Branches.{span-past, Number}
 use Rattle.bounds.proofs.Values.{Told, unescape-told}
 
 -- the number and place of a fault met while reading

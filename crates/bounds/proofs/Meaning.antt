@@ -3,7 +3,7 @@
 use Prim.Native.Nat.{ℕ, _*_, _/_, _≤_}
 use mathlib.Core.Path.{_≡_, refl}
 use mathlib.Core.List.{List, _∷_}
-use mathlib.Core.Bool.{Bool, true, false, _||_}
+use mathlib.Core.Bool.{Bool, true, _||_}
 use borrow.Author.Tests.{ltb-true, le-ltb}
 use native.Mathlib.Omega.{arith}
 use lib.Dec.{eqb, ltb}
@@ -16,26 +16,24 @@ use Rattle.document.specs.Reading.{State, begun, reading, accepted, refused, ru
 use Rattle.document.specs.Whole.{Room, meaning, fitted}
 use Rattle.document.specs.Outcome.{whole}
 use Rattle.bounds.specs.Bounds.{faults, refusals, lentRefusals, Told}
-use Rattle.bounds.proofs.Branches.{either}
-use Rattle.bounds.proofs.States.{Final}
+use Rattle.document.proofs.Steps.{Kept}
+use Rattle.document.proofs.Tests.{never, either}
+use Rattle.bounds.proofs.States.{final}
 use Rattle.bounds.proofs.Folding.{run-final}
 
--- a number of some is one of more; and false is not true
+-- a number of some is one of more
 also : (n x : ℕ) (ns : List ℕ) → among n ns ≡ true → among n (x ∷ ns) ≡ true
 also n x ns h = either (λ (t : Bool). t ≡ true) (eqb n x) (λ t. refl) (λ t. h)
 
-none-such : false ≡ true → ⊥
-none-such e = let z : _≡_ {A = ℕ} 0 1 = cc in omega arith
-
-final-told : (len : ℕ) (s : State Shown) → Final len s → Told refusals len s
+final-told : (len : ℕ) (s : State Shown) → Kept (final len) s → Told refusals len s
 final-told len begun h = h
 final-told len (reading fs u) h = h
 final-told len (accepted u) h = h
 final-told len (refused x) h = record {
   number = also (x .number) 1 (2 ∷ faults) (also (x .number) 2 faults (h .number));
   place = h .place;
-  long = λ e. absurd (none-such (rw e at (h .number)));
-  short = λ e. absurd (none-such (rw e at (h .number)));
+  long = λ e. never (rw e at (h .number));
+  short = λ e. never (rw e at (h .number));
 }
 
 pub meaning-is : (doc : List ℕ) → Told refusals (length doc) (meaning doc)

@@ -15,7 +15,8 @@ use Rattle.scan.specs.declared.Scan.the-variants.{Fault, At}
 use Rattle.document.specs.Tags.{Attr, Gathered, gathered, tooMany, gather, Shown, Checked, good, check}
 use Rattle.document.specs.Tags as tags
 use Rattle.document.specs.Tokens.{Tag, Token, start, close, fault, end, Next, more, last, slashEnd, tagEnd, withShown, withAttrs, opening, closeEnd, closing, tag, tagOrEnd, pastIgnorable, next}
-use Rattle.bounds.proofs.Branches.{either, span-past, not-empty}
+use Rattle.document.proofs.Tests.{either}
+use Rattle.bounds.proofs.Branches.{span-past, not-empty}
 use Rattle.bounds.proofs.Ignorables.{Scanned, ignorable-within}
 use Rattle.bounds.proofs.Attributes.{Met, rawTotal, textTotal, Gathers, gather-within, Checks, check-within}
 

@@ -8,9 +8,11 @@ use native.Mathlib.Omega.{arith}
 use lib.Dec.{eqb}
 use lib.ListN.{length}
 use Rattle.slices.specs.Bytes.{bytes, other, span, past, all, empty, same}
+use Rattle.answers.specs.Text.{Text, text, wrong}
 use Rattle.references.specs.Characters.{xmlChar}
-use Rattle.references.specs.Unescape.{Reference, character, fault, ofDigits, number, hexDigit, decimalDigit, ofNumber, charReference, reference, Piece, shows, bad, referred, afterCr, piece, Text, text, wrong, before, joined, shownFrom, unescape}
-use Rattle.bounds.proofs.Branches.{either, Number}
+use Rattle.references.specs.Unescape.{Reference, character, fault, ofDigits, number, hexDigit, decimalDigit, ofNumber, charReference, reference, Piece, shows, bad, referred, afterCr, piece, before, joined, shownFrom, unescape}
+use Rattle.document.proofs.Tests.{either}
+use Rattle.bounds.proofs.Branches.{Number}
 
 abbrev Refers : Reference → Type 0
 Refers (character c) = Unit {0}

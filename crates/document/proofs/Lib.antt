@@ -1,6 +1,10 @@
--- The laws of runs, of values and of the loops over elements.
+-- The laws of runs, of values, of the loops over elements, and of one step, way by way.
 -- Assumes nothing.
+pub mod Tests
 pub mod Runs
+pub mod Held
 pub mod Presence
 pub mod Loops
 pub mod Openings
+pub mod Opens
+pub mod Steps

@@ -1,31 +1,26 @@
 -- From the row of an element to the whole element: refused, closed by its own tag, or with children.
 -- Assumes nothing.
-use Prim.Native.Nat.{ℕ, suc, _+_, _≤_, _<_}
+use Prim.Native.Nat.{ℕ, _<_}
 use mathlib.Core.Path.{_≡_, refl, sym, _∙_, ap}
-use mathlib.Core.List.{List, [], _∷_, _++_}
-use mathlib.Core.Bool.{Bool, true, false, not, _&&_}
+use mathlib.Core.List.{List, [], _∷_}
+use mathlib.Core.Bool.{true, false, not}
 use borrow.Author.Needs.{needs}
-use borrow.Author.Tests.{eqb-true}
 use native.Mathlib.Omega.{arith}
 use lib.Dec.{eqb}
 use lib.ListN.{length, take, drop}
-use lib.Seq.{take-at, take-take}
-use Rattle.slices.specs.Bytes.{if}
+use lib.Seq.{take-at}
+use Rattle.document.specs.Kinds as kinds
 use Rattle.document.specs.Tags.{Shown}
 use Rattle.document.specs.Tokens.{Tag}
 use Rattle.document.specs.Rows.{Row, Tables}
-use Rattle.document.specs.Elements.{heldBy, among, opens, refuses, opensAs}
-use Rattle.document.specs.Reading.{Frame, element, State, reading, refused, parentOf, closed, withRow, frameOf, noted, entered, begins}
+use Rattle.document.specs.Elements.{heldBy, among}
+use Rattle.document.specs.Reading.{Frame, element, State, reading, parentOf, closed, withRow, noted, entered, begins}
 use Rattle.document.specs.Outcome.{Lent, lent, Stands, Bounded, TagIs, Ends, Onward, Begins, Opening, Children, runs, whole}
 use Rattle.document.specs.declared.StartTag.{StartTag}
 use Rattle.document.specs.declared.Fill.{Fill}
 use Rattle.document.specs.declared.Refusal.{Refusal}
 use Rattle.document.specs.declared.Answer.{Answer}
 use Rattle.document.proofs.Runs.{run-refused}
-
--- the kinds whose elements are definitions
-abbrev pub definitions : List ℕ
-definitions = 8 ∷ 9 ∷ 11 ∷ 13 ∷ []
 
 module _ {doc : List ℕ} {k : ℕ} {c : StartTag} {p : ℕ} {f : Fill} {rows rows′ bytes bytes′ : List ℕ} {a : Answer} (o : Opening doc k c p f rows rows′ bytes bytes′ a) where
   pub opening-fault : {x : Refusal} {w : List ℕ} → a ≡ Answer.Fault x → Begins doc k c p f (lent rows w bytes) (lent rows′ w bytes′) (Answer.Fault x)
@@ -53,10 +48,10 @@ module _ {doc : List ℕ} {k : ℕ} {c : StartTag} {p : ℕ} {f : Fill} {rows ro
     at-end : g .at ≡ c .end
     at-end = done .onward .0 ∙ o .at
 
-    shut-at : among k definitions ≡ false → (t : Tag) (fs : List Frame) (u : Tables Shown) → TagIs doc c t → c .closes ≡ true → (row : Row Shown) → runs doc (c .end) (entered whole doc k t row fs u) ≡ runs doc (g .at) (closed (noted k t fs) (withRow row u))
+    shut-at : among k kinds.definitions ≡ false → (t : Tag) (fs : List Frame) (u : Tables Shown) → TagIs doc c t → c .closes ≡ true → (row : Row Shown) → runs doc (c .end) (entered whole doc k t row fs u) ≡ runs doc (g .at) (closed (noted k t fs) (withRow row u))
     shut-at d t fs u z x row = rw (at-end, sym (z .closes) ∙ x, d)
 
-    module _ {w : List ℕ} (d : among k definitions ≡ false) where
+    module _ {w : List ℕ} (d : among k kinds.definitions ≡ false) where
       pub opening-closes : c .closes ≡ true → Begins doc k c p f (lent rows w bytes) (lent rows′ w bytes′) (Answer.Done g)
       opening-closes x = record {
         onward = (omega (arith, done .onward .0), omega (arith, done .onward .1), done .onward .2);
@@ -65,7 +60,7 @@ module _ {doc : List ℕ} {k : ℕ} {c : StartTag} {p : ℕ} {f : Fill} {rows ro
             (withRow (i .0) u, i .2 w s, ap (runs doc (c .end)) (i .1) ∙ shut-at d t fs u z x (i .0), take-at (u .rows) (i .0 ∷ []) (f .rows) (s .many));
       }
 
-      module _ {b : Lent} {r : Answer} (x : c .closes ≡ false) (y : eqb k 1 ≡ false) (l : Children doc (heldBy k) (not (eqb k 6)) (c .at) (c .len) (f .rows) g (lent rows′ w bytes′) b r) where
+      module _ {b : Lent} {r : Answer} (x : c .closes ≡ false) (y : eqb k kinds.node ≡ false) (l : Children doc (heldBy k) (not (eqb k kinds.annotation)) (c .at) (c .len) (f .rows) g (lent rows′ w bytes′) b r) where
         inside : (t : Tag) (fs : List Frame) (u : Tables Shown) → TagIs doc c t → length (u .rows) ≡ f .rows → (row : Row Shown) → runs doc (c .end) (entered whole doc k t row fs u) ≡ runs doc (g .at) (reading (element k (take (c .len) (drop (c .at) doc)) (f .rows) ∷ noted k t fs) (withRow row u))
         inside t fs u z n row = rw (at-end, sym (z .closes) ∙ x, d, y, z .named .is, n)
 

@@ -5,11 +5,11 @@ use native.Mathlib.Omega.{arith}
 use native.Mathlib.Nat.{add-zero, sub-self}
 use mathlib.Core.Path.{_≡_, refl, sym, _∙_}
 use mathlib.Core.List.{List, [], _∷_}
-use lib.ListN.{length, length-drop, drop, getD, drop-of-length-le}
+use lib.ListN.{length, length-drop, drop}
 use lib.Seq.{drop-cons, drop-drop}
 use Rattle.scan.specs.Ignorable.{ignorable}
 use Rattle.document.specs.Tags.{Shown}
-use Rattle.document.specs.Tokens.{Token, end, more, last, Next, next, tokensFrom, tokens}
+use Rattle.document.specs.Tokens.{Token, end, more, last, next, tokensFrom, tokens}
 use Rattle.document.specs.Rows.{Tables}
 use Rattle.document.specs.declared.Refusal.{Refusal}
 use Rattle.document.specs.Reading.{State, refused, accepted, step, fold, run}

@@ -12,7 +12,8 @@ use Rattle.utf8.specs.WhiteSpace.{characters, trimStart, trimEnd}
 use Rattle.scan.specs.Ignorable.{ignorable}
 use Rattle.names.specs.Names.{interfaceName, memberName}
 use Rattle.names.specs.Signature.{signature}
-use Rattle.references.specs.Characters.{xmlChar, utf8}
+use Rattle.utf8.specs.Encoding.{utf8}
+use Rattle.references.specs.Characters.{xmlChar}
 use Rattle.references.specs.Escape.{escape}
 use Rattle.references.specs.Unescape.{reference, piece, unescape}
 use Rattle.document.specs.Tags.{attribute, gather}

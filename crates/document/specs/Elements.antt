@@ -8,6 +8,7 @@ use lib.Dec.{eqb}
 use Rattle.slices.specs.Bytes.{if, bytes, other, all, empty, same}
 use Rattle.names.specs.Names.{interfaceName, memberName, propertyName}
 use Rattle.names.specs.Signature.{signature, basicSignature}
+use Rattle.document.specs.Kinds as kinds
 use Rattle.document.specs.Tags.{Shown, lookup, tpType}
 use Rattle.document.specs.Tokens.{Tag}
 use Rattle.document.specs.Rows.{Row}
@@ -18,43 +19,42 @@ abbrev pub localName : List ℕ → List ℕ
 localName [] = []
 localName (b ∷ l) = let r = localName l in if (all (other 58) (b ∷ l)) (b ∷ l) r
 
--- by local name: 8 simple-type, 9 enum, 10 enumvalue, 11 struct, 12 member, 13 mapping, 14 docstring
+-- by local name; 0 is any other
 abbrev pub localKind : List ℕ → ℕ
 localKind n =
-    if (same n (bytes "simple-type")) 8
-    (if (same n (bytes "enum")) 9
-    (if (same n (bytes "enumvalue")) 10
-    (if (same n (bytes "struct")) 11
-    (if (same n (bytes "member")) 12
-    (if (same n (bytes "mapping")) 13
-    (if (same n (bytes "docstring")) 14 0))))))
+    if (same n (bytes "simple-type")) kinds.simpleType
+    (if (same n (bytes "enum")) kinds.enum
+    (if (same n (bytes "enumvalue")) kinds.enumvalue
+    (if (same n (bytes "struct")) kinds.struct
+    (if (same n (bytes "member")) kinds.member
+    (if (same n (bytes "mapping")) kinds.mapping
+    (if (same n (bytes "docstring")) kinds.docstring 0))))))
 
--- by exact name: 1 node, 2 interface, 3 method, 4 property, 5 signal, 6 annotation, 7 arg; else by local name; 0 is any other
+-- by exact name; else by local name
 unfoldable pub kindOf : List ℕ → ℕ
 kindOf n =
     let l = localKind (localName n) in
-    if (same n (bytes "node")) 1
-    (if (same n (bytes "interface")) 2
-    (if (same n (bytes "method")) 3
-    (if (same n (bytes "property")) 4
-    (if (same n (bytes "signal")) 5
-    (if (same n (bytes "annotation")) 6
-    (if (same n (bytes "arg")) 7 l))))))
+    if (same n (bytes "node")) kinds.node
+    (if (same n (bytes "interface")) kinds.interface
+    (if (same n (bytes "method")) kinds.method
+    (if (same n (bytes "property")) kinds.property
+    (if (same n (bytes "signal")) kinds.signal
+    (if (same n (bytes "annotation")) kinds.annotation
+    (if (same n (bytes "arg")) kinds.arg l))))))
 
 abbrev pub among : ℕ → List ℕ → Bool
 among k [] = false
 among k (x ∷ xs) = let r = among k xs in if (eqb k x) true r
 
--- node holds node and interface; interface holds method, property, signal; annotation stands in interface and its members
--- and in arg; arg in method and signal; kinds 8, 9, 11, 13 in node or interface; enumvalue in enum; member in struct and mapping
+-- what an element of a kind holds, besides docstrings
 abbrev pub heldBy : ℕ → List ℕ
 heldBy k =
-    if (eqb k 1) (1 ∷ 2 ∷ 8 ∷ 9 ∷ 11 ∷ 13 ∷ [])
-    (if (eqb k 2) (3 ∷ 4 ∷ 5 ∷ 6 ∷ 8 ∷ 9 ∷ 11 ∷ 13 ∷ [])
-    (if (among k (3 ∷ 5 ∷ [])) (6 ∷ 7 ∷ [])
-    (if (among k (4 ∷ 7 ∷ [])) (6 ∷ [])
-    (if (eqb k 9) (10 ∷ [])
-    (if (among k (11 ∷ 13 ∷ [])) (12 ∷ []) [])))))
+    if (eqb k kinds.node) kinds.inNode
+    (if (eqb k kinds.interface) kinds.inInterface
+    (if (among k kinds.callables) kinds.inCallable
+    (if (among k kinds.values) kinds.inValue
+    (if (eqb k kinds.enum) (kinds.enumvalue ∷ [])
+    (if (among k (kinds.struct ∷ kinds.mapping ∷ [])) (kinds.member ∷ []) [])))))
 
 unfoldable pub mayHold : ℕ → ℕ → Bool
 mayHold k c = among c (heldBy k)
@@ -113,12 +113,12 @@ module _ {A : Type 0} (keep : Shown → A) where
       valid (signature (s .value)) 14 (suc (t .at))
       (required (attr (bytes "access") t) t λ a.
       valid (not (eqb (accessOf (a .value)) 0)) 15 (t .after)
-      (opens (row 4 p (some n) (some s) (tpType (t .attrs)) (accessOf (a .value))))))
+      (opens (row kinds.property p (some n) (some s) (tpType (t .attrs)) (accessOf (a .value))))))
 
   -- name, value
   abbrev pub annotationRow : ℕ → Tag → Opened A
   annotationRow p t =
-      required (attr (bytes "name") t) t λ n. required (attr (bytes "value") t) t λ v. opens (row 6 p (some n) (some v) none 0)
+      required (attr (bytes "name") t) t λ n. required (attr (bytes "value") t) t λ v. opens (row kinds.annotation p (some n) (some v) none 0)
 
   -- a direction that is there is `in` or `out` (16 after the tag)
   abbrev pub directed : Option Shown → Tag → (ℕ → Opened A) → Opened A
@@ -130,20 +130,20 @@ module _ {A : Type 0} (keep : Shown → A) where
   argRow p t =
       required (attr (bytes "type") t) t λ s.
       valid (signature (s .value)) 14 (suc (t .at))
-      (directed (attr (bytes "direction") t) t λ d. opens (row 7 p (attr (bytes "name") t) (some s) (tpType (t .attrs)) d))
+      (directed (attr (bytes "direction") t) t λ d. opens (row kinds.arg p (attr (bytes "name") t) (some s) (tpType (t .attrs)) d))
 
   -- the row of an element of kind k
   unfoldable pub opensAs : ℕ → ℕ → Tag → Opened A
   opensAs k p t =
       let n = attr (bytes "name") t in
-      if (eqb k 1) (opens (row 1 p n none none 0))
-      (if (eqb k 2) (namedRow interfaceName 2 p t)
-      (if (eqb k 3) (namedRow memberName 3 p t)
-      (if (eqb k 4) (propertyRow p t)
-      (if (eqb k 5) (namedRow memberName 5 p t)
-      (if (eqb k 6) (annotationRow p t)
-      (if (eqb k 7) (argRow p t)
-      (if (among k (8 ∷ 9 ∷ [])) (opens (row k p n (attr (bytes "type") t) none 0))
-      (if (eqb k 10) (opens (row 10 p (attr (bytes "suffix") t) (attr (bytes "value") t) none 0))
-      (if (eqb k 12) (opens (row 12 p n (attr (bytes "type") t) (tpType (t .attrs)) 0))
+      if (eqb k kinds.node) (opens (row kinds.node p n none none 0))
+      (if (eqb k kinds.interface) (namedRow interfaceName kinds.interface p t)
+      (if (eqb k kinds.method) (namedRow memberName kinds.method p t)
+      (if (eqb k kinds.property) (propertyRow p t)
+      (if (eqb k kinds.signal) (namedRow memberName kinds.signal p t)
+      (if (eqb k kinds.annotation) (annotationRow p t)
+      (if (eqb k kinds.arg) (argRow p t)
+      (if (among k kinds.typed) (opens (row k p n (attr (bytes "type") t) none 0))
+      (if (eqb k kinds.enumvalue) (opens (row kinds.enumvalue p (attr (bytes "suffix") t) (attr (bytes "value") t) none 0))
+      (if (eqb k kinds.member) (opens (row kinds.member p n (attr (bytes "type") t) (tpType (t .attrs)) 0))
       (opens (row k p n none none 0)))))))))))

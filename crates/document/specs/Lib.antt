@@ -1,5 +1,6 @@
--- The definition of reading: tags and tokens, rows, elements, the fold over the tokens, the whole document.
+-- The definition of reading: kinds, tags and tokens, rows, elements, the fold over the tokens, the whole document.
 -- Assumes nothing.
+pub mod Kinds
 pub mod Tags
 pub mod Tokens
 pub mod Rows

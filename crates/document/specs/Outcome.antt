@@ -10,7 +10,9 @@ use lib.ListN.{length, take, drop, getD}
 use Rattle.slices.specs.Bytes.{if, bytes, all}
 use Rattle.utf8.specs.WellFormed.{illFormed}
 use Rattle.tables.specs.Table.{Rep}
-use Rattle.references.specs.Unescape.{text, unescape, plain}
+use Rattle.answers.specs.Text.{text}
+use Rattle.references.specs.Unescape.{unescape, plain}
+use Rattle.document.specs.Kinds as kinds
 use Rattle.document.specs.Tags.{Shown, lookup, tpType}
 use Rattle.document.specs.Tokens.{Tag, start, close, fault, end, more, last, next}
 use Rattle.document.specs.Rows.{Row, Warning, Tables, wordsFrom, texts, warned}
@@ -59,6 +61,16 @@ pub record ValuesFit (from to : ℕ) (v : Values) : Type 0 where
   pub suffix : ValueFits from to (v .suffix)
   pub tp : ValueFits from to (v .tp)
 
+-- a value lies in a document that is within the limit
+pub record Lies (doc : List ℕ) (v : Value) : Type 0 where
+  pub small : length doc ≤ 1048576
+  pub inside : v .at + v .len ≤ length doc
+
+-- the raw bytes of a value
+pub record Raw (doc : List ℕ) (v : Value) (r : List ℕ) : Type 0 where
+  pub is : r ≡ take (v .len) (drop (v .at) doc)
+  pub many : length r ≡ v .len
+
 -- the values of the attributes of a tag
 pub record ValuesAre (doc : List ℕ) (v : Values) (xs : List Shown) : Type 0 where
   pub name : ValueIs doc (v .name) (lookup (bytes "name") xs)
@@ -103,6 +115,10 @@ warningsIn (lent r w t) = w
 
 abbrev pub textIn : Lent → List ℕ
 textIn (lent r w t) = t
+
+-- the counts at another place
+abbrev pub moved : Fill → ℕ → Fill
+moved f at = record { at = at; rows = f .rows; warnings = f .warnings; text = f .text }
 
 -- the buffers, as far as they are used, stand for the tables
 pub record Stands (u : Tables Shown) (b : Lent) (f : Fill) : Type 0 where
@@ -196,7 +212,7 @@ pub record Others (doc : List ℕ) (c : StartTag) (i : ℕ) (f : Fill) (rows row
   pub ends :
       (k : ℕ) (t : Tag) (fs : List Frame) (u : Tables Shown) (bytes : List ℕ) →
       among (c .kind) (heldBy k) ≡ false →
-      not (eqb k 6) ≡ true →
+      not (eqb k kinds.annotation) ≡ true →
       TagIs doc c t →
       Stands u (lent rows w bytes) f →
       Ends doc (runs doc (c .end) (child whole doc k i t fs u)) fs i (take i (u .rows)) (lent rows′ w′ bytes) r
@@ -207,7 +223,7 @@ pub record Child (doc : List ℕ) (hs : List ℕ) (docs : Bool) (c : StartTag) (
   pub ends :
       (k : ℕ) (n : List ℕ) (t : Tag) (fs : List Frame) (u : Tables Shown) →
       heldBy k ≡ hs →
-      not (eqb k 6) ≡ docs →
+      not (eqb k kinds.annotation) ≡ docs →
       TagIs doc c t →
       Stands u b f →
       Ends doc (runs doc (c .end) (child whole doc k i t (element k n i ∷ fs) u)) (element k n i ∷ fs) i (take i (u .rows)) b′ r
@@ -218,7 +234,7 @@ pub record Children (doc : List ℕ) (hs : List ℕ) (docs : Bool) (at len i : �
   pub ends :
       (k : ℕ) (fs : List Frame) (u : Tables Shown) →
       heldBy k ≡ hs →
-      not (eqb k 6) ≡ docs →
+      not (eqb k kinds.annotation) ≡ docs →
       Stands u b f →
       Ends doc (runs doc (f .at) (reading.reading (element k (take len (drop at doc)) i ∷ fs) u)) fs i (take i (u .rows)) b′ r
 

@@ -9,6 +9,7 @@ use lib.ListN.{length, take, drop}
 use Rattle.slices.specs.Bytes.{if, bytes, same}
 use Rattle.utf8.specs.WhiteSpace.{trimStart, trimEnd}
 use Rattle.names.specs.Signature.{basicSignature}
+use Rattle.document.specs.Kinds as kinds
 use Rattle.document.specs.Tags.{Shown}
 use Rattle.document.specs.Tokens.{Tag, Token, start, close, fault, end, tokens}
 use Rattle.document.specs.Rows.{Doc, Row, Warning, Tables, documented}
@@ -76,14 +77,14 @@ typeReason (some s) = if (someSignature (s .value)) 0 4
 
 abbrev pub tagReason : ℕ → Option Shown → Option Shown → ℕ
 tagReason k none ty = 2
-tagReason k (some n) ty = if (among k (8 ∷ 9 ∷ [])) (typeReason ty) 0
+tagReason k (some n) ty = if (among k kinds.typed) (typeReason ty) 0
 
 -- 5 incomplete enumvalue, 6 incomplete member, 7 no members, 8 not exactly 2 members, 9 key not basic; of the parts
 abbrev pub partsReason : ℕ → Parts → ℕ
 partsReason k p =
-    if (p .broken) (if (eqb k 9) 5 6)
-    (if (eqb k 11) (if (eqb (p .count) 0) 7 0)
-    (if (eqb k 13) (if (eqb (p .count) 2) (if (p .basic) 0 9) 8) 0))
+    if (p .broken) (if (eqb k kinds.enum) 5 6)
+    (if (eqb k kinds.struct) (if (eqb (p .count) 0) 7 0)
+    (if (eqb k kinds.mapping) (if (eqb (p .count) 2) (if (p .basic) 0 9) 8) 0))
 
 -- only the first is told
 abbrev pub reasonOf : Definition → ℕ
@@ -100,7 +101,7 @@ isSome p (some s) = p (s .value)
 
 abbrev pub complete : ℕ → Tag → Bool
 complete k t =
-    if (eqb k 10) (isThere (attr (bytes "suffix") t) && isThere (attr (bytes "value") t))
+    if (eqb k kinds.enumvalue) (isThere (attr (bytes "suffix") t) && isThere (attr (bytes "value") t))
     (isThere (attr (bytes "name") t) && isSome someSignature (attr (bytes "type") t))
 
 abbrev pub oneMore : ℕ → Tag → Parts → Parts
@@ -121,7 +122,7 @@ notedIn k t (definition d ∷ fs) = definition (partOf k t d) ∷ fs
 notedIn k t (passing p ns ∷ fs) = passing p ns ∷ fs
 
 abbrev pub noted : ℕ → Tag → List Frame → List Frame
-noted k t fs = if (among k (10 ∷ 12 ∷ [])) (notedIn k t fs) fs
+noted k t fs = if (among k kinds.parts) (notedIn k t fs) fs
 
 -- the frame of an element of kind k with row i
 abbrev pub frameOf : ℕ → Tag → ℕ → Frame
@@ -134,7 +135,7 @@ frameOf k t i =
       reason = tagReason k (attr (bytes "name") t) (attr (bytes "type") t);
       parts = record { count = 0; broken = false; basic = false };
     } in
-    if (among k (8 ∷ 9 ∷ 11 ∷ 13 ∷ [])) (definition d) (element k (t .name) i)
+    if (among k kinds.definitions) (definition d) (element k (t .name) i)
 
 module _ {A : Type 0} where
   abbrev pub withRow : Row A → Tables A → Tables A
@@ -181,7 +182,7 @@ module _ {A : Type 0} where
 module _ {A : Type 0} (keep : Shown → A) (doc : List ℕ) where
   -- 1,024 nodes may be open; the root is the first
   abbrev pub tooDeep : ℕ → List Frame → Bool
-  tooDeep k fs = eqb k 1 && leb 1024 (length fs)
+  tooDeep k fs = eqb k kinds.node && leb 1024 (length fs)
 
   -- an element of kind k begins, with its row
   abbrev pub entered : ℕ → Tag → Row A → List Frame → Tables A → State A
@@ -215,7 +216,7 @@ module _ {A : Type 0} (keep : Shown → A) (doc : List ℕ) where
       let d = docstringIn t fs i u in
       let b = begins c t fs u in
       let o = unsupported t fs u in
-      if (eqb c 14 && not (eqb k 6)) d (if (mayHold k c) b o)
+      if (eqb c kinds.docstring && not (eqb k kinds.annotation)) d (if (mayHold k c) b o)
 
   -- a start tag in content that is passed over: the 1,025th open element is too deep
   abbrev pub inner : Purpose → List (List ℕ) → Tag → List Frame → Tables A → State A
@@ -237,7 +238,7 @@ module _ {A : Type 0} (keep : Shown → A) (doc : List ℕ) where
 
   -- before the root, which may have any tag
   abbrev pub root : Token → State A
-  root (start t) = begins 1 t [] (record { rows = []; warnings = [] })
+  root (start t) = begins kinds.node t [] (record { rows = []; warnings = [] })
   root (close lt m q) = refused (bare 4 (suc lt))
   root (fault n p) = refused (bare n p)
   root (end p) = refused (bare 3 p)

@@ -10,7 +10,8 @@ use lib.ListN.{length}
 use Rattle.slices.specs.Bytes.{if, bytes, other, span, past, empty, same}
 use Rattle.scan.specs.Classes.{white, nameByte}
 use Rattle.scan.specs.Ignorable.{quote}
-use Rattle.references.specs.Unescape.{Text, text, wrong, unescape}
+use Rattle.answers.specs.Text.{Text, text, wrong}
+use Rattle.references.specs.Unescape.{unescape}
 
 -- an attribute as it stands: its name's place and bytes, its value's place and raw bytes
 pub record Attr : Type 0 where

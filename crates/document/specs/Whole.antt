@@ -1,7 +1,8 @@
 -- A whole document and the room lent (docs/FORMAT.md, Answers): the answer, and every word and byte of rows, warnings and text.
 -- Assumes nothing.
 use Prim.Native.Nat.{ℕ, _-_, _/_}
-use mathlib.Core.List.{List, [], _∷_, _++_}
+use mathlib.Core.Path.{_≡_}
+use mathlib.Core.List.{List, _++_}
 use mathlib.Core.Bool.{_||_}
 use lib.Dec.{ltb}
 use lib.ListN.{length, replicate}
@@ -65,3 +66,14 @@ warningsLeft r s = leftIn (r .warnings) (λ t. warned (t .warnings)) s
 
 abbrev pub textLeft : Room → State Shown → List ℕ
 textLeft r s = leftIn (r .text) (λ t. texts (t .rows)) s
+
+-- the room of the buffers lent
+abbrev pub roomOf : List ℕ → List ℕ → List ℕ → Room
+roomOf rows warnings text = record { rows = length rows; warnings = length warnings; text = length text }
+
+-- what reading a document with that room answers, and what it leaves in the buffers
+pub record Says (doc : List ℕ) (room : Room) (rows warnings text : List ℕ) (v : Verdict) : Type 0 where
+  pub verdict : v ≡ verdictOf (read doc room)
+  pub rows-left : rows ≡ rowsLeft room (read doc room)
+  pub warnings-left : warnings ≡ warningsLeft room (read doc room)
+  pub text-left : text ≡ textLeft room (read doc room)

@@ -1,4 +1,8 @@
-// The structs that the reader's functions share. What a document means is in specs/.
+// The kinds of elements, the structs that the reader's functions share, and the raw bytes of a value. What a document means is in specs/.
+ghost use mathlib.Core.Path.{_≡_};
+ghost use Rattle.document.specs.Outcome.{Lies, Raw, moved};
+
+pub mod kinds;
 
 // Why a document is refused: the place, and the number.
 pub struct Refusal {
@@ -17,6 +21,16 @@ pub struct Value {
     pub at: u32,
     pub len: u32,
     pub kind: u32,
+}
+
+// The raw bytes of a value.
+pub fn raw(doc: &[u8], v: Value) -> &[u8]
+    requires { ⌜ Lies (now doc) v ⌝ }
+    ensures { λ r. ⌜ Raw (now (doc .entry)) v (now r) ⌝ }
+{
+    let at = v.at as usize;
+    let end = at + v.len as usize;
+    &doc[at..end]
 }
 
 // The values of the attributes that mean something.
@@ -46,6 +60,20 @@ pub struct Fill {
     pub rows: usize,
     pub warnings: usize,
     pub text: usize,
+}
+
+impl Fill {
+    // The counts at another place.
+    pub fn moved(self, at: usize) -> Fill
+        ensures { λ r. ⌜ r ≡ moved self «at» ⌝ }
+    {
+        Fill {
+            at,
+            rows: self.rows,
+            warnings: self.warnings,
+            text: self.text,
+        }
+    }
 }
 
 // What reading an element comes to: a fault, or where it ended.

@@ -13,18 +13,20 @@ use lib.ListN.{length}
 use Rattle.slices.specs.Bytes.{if, bytes, same}
 use Rattle.names.specs.Names.{interfaceName, memberName, propertyName}
 use Rattle.names.specs.Signature.{signature}
+use Rattle.document.specs.Kinds as kinds
 use Rattle.document.specs.Tags.{Shown, lookup, tpType}
 use Rattle.document.specs.Tokens.{Tag}
 use Rattle.document.specs.Rows.{Row, Tables}
 use Rattle.document.specs.Elements.{attr, accessOf, directionOf, directed, kept, row, bare, opens, refuses, opensAs, Opened}
-use Rattle.document.specs.Outcome.{lent, Held, ValueIs, ValueFits, Stands, Bounded, Ready, TagIs, Opening, whole}
+use Rattle.document.specs.Outcome.{lent, Held, Lies, ValueIs, ValueFits, Stands, Bounded, Ready, TagIs, Opening, whole}
 use Rattle.document.specs.declared.Value.{Value}
 use Rattle.document.specs.declared.StartTag.{StartTag}
 use Rattle.document.specs.declared.Fill.{Fill}
 use Rattle.document.specs.declared.Refusal.{Refusal}
 use Rattle.document.specs.declared.Answer.{Answer}
 use Rattle.document.proofs.Presence.{value-absent, value-there}
-use Rattle.rows.specs.Outcome.{Lies, RowFits, RowPut, Tests}
+use Rattle.shown.specs.Outcome.{Tests}
+use Rattle.rows.specs.Outcome.{RowFits, RowPut}
 use Rattle.rows.specs.declared.Head.{Head}
 use Rattle.elements.specs.Outcome.{Absent, Accesses, accessWord, Directs, directionWord, PropertyNamed, NamedKind, TypedKind, UntypedKind}
 
@@ -34,9 +36,6 @@ lies r h = record { small = r .sound .small; inside = omega (arith, h .until, r 
 
 pub absent-fits : {doc : List ℕ} {c : StartTag} {f : Fill} {v : Value} → Ready doc c f → Absent v → ValueFits (c .at) (c .end) v
 absent-fits r a = record { until = omega (arith, a .at, a .len); short = omega (arith, a .len, r .fits .inside) }
-
-absent-is : (doc : List ℕ) {v : Value} → Absent v → ValueIs doc v none
-absent-is doc a = a .kind
 
 -- the reader keeps all of an attribute
 kept-is : (doc : List ℕ) (v : Value) (o : Option Shown) → ValueIs doc v o → ValueIs doc v (kept whole o)
@@ -77,31 +76,31 @@ refused : {doc : List ℕ} {c : StartTag} {f : Fill} {k p : ℕ} {x : Refusal} {
 refused r i = record { at = r .at; onward = tt; is = i }
 
 -- the kinds by what they need
-pub interface-kind : NamedKind interfaceName 2
+pub interface-kind : NamedKind interfaceName kinds.interface
 unfolding opensAs
 interface-kind = record { is = λ p t. refl }
 
-pub method-kind : NamedKind memberName 3
+pub method-kind : NamedKind memberName kinds.method
 unfolding opensAs
 method-kind = record { is = λ p t. refl }
 
-pub signal-kind : NamedKind memberName 5
+pub signal-kind : NamedKind memberName kinds.signal
 unfolding opensAs
 signal-kind = record { is = λ p t. refl }
 
-pub simple-type-kind : TypedKind 8
+pub simple-type-kind : TypedKind kinds.simpleType
 unfolding opensAs
 simple-type-kind = record { is = λ p t. refl }
 
-pub enum-kind : TypedKind 9
+pub enum-kind : TypedKind kinds.enum
 unfolding opensAs
 enum-kind = record { is = λ p t. refl }
 
-pub struct-kind : UntypedKind 11
+pub struct-kind : UntypedKind kinds.struct
 unfolding opensAs
 struct-kind = record { is = λ p t. refl }
 
-pub mapping-kind : UntypedKind 13
+pub mapping-kind : UntypedKind kinds.mapping
 unfolding opensAs
 mapping-kind = record { is = λ p t. refl }
 
@@ -115,7 +114,7 @@ there doc key t {v} h e = value-there doc v (attr key t) h e
 module _ {doc : List ℕ} {c : StartTag} {f : Fill} (r : Ready doc c f) {p : ℕ} {rows rows′ text text′ : List ℕ} {g : Fill} where
   -- kinds whose attributes may be missing
   module _ {x y : Value} (a : Absent x) (b : Absent y) where
-    pub node-done : RowPut doc (record { kind = 1; parent = p; word = 0 }) (c .values .name) x y f rows rows′ text text′ g → Opening doc 1 c p f rows rows′ text text′ (Answer.Done g)
+    pub node-done : RowPut doc (record { kind = kinds.node; parent = p; word = 0 }) (c .values .name) x y f rows rows′ text text′ g → Opening doc kinds.node c p f rows rows′ text text′ (Answer.Done g)
     unfolding opensAs
     node-done q =
         opened r (r .fits .values .name) (absent-fits r a) (absent-fits r b) q refl refl
@@ -140,13 +139,13 @@ module _ {doc : List ℕ} {c : StartTag} {f : Fill} (r : Ready doc c f) {p : ℕ
         opened r (r .fits .values .name) (r .fits .values .ty) (absent-fits r a) q refl refl
         (λ t z. (attr (bytes "name") t, attr (bytes "type") t, none, i .is p t, z .values .name, z .values .ty, a .kind))
 
-    pub enumvalue-done : RowPut doc (record { kind = 10; parent = p; word = 0 }) (c .values .suffix) (c .values .value) x f rows rows′ text text′ g → Opening doc 10 c p f rows rows′ text text′ (Answer.Done g)
+    pub enumvalue-done : RowPut doc (record { kind = kinds.enumvalue; parent = p; word = 0 }) (c .values .suffix) (c .values .value) x f rows rows′ text text′ g → Opening doc kinds.enumvalue c p f rows rows′ text text′ (Answer.Done g)
     unfolding opensAs
     enumvalue-done q =
         opened r (r .fits .values .suffix) (r .fits .values .value) (absent-fits r a) q refl refl
         (λ t z. (attr (bytes "suffix") t, attr (bytes "value") t, none, refl, z .values .suffix, z .values .value, a .kind))
 
-    pub annotation-done : (c .values .name .kind ≡ 0 → ⊥) → (c .values .value .kind ≡ 0 → ⊥) → RowPut doc (record { kind = 6; parent = p; word = 0 }) (c .values .name) (c .values .value) x f rows rows′ text text′ g → Opening doc 6 c p f rows rows′ text text′ (Answer.Done g)
+    pub annotation-done : (c .values .name .kind ≡ 0 → ⊥) → (c .values .value .kind ≡ 0 → ⊥) → RowPut doc (record { kind = kinds.annotation; parent = p; word = 0 }) (c .values .name) (c .values .value) x f rows rows′ text text′ g → Opening doc kinds.annotation c p f rows rows′ text text′ (Answer.Done g)
     unfolding opensAs
     annotation-done n v q =
         opened r (r .fits .values .name) (r .fits .values .value) (absent-fits r a) q refl refl
@@ -155,9 +154,9 @@ module _ {doc : List ℕ} {c : StartTag} {f : Fill} (r : Ready doc c f) {p : ℕ
         let w = there doc (bytes "value") t (z .values .value) v in
         (some (s .0), some (w .0), none, rw (s .1, w .1), s .2, w .2, a .kind))
 
-  pub part-done : RowPut doc (record { kind = 12; parent = p; word = 0 }) (c .values .name) (c .values .ty) (c .values .tp) f rows rows′ text text′ g → Opening doc 12 c p f rows rows′ text text′ (Answer.Done g)
+  pub member-done : RowPut doc (record { kind = kinds.member; parent = p; word = 0 }) (c .values .name) (c .values .ty) (c .values .tp) f rows rows′ text text′ g → Opening doc kinds.member c p f rows rows′ text text′ (Answer.Done g)
   unfolding opensAs
-  part-done q =
+  member-done q =
       opened r (r .fits .values .name) (r .fits .values .ty) (r .fits .values .tp) q refl refl
       (λ t z. (attr (bytes "name") t, attr (bytes "type") t, tpType (t .attrs), refl, z .values .name, z .values .ty, z .values .tp))
 
@@ -173,11 +172,11 @@ module _ {doc : List ℕ} {c : StartTag} {f : Fill} (r : Ready doc c f) {p : ℕ
       let s = there doc (bytes "name") t (z .values .name) n in
       i .is p t ∙ rw (s .1, sym (o .is (s .0) (s .2)) ∙ e) (ap (λ q. refuses (bare 13 q)) (sym (z .at))))
 
-  pub annotation-unnamed : c .values .name .kind ≡ 0 → Opening doc 6 c p f rows rows text text (Answer.Fault (bare 12 (c .at)))
+  pub annotation-unnamed : c .values .name .kind ≡ 0 → Opening doc kinds.annotation c p f rows rows text text (Answer.Fault (bare 12 (c .at)))
   unfolding opensAs
   annotation-unnamed e = refused r (λ t z. rw (missing doc (bytes "name") t (c .values .name) (z .values .name) e) (ap (λ q. refuses (bare 12 q)) (sym (z .at))))
 
-  pub annotation-unvalued : (c .values .name .kind ≡ 0 → ⊥) → c .values .value .kind ≡ 0 → Opening doc 6 c p f rows rows text text (Answer.Fault (bare 12 (c .at)))
+  pub annotation-unvalued : (c .values .name .kind ≡ 0 → ⊥) → c .values .value .kind ≡ 0 → Opening doc kinds.annotation c p f rows rows text text (Answer.Fault (bare 12 (c .at)))
   unfolding opensAs
   annotation-unvalued n e =
       refused r
@@ -214,12 +213,12 @@ accesses {doc} {v} n l = record { is = λ o h. let s = value-there doc v o h n i
 -- property: the tests in a row
 module _ {doc : List ℕ} {c : StartTag} {f : Fill} (r : Ready doc c f) {p : ℕ} where
   module _ {rows text : List ℕ} where
-    pub property-unnamed : c .values .name .kind ≡ 0 → Opening doc 4 c p f rows rows text text (Answer.Fault (bare 12 (c .at)))
+    pub property-unnamed : c .values .name .kind ≡ 0 → Opening doc kinds.property c p f rows rows text text (Answer.Fault (bare 12 (c .at)))
     unfolding opensAs
     property-unnamed e = refused r (λ t z. rw (missing doc (bytes "name") t (c .values .name) (z .values .name) e) (ap (λ q. refuses (bare 12 q)) (sym (z .at))))
 
   module _ (n : c .values .name .kind ≡ 0 → ⊥) {o : Bool} (i : Tests propertyName doc (c .values .name) o) where
-    pub property-bad : {rows text : List ℕ} → not o ≡ true → Opening doc 4 c p f rows rows text text (Answer.Fault (bare 13 (c .at)))
+    pub property-bad : {rows text : List ℕ} → not o ≡ true → Opening doc kinds.property c p f rows rows text text (Answer.Fault (bare 13 (c .at)))
     unfolding opensAs
     property-bad e =
         refused r
@@ -228,7 +227,7 @@ module _ {doc : List ℕ} {c : StartTag} {f : Fill} (r : Ready doc c f) {p : ℕ
         rw (s .1, sym (i .is (s .0) (s .2)) ∙ not-true o e) (ap (λ q. refuses (bare 13 q)) (sym (z .at))))
 
   module _ (h : PropertyNamed doc c) where
-    pub property-untyped : {rows text : List ℕ} → c .values .ty .kind ≡ 0 → Opening doc 4 c p f rows rows text text (Answer.Fault (bare 12 (c .at)))
+    pub property-untyped : {rows text : List ℕ} → c .values .ty .kind ≡ 0 → Opening doc kinds.property c p f rows rows text text (Answer.Fault (bare 12 (c .at)))
     unfolding opensAs
     property-untyped e =
         refused r
@@ -237,7 +236,7 @@ module _ {doc : List ℕ} {c : StartTag} {f : Fill} (r : Ready doc c f) {p : ℕ
         rw (s .1, s .3, missing doc (bytes "type") t (c .values .ty) (z .values .ty) e) (ap (λ q. refuses (bare 12 q)) (sym (z .at))))
 
     module _ (m : c .values .ty .kind ≡ 0 → ⊥) {y : Bool} (j : Tests signature doc (c .values .ty) y) where
-      pub property-unsigned : {rows text : List ℕ} → not y ≡ true → Opening doc 4 c p f rows rows text text (Answer.Fault (bare 14 (c .at)))
+      pub property-unsigned : {rows text : List ℕ} → not y ≡ true → Opening doc kinds.property c p f rows rows text text (Answer.Fault (bare 14 (c .at)))
       unfolding opensAs
       property-unsigned e =
           refused r
@@ -248,7 +247,7 @@ module _ {doc : List ℕ} {c : StartTag} {f : Fill} (r : Ready doc c f) {p : ℕ
 
       module _ (x : not y ≡ false) where
         module _ {word : ℕ} (l : Accesses doc (c .values .access) word) where
-          pub property-unaccessed : {rows text : List ℕ} → word ≡ 4 → Opening doc 4 c p f rows rows text text (Answer.Fault (bare 12 (c .at)))
+          pub property-unaccessed : {rows text : List ℕ} → word ≡ 4 → Opening doc kinds.property c p f rows rows text text (Answer.Fault (bare 12 (c .at)))
           unfolding opensAs
           property-unaccessed e =
               refused r
@@ -258,7 +257,7 @@ module _ {doc : List ℕ} {c : StartTag} {f : Fill} (r : Ready doc c f) {p : ℕ
               rw (s .1, s .3, w .1, sym (j .is (w .0) (w .2)) ∙ not-false y x, access-missing (attr (bytes "access") t) (sym (l .is (attr (bytes "access") t) (z .values .access)) ∙ e))
               (ap (λ q. refuses (bare 12 q)) (sym (z .at))))
 
-          pub property-inaccessible : {rows text : List ℕ} → word ≡ 0 → Opening doc 4 c p f rows rows text text (Answer.Fault (bare 15 (c .end)))
+          pub property-inaccessible : {rows text : List ℕ} → word ≡ 0 → Opening doc kinds.property c p f rows rows text text (Answer.Fault (bare 15 (c .end)))
           unfolding opensAs
           property-inaccessible e =
               refused r
@@ -269,7 +268,7 @@ module _ {doc : List ℕ} {c : StartTag} {f : Fill} (r : Ready doc c f) {p : ℕ
               rw (s .1, s .3, w .1, sym (j .is (w .0) (w .2)) ∙ not-false y x, v .1, ← v .2, ← l .is (attr (bytes "access") t) (z .values .access), e)
               (ap (λ q. refuses (bare 15 q)) (sym (z .end))))
 
-          pub property-done : {rows rows′ text text′ : List ℕ} {g : Fill} → (word ≡ 4 → ⊥) → (word ≡ 0 → ⊥) → RowPut doc (record { kind = 4; parent = p; word = word }) (c .values .name) (c .values .ty) (c .values .tp) f rows rows′ text text′ g → Opening doc 4 c p f rows rows′ text text′ (Answer.Done g)
+          pub property-done : {rows rows′ text text′ : List ℕ} {g : Fill} → (word ≡ 4 → ⊥) → (word ≡ 0 → ⊥) → RowPut doc (record { kind = kinds.property; parent = p; word = word }) (c .values .name) (c .values .ty) (c .values .tp) f rows rows′ text text′ g → Opening doc kinds.property c p f rows rows′ text text′ (Answer.Done g)
           unfolding opensAs
           property-done n e q =
               opened r (r .fits .values .name) (r .fits .values .ty) (r .fits .values .tp) q refl refl
@@ -327,12 +326,12 @@ direction-good t (some s) k e = go (eqb (directionOf (s .value)) 0) refl e
     go false h e = rw h
 
 module _ {doc : List ℕ} {c : StartTag} {f : Fill} (r : Ready doc c f) where
-  pub arg-untyped : {p : ℕ} {rows text : List ℕ} → c .values .ty .kind ≡ 0 → Opening doc 7 c p f rows rows text text (Answer.Fault (bare 12 (c .at)))
+  pub arg-untyped : {p : ℕ} {rows text : List ℕ} → c .values .ty .kind ≡ 0 → Opening doc kinds.arg c p f rows rows text text (Answer.Fault (bare 12 (c .at)))
   unfolding opensAs
   arg-untyped e = refused r (λ t z. rw (missing doc (bytes "type") t (c .values .ty) (z .values .ty) e) (ap (λ q. refuses (bare 12 q)) (sym (z .at))))
 
   module _ (m : c .values .ty .kind ≡ 0 → ⊥) {y : Bool} (j : Tests signature doc (c .values .ty) y) where
-    pub arg-unsigned : {p : ℕ} {rows text : List ℕ} → not y ≡ true → Opening doc 7 c p f rows rows text text (Answer.Fault (bare 14 (c .at)))
+    pub arg-unsigned : {p : ℕ} {rows text : List ℕ} → not y ≡ true → Opening doc kinds.arg c p f rows rows text text (Answer.Fault (bare 14 (c .at)))
     unfolding opensAs
     arg-unsigned e =
         refused r
@@ -341,21 +340,21 @@ module _ {doc : List ℕ} {c : StartTag} {f : Fill} (r : Ready doc c f) where
         rw (w .1, sym (j .is (w .0) (w .2)) ∙ not-true y e) (ap (λ q. refuses (bare 14 q)) (sym (z .at))))
 
     module _ (x : not y ≡ false) {word : ℕ} (l : Directs doc (c .values .direction) word) where
-      typed : (p : ℕ) (t : Tag) → TagIs doc c t → (w : Shown) × Held doc (c .values .ty) w × (opensAs whole 7 p t ≡ directed whole (attr (bytes "direction") t) t (λ d. opens (row whole 7 p (attr (bytes "name") t) (some w) (tpType (t .attrs)) d)))
+      typed : (p : ℕ) (t : Tag) → TagIs doc c t → (w : Shown) × Held doc (c .values .ty) w × (opensAs whole kinds.arg p t ≡ directed whole (attr (bytes "direction") t) t (λ d. opens (row whole kinds.arg p (attr (bytes "name") t) (some w) (tpType (t .attrs)) d)))
       unfolding opensAs
       typed p t z =
           let w = there doc (bytes "type") t (z .values .ty) m in
           (w .0, w .2, rw (w .1, sym (j .is (w .0) (w .2)) ∙ not-false y x))
 
-      pub arg-undirected : {p : ℕ} {rows text : List ℕ} → word ≡ 3 → Opening doc 7 c p f rows rows text text (Answer.Fault (bare 16 (c .end)))
+      pub arg-undirected : {p : ℕ} {rows text : List ℕ} → word ≡ 3 → Opening doc kinds.arg c p f rows rows text text (Answer.Fault (bare 16 (c .end)))
       arg-undirected {p} e =
           refused r
           (λ t z.
           typed p t z .2
-          ∙ direction-bad t (attr (bytes "direction") t) (λ d. opens (row whole 7 p (attr (bytes "name") t) (some (typed p t z .0)) (tpType (t .attrs)) d)) (sym (l .is (attr (bytes "direction") t) (z .values .direction)) ∙ e)
+          ∙ direction-bad t (attr (bytes "direction") t) (λ d. opens (row whole kinds.arg p (attr (bytes "name") t) (some (typed p t z .0)) (tpType (t .attrs)) d)) (sym (l .is (attr (bytes "direction") t) (z .values .direction)) ∙ e)
           ∙ ap (λ q. refuses (bare 16 q)) (sym (z .end)))
 
-      pub arg-done : {p : ℕ} {rows rows′ text text′ : List ℕ} {g : Fill} → (word ≡ 3 → ⊥) → RowPut doc (record { kind = 7; parent = p; word = word }) (c .values .name) (c .values .ty) (c .values .tp) f rows rows′ text text′ g → Opening doc 7 c p f rows rows′ text text′ (Answer.Done g)
+      pub arg-done : {p : ℕ} {rows rows′ text text′ : List ℕ} {g : Fill} → (word ≡ 3 → ⊥) → RowPut doc (record { kind = kinds.arg; parent = p; word = word }) (c .values .name) (c .values .ty) (c .values .tp) f rows rows′ text text′ g → Opening doc kinds.arg c p f rows rows′ text text′ (Answer.Done g)
       arg-done {p} e q =
           opened r (r .fits .values .name) (r .fits .values .ty) (r .fits .values .tp) q refl refl
           (λ t z.
@@ -364,8 +363,8 @@ module _ {doc : List ℕ} {c : StartTag} {f : Fill} (r : Ready doc c f) where
             some (typed p t z .0),
             tpType (t .attrs),
             typed p t z .2
-                ∙ direction-good t (attr (bytes "direction") t) (λ d. opens (row whole 7 p (attr (bytes "name") t) (some (typed p t z .0)) (tpType (t .attrs)) d)) (λ i. e (h ∙ i))
-                ∙ ap (λ d. opens (row whole 7 p (attr (bytes "name") t) (some (typed p t z .0)) (tpType (t .attrs)) d)) (sym h),
+                ∙ direction-good t (attr (bytes "direction") t) (λ d. opens (row whole kinds.arg p (attr (bytes "name") t) (some (typed p t z .0)) (tpType (t .attrs)) d)) (λ i. e (h ∙ i))
+                ∙ ap (λ d. opens (row whole kinds.arg p (attr (bytes "name") t) (some (typed p t z .0)) (tpType (t .attrs)) d)) (sym h),
             z .values .name,
             typed p t z .1,
             z .values .tp,
@@ -387,4 +386,4 @@ pub ruleset properties = (lies-name, lies-ty, lies-access, typed-fits, property-
 
 pub ruleset args = (lies-ty, lies-direction, typed-fits, directs-none, directs-bad, directs, arg-untyped, arg-unsigned, arg-undirected, arg-done, needs)
 
-pub ruleset elements = (lies-name, interface-kind, row-fits, absent-fits, node-done, untyped-done, named-done, typed-done, enumvalue-done, annotation-done, part-done, named-missing, named-bad, annotation-unnamed, annotation-unvalued, needs)
+pub ruleset elements = (lies-name, interface-kind, row-fits, absent-fits, node-done, untyped-done, named-done, typed-done, enumvalue-done, annotation-done, member-done, named-missing, named-bad, annotation-unnamed, annotation-unvalued, needs)

@@ -4,12 +4,13 @@ use document::Fill;
 use document::Refusal;
 use document::StartTag;
 use document::Value;
+use document::kinds;
 use rows::Head;
 ghost use mathlib.Core.Path.{_≡_};
 ghost use Prim.Native.Nat.{_≤_, _<_};
 ghost use Rattle.names.specs.Names.{memberName};
-ghost use Rattle.document.specs.Outcome.{Ready, Opening};
-ghost use Rattle.rows.specs.Outcome.{Lies};
+ghost use Rattle.document.specs.Kinds as kinds;
+ghost use Rattle.document.specs.Outcome.{Lies, Ready, Opening};
 ghost use Rattle.elements.specs.Outcome.{Absent, Accesses, Directs, PropertyNamed, NamedKind, TypedKind, UntypedKind};
 
 // A value that is not there.
@@ -33,10 +34,10 @@ pub fn node_row(
     f: Fill,
 ) -> Answer
     requires { ⌜ Ready (now doc) c f ⌝ ∗ ⌜ parent ≤ 1048576 ⌝ }
-    ensures { λ r. ⌜ Opening (now (doc .entry)) 1 c parent f (now (rows .entry)) (now (rows .exit)) (now (text .entry)) (now (text .exit)) r ⌝ }
+    ensures { λ r. ⌜ Opening (now (doc .entry)) kinds.node c parent f (now (rows .entry)) (now (rows .exit)) (now (text .entry)) (now (text .exit)) r ⌝ }
 {
     let head = Head {
-        kind: 1,
+        kind: kinds::NODE,
         parent,
         word: 0,
     };
@@ -53,7 +54,7 @@ pub fn interface_row(
     f: Fill,
 ) -> Answer
     requires { ⌜ Ready (now doc) c f ⌝ ∗ ⌜ parent ≤ 1048576 ⌝ }
-    ensures { λ r. ⌜ Opening (now (doc .entry)) 2 c parent f (now (rows .entry)) (now (rows .exit)) (now (text .entry)) (now (text .exit)) r ⌝ }
+    ensures { λ r. ⌜ Opening (now (doc .entry)) kinds.interface c parent f (now (rows .entry)) (now (rows .exit)) (now (text .entry)) (now (text .exit)) r ⌝ }
 {
     let name = c.values.name;
     if name.kind == 0 {
@@ -62,9 +63,9 @@ pub fn interface_row(
             place: c.at,
         });
     }
-    if rows::shown_interface(doc, name) {
+    if shown::interface_name(doc, name) {
         let head = Head {
-            kind: 2,
+            kind: kinds::INTERFACE,
             parent,
             word: 0,
         };
@@ -77,7 +78,7 @@ pub fn interface_row(
 }
 
 // A method or a signal: name there, name good.
-pub fn member_row(
+pub fn callable_row(
     doc: &[u8],
     rows: &mut [u32],
     text: &mut [u8],
@@ -96,7 +97,7 @@ pub fn member_row(
             place: c.at,
         });
     }
-    if rows::shown_member(doc, name) {
+    if shown::member_name(doc, name) {
         let head = Head {
             kind,
             parent,
@@ -120,7 +121,7 @@ pub fn annotation_row(
     f: Fill,
 ) -> Answer
     requires { ⌜ Ready (now doc) c f ⌝ ∗ ⌜ parent ≤ 1048576 ⌝ }
-    ensures { λ r. ⌜ Opening (now (doc .entry)) 6 c parent f (now (rows .entry)) (now (rows .exit)) (now (text .entry)) (now (text .exit)) r ⌝ }
+    ensures { λ r. ⌜ Opening (now (doc .entry)) kinds.annotation c parent f (now (rows .entry)) (now (rows .exit)) (now (text .entry)) (now (text .exit)) r ⌝ }
 {
     let name = c.values.name;
     let value = c.values.value;
@@ -137,7 +138,7 @@ pub fn annotation_row(
         });
     }
     let head = Head {
-        kind: 6,
+        kind: kinds::ANNOTATION,
         parent,
         word: 0,
     };
@@ -158,7 +159,7 @@ pub fn typed_row(
     ensures { λ r. ⌜ Opening (now (doc .entry)) kind c parent f (now (rows .entry)) (now (rows .exit)) (now (text .entry)) (now (text .exit)) r ⌝ }
 {
     let head = Head {
-        kind: kind,
+        kind,
         parent,
         word: 0,
     };
@@ -188,7 +189,7 @@ pub fn untyped_row(
     ensures { λ r. ⌜ Opening (now (doc .entry)) kind c parent f (now (rows .entry)) (now (rows .exit)) (now (text .entry)) (now (text .exit)) r ⌝ }
 {
     let head = Head {
-        kind: kind,
+        kind,
         parent,
         word: 0,
     };
@@ -205,10 +206,10 @@ pub fn enumvalue_row(
     f: Fill,
 ) -> Answer
     requires { ⌜ Ready (now doc) c f ⌝ ∗ ⌜ parent ≤ 1048576 ⌝ }
-    ensures { λ r. ⌜ Opening (now (doc .entry)) 10 c parent f (now (rows .entry)) (now (rows .exit)) (now (text .entry)) (now (text .exit)) r ⌝ }
+    ensures { λ r. ⌜ Opening (now (doc .entry)) kinds.enumvalue c parent f (now (rows .entry)) (now (rows .exit)) (now (text .entry)) (now (text .exit)) r ⌝ }
 {
     let head = Head {
-        kind: 10,
+        kind: kinds::ENUMVALUE,
         parent,
         word: 0,
     };
@@ -224,8 +225,8 @@ pub fn enumvalue_row(
     ))
 }
 
-// A member: name, type and tp type, which may be missing.
-pub fn part_row(
+// A member of a struct or a mapping: name, type and tp type, which may be missing.
+pub fn member_row(
     doc: &[u8],
     rows: &mut [u32],
     text: &mut [u8],
@@ -234,10 +235,10 @@ pub fn part_row(
     f: Fill,
 ) -> Answer
     requires { ⌜ Ready (now doc) c f ⌝ ∗ ⌜ parent ≤ 1048576 ⌝ }
-    ensures { λ r. ⌜ Opening (now (doc .entry)) 12 c parent f (now (rows .entry)) (now (rows .exit)) (now (text .entry)) (now (text .exit)) r ⌝ }
+    ensures { λ r. ⌜ Opening (now (doc .entry)) kinds.member c parent f (now (rows .entry)) (now (rows .exit)) (now (text .entry)) (now (text .exit)) r ⌝ }
 {
     let head = Head {
-        kind: 12,
+        kind: kinds::MEMBER,
         parent,
         word: 0,
     };
@@ -263,7 +264,7 @@ pub fn property_row(
     f: Fill,
 ) -> Answer
     requires { ⌜ Ready (now doc) c f ⌝ ∗ ⌜ parent ≤ 1048576 ⌝ }
-    ensures { λ r. ⌜ Opening (now (doc .entry)) 4 c parent f (now (rows .entry)) (now (rows .exit)) (now (text .entry)) (now (text .exit)) r ⌝ }
+    ensures { λ r. ⌜ Opening (now (doc .entry)) kinds.property c parent f (now (rows .entry)) (now (rows .exit)) (now (text .entry)) (now (text .exit)) r ⌝ }
 {
     let v = c.values;
     if v.name.kind == 0 {
@@ -272,7 +273,7 @@ pub fn property_row(
             place: c.at,
         });
     }
-    if !rows::shown_property(doc, v.name) {
+    if !shown::property_name(doc, v.name) {
         return Answer::Fault(Refusal {
             number: 13,
             place: c.at,
@@ -291,7 +292,7 @@ fn accessed_row(
     f: Fill,
 ) -> Answer
     requires { ⌜ Ready (now doc) c f ⌝ ∗ ⌜ parent ≤ 1048576 ⌝ ∗ ⌜ PropertyNamed (now doc) c ⌝ }
-    ensures { λ r. ⌜ Opening (now (doc .entry)) 4 c parent f (now (rows .entry)) (now (rows .exit)) (now (text .entry)) (now (text .exit)) r ⌝ }
+    ensures { λ r. ⌜ Opening (now (doc .entry)) kinds.property c parent f (now (rows .entry)) (now (rows .exit)) (now (text .entry)) (now (text .exit)) r ⌝ }
 {
     let v = c.values;
     if v.ty.kind == 0 {
@@ -300,7 +301,7 @@ fn accessed_row(
             place: c.at,
         });
     }
-    if !rows::shown_signature(doc, v.ty) {
+    if !shown::signature(doc, v.ty) {
         return Answer::Fault(Refusal {
             number: 14,
             place: c.at,
@@ -320,7 +321,7 @@ fn accessed_row(
         });
     }
     let head = Head {
-        kind: 4,
+        kind: kinds::PROPERTY,
         parent,
         word,
     };
@@ -335,7 +336,7 @@ fn access_word(doc: &[u8], v: Value) -> u32
     if v.kind == 0 {
         return 4;
     }
-    rows::shown_access(doc, v)
+    shown::access(doc, v)
 }
 
 // The number of an arg's direction: 0 if it has none, 3 if it is neither `in` nor `out`.
@@ -346,7 +347,7 @@ fn direction_word(doc: &[u8], v: Value) -> u32
     if v.kind == 0 {
         return 0;
     }
-    let word = rows::shown_direction(doc, v);
+    let word = shown::direction(doc, v);
     if word == 0 {
         return 3;
     }
@@ -363,7 +364,7 @@ pub fn arg_row(
     f: Fill,
 ) -> Answer
     requires { ⌜ Ready (now doc) c f ⌝ ∗ ⌜ parent ≤ 1048576 ⌝ }
-    ensures { λ r. ⌜ Opening (now (doc .entry)) 7 c parent f (now (rows .entry)) (now (rows .exit)) (now (text .entry)) (now (text .exit)) r ⌝ }
+    ensures { λ r. ⌜ Opening (now (doc .entry)) kinds.arg c parent f (now (rows .entry)) (now (rows .exit)) (now (text .entry)) (now (text .exit)) r ⌝ }
 {
     let v = c.values;
     if v.ty.kind == 0 {
@@ -372,7 +373,7 @@ pub fn arg_row(
             place: c.at,
         });
     }
-    if !rows::shown_signature(doc, v.ty) {
+    if !shown::signature(doc, v.ty) {
         return Answer::Fault(Refusal {
             number: 14,
             place: c.at,
@@ -386,7 +387,7 @@ pub fn arg_row(
         });
     }
     let head = Head {
-        kind: 7,
+        kind: kinds::ARG,
         parent,
         word,
     };

@@ -8,15 +8,15 @@ use borrow.Author.Needs.{needs}
 use borrow.Author.Tests.{eq-eqb, ne-eqb, eqb-true}
 use lib.Dec.{eqb}
 use Rattle.slices.specs.Bytes.{if}
+use Rattle.document.specs.Kinds.{simpleType, enum, struct, mapping, definitions, inInterface}
 use Rattle.document.specs.Elements.{among}
 use Rattle.document.specs.Outcome.{Lent, Begins, Child}
 use Rattle.document.specs.declared.StartTag.{StartTag}
 use Rattle.document.specs.declared.Fill.{Fill}
 use Rattle.document.specs.declared.Answer.{Answer}
-use Rattle.document.proofs.Loops.{child-begins}
-use Rattle.document.proofs.Openings.{definitions}
+use Rattle.document.proofs.Loops.{child-begins, partsAndDocstring}
 use Rattle.telepathy.specs.Outcome.{DefinitionKind}
-use Rattle.members.proofs.Members.{NoneOf, none-more, child-else, child-parent, child-taken, method-member, signal-member}
+use Rattle.members.proofs.Members.{NoneOf, none-more, child-else, child-parent, child-taken, method-callable, signal-callable}
 use Rattle.interfaces.specs.Among.{Among}
 
 -- one of these kinds, looked for from the first on
@@ -56,7 +56,7 @@ holds-more {x} h = record { is = λ k e. rw (h .is k e) (always (eqb k x)) }
     always true = refl
     always false = refl
 
-pub interface-holds : HoldsDefinitions (3 ∷ 4 ∷ 5 ∷ 6 ∷ definitions)
+pub interface-holds : HoldsDefinitions inInterface
 interface-holds = holds-more (holds-more (holds-more (holds-more holds-definitions)))
 
 -- what holds of each of these kinds
@@ -68,16 +68,16 @@ pick P k x ks h rest e = go (eqb k x) refl e
     go false q e = rest e
 
 abbrev NoPart : ℕ → Type 0
-NoPart k = among k (10 ∷ 12 ∷ 14 ∷ []) ≡ false
+NoPart k = among k partsAndDocstring ≡ false
 
-no-part : (k : ℕ) → among k definitions ≡ true → among k (10 ∷ 12 ∷ 14 ∷ []) ≡ false
+no-part : (k : ℕ) → among k definitions ≡ true → among k partsAndDocstring ≡ false
 no-part k =
-    pick NoPart k 8 (9 ∷ 11 ∷ 13 ∷ []) refl
-    (pick NoPart k 9 (11 ∷ 13 ∷ []) refl
-    (pick NoPart k 11 (13 ∷ []) refl
-    (pick NoPart k 13 [] refl (λ e. cc))))
+    pick NoPart k simpleType (enum ∷ struct ∷ mapping ∷ []) refl
+    (pick NoPart k enum (struct ∷ mapping ∷ []) refl
+    (pick NoPart k struct (mapping ∷ []) refl
+    (pick NoPart k mapping [] refl (λ e. cc))))
 
 pub child-definition : {doc hs : List ℕ} {docs : Bool} {c : StartTag} {i : ℕ} {f : Fill} {b b′ : Lent} {t : Bool} {r : Answer} → i < f .rows → HoldsDefinitions hs → Among (c .kind) definitions t → t ≡ true → Begins doc (c .kind) c (i + 1) f b b′ r → Child doc hs docs c i f b b′ r
 child-definition {c = c} l d a e h = let y = sym (a .is) ∙ e in child-begins l refl (d .is (c .kind) y) (no-part (c .kind) y) h
 
-pub ruleset interfaces = (child-definition, interface-holds, definition-kind, among-none, method-member, signal-member, child-taken, child-begins, none-more, child-else, child-parent, needs)
+pub ruleset interfaces = (child-definition, interface-holds, definition-kind, among-none, method-callable, signal-callable, child-taken, child-begins, none-more, child-else, child-parent, needs)

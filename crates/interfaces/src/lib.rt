@@ -4,34 +4,35 @@ use document::Fill;
 use document::Next;
 use document::Refusal;
 use document::StartTag;
+use document::kinds;
 use members::annotation;
-use members::member;
+use members::callable;
 use members::property;
 use skip::docstring_or_skip;
 use tags::step;
 use telepathy::definition;
 ghost use Prim.Native.Nat.{_+_, _≤_, _<_};
-ghost use mathlib.Core.List.{[], _∷_};
 ghost use mathlib.Core.Bool.{true};
 ghost use lib.ListN.{length};
 ghost use Rattle.scan.specs.Classes.{Classes};
+ghost use Rattle.document.specs.Kinds as kinds;
 ghost use Rattle.document.specs.Outcome.{lent, Bounded, Ready, Begins, Child, Children};
 ghost use Rattle.interfaces.specs.Among.{Among};
 
 // Whether an element of this kind is a definition: simple-type, enum, struct or mapping.
 pub fn is_definition(kind: u32) -> bool
-    ensures { λ r. ⌜ Among kind (8 ∷ 9 ∷ 11 ∷ 13 ∷ []) r ⌝ }
+    ensures { λ r. ⌜ Among kind kinds.definitions r ⌝ }
 {
-    if kind == 8 {
+    if kind == kinds::SIMPLE_TYPE {
         return true;
     }
-    if kind == 9 {
+    if kind == kinds::ENUM {
         return true;
     }
-    if kind == 11 {
+    if kind == kinds::STRUCT {
         return true;
     }
-    kind == 13
+    kind == kinds::MAPPING
 }
 
 // A child of an interface with row i.
@@ -46,13 +47,23 @@ fn interface_child(
     f: Fill,
 ) -> Answer
     requires { ⌜ Ready (now doc) c f ⌝ ∗ ⌜ i < f .rows ⌝ ∗ ⌜ Classes (now classes) ⌝ }
-    ensures { λ r. ⌜ Child (now (doc .entry)) (3 ∷ 4 ∷ 5 ∷ 6 ∷ 8 ∷ 9 ∷ 11 ∷ 13 ∷ []) true c i f (lent (now (rows .entry)) (now (warnings .entry)) (now (text .entry))) (lent (now (rows .exit)) (now (warnings .exit)) (now (text .exit))) r ⌝ }
+    ensures { λ r. ⌜ Child (now (doc .entry)) kinds.inInterface true c i f (lent (now (rows .entry)) (now (warnings .entry)) (now (text .entry))) (lent (now (rows .exit)) (now (warnings .exit)) (now (text .exit))) r ⌝ }
 {
     let kind = c.kind;
-    if kind == 3 {
-        return member(doc, classes, rows, warnings, text, c, 3, i + 1, f);
+    if kind == kinds::METHOD {
+        return callable(
+            doc,
+            classes,
+            rows,
+            warnings,
+            text,
+            c,
+            kinds::METHOD,
+            i + 1,
+            f,
+        );
     }
-    if kind == 4 {
+    if kind == kinds::PROPERTY {
         // by its parts: a copy of the whole answer is a delay for each
         match property(doc, classes, rows, warnings, text, c, i + 1, f) {
             Answer::Fault(refusal) => {
@@ -66,10 +77,20 @@ fn interface_child(
             }
         }
     }
-    if kind == 5 {
-        return member(doc, classes, rows, warnings, text, c, 5, i + 1, f);
+    if kind == kinds::SIGNAL {
+        return callable(
+            doc,
+            classes,
+            rows,
+            warnings,
+            text,
+            c,
+            kinds::SIGNAL,
+            i + 1,
+            f,
+        );
     }
-    if kind == 6 {
+    if kind == kinds::ANNOTATION {
         return annotation(doc, classes, rows, warnings, text, c, i + 1, f);
     }
     if is_definition(kind) {
@@ -91,7 +112,7 @@ fn interface_children(
     f: Fill,
 ) -> Answer
     requires { ⌜ Bounded (now doc) f ⌝ ∗ ⌜ i < f .rows ⌝ ∗ ⌜ at + len ≤ length (now doc) ⌝ ∗ ⌜ Classes (now classes) ⌝ }
-    ensures { λ r. ⌜ Children (now (doc .entry)) (3 ∷ 4 ∷ 5 ∷ 6 ∷ 8 ∷ 9 ∷ 11 ∷ 13 ∷ []) true at len i f (lent (now (rows .entry)) (now (warnings .entry)) (now (text .entry))) (lent (now (rows .exit)) (now (warnings .exit)) (now (text .exit))) r ⌝ }
+    ensures { λ r. ⌜ Children (now (doc .entry)) kinds.inInterface true at len i f (lent (now (rows .entry)) (now (warnings .entry)) (now (text .entry))) (lent (now (rows .exit)) (now (warnings .exit)) (now (text .exit))) r ⌝ }
 {
     let mut g = f;
     loop {
@@ -100,20 +121,10 @@ fn interface_children(
                 return Answer::Fault(refusal);
             }
             Next::Close(_, end) => {
-                return Answer::Done(Fill {
-                    at: end,
-                    rows: g.rows,
-                    warnings: g.warnings,
-                    text: g.text,
-                });
+                return Answer::Done(g.moved(end));
             }
             Next::Start(c) => {
-                let h = Fill {
-                    at: c.end,
-                    rows: g.rows,
-                    warnings: g.warnings,
-                    text: g.text,
-                };
+                let h = g.moved(c.end);
                 match interface_child(doc, classes, rows, warnings, text, c, i, h) {
                     Answer::Fault(refusal) => {
                         return Answer::Fault(Refusal {
@@ -142,7 +153,7 @@ pub fn interface(
     f: Fill,
 ) -> Answer
     requires { ⌜ Ready (now doc) c f ⌝ ∗ ⌜ parent ≤ 1048576 ⌝ ∗ ⌜ Classes (now classes) ⌝ }
-    ensures { λ r. ⌜ Begins (now (doc .entry)) 2 c parent f (lent (now (rows .entry)) (now (warnings .entry)) (now (text .entry))) (lent (now (rows .exit)) (now (warnings .exit)) (now (text .exit))) r ⌝ }
+    ensures { λ r. ⌜ Begins (now (doc .entry)) kinds.interface c parent f (lent (now (rows .entry)) (now (warnings .entry)) (now (text .entry))) (lent (now (rows .exit)) (now (warnings .exit)) (now (text .exit))) r ⌝ }
 {
     match elements::interface_row(doc, rows, text, c, parent, f) {
         Answer::Fault(refusal) => Answer::Fault(refusal),

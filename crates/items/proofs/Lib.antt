@@ -1,3 +1,5 @@
 -- Laws of the definitions.
 -- Assumes nothing.
 pub mod Rows
+pub mod Children
+pub mod Words

@@ -5,14 +5,15 @@ use mathlib.Core.Path.{_≡_, refl, sym, ap, _∙_}
 use mathlib.Core.List.{List, [], _∷_}
 use mathlib.Core.Bool.{Bool, true, false, _&&_}
 use borrow.Author.Tests.{eqb-true, leb-true, ltb-false}
-use native.Mathlib.Nat.{add-zero, zero-add, add-suc, div-mul-le-self}
+use native.Mathlib.Nat.{add-zero, zero-add, div-mul-le-self}
 use native.Mathlib.Omega.{arith}
 use lib.Dec.{eqb, leb, ltb}
 use lib.ListN.{length, drop, getD}
 use lib.Seq.{drop-drop, drop-nil, getD-drop}
 use Rattle.slices.specs.Bytes.{if}
+use Rattle.document.specs.Kinds as kinds
 use Rattle.document.specs.Elements.{mayHold}
-use Rattle.items.specs.Words.{RowWords, tripleAt, rowOf, rowsOf}
+use Rattle.items.specs.Words.{RowWords, rowOf, rowsOf}
 use Rattle.items.specs.Sound.{kindAt, placed, goodTriple, nameUse, valueUse, tpUse, docUse, validName, validValue, anyText, inDocument, validWord, soundRow, firstBad, sound, unsound, soundness}
 
 -- ---- the row at a place
@@ -42,12 +43,6 @@ rows-past (suc n) ws = rows-past n (drop 16 ws)
 pub row-word : (i k : ℕ) (ws : List ℕ) → getD (drop (i * 16) ws) k 0 ≡ getD ws (i * 16 + k) 0
 row-word i k ws = getD-drop (i * 16) ws k 0
 
-pub row-kind : (i : ℕ) (ws : List ℕ) → getD (drop (i * 16) ws) 0 0 ≡ getD ws (i * 16) 0
-row-kind i ws = row-word i 0 ws ∙ rw add-zero
-
-pub row-triple : (i k : ℕ) (ws : List ℕ) → tripleAt k (drop (i * 16) ws) ≡ tripleAt (i * 16 + k) ws
-row-triple i k ws = rw (row-word i k ws, row-word i (suc k) ws, row-word i (suc (suc k)) ws, add-suc (i * 16) (suc k), add-suc (i * 16) k)
-
 pub kind-at : (n i : ℕ) (ws : List ℕ) → i < n → kindAt (rowsOf n ws) i ≡ getD ws (i * 16) 0
 kind-at zero i ws h = absurd (omega arith)
 kind-at (suc n) zero ws h = refl
@@ -62,7 +57,7 @@ both-true true b e = (refl, e)
 both-true false b e = (cc, cc)
 
 before-it : (rows : List RowWords) (i : ℕ) (r : RowWords) → placed rows i r ≡ true → r .parent ≤ i
-before-it rows zero r e = omega (arith, eqb-true (r .parent) 0 (both-true (eqb (r .kind) 1) (eqb (r .parent) 0) e .1))
+before-it rows zero r e = omega (arith, eqb-true (r .parent) 0 (both-true (eqb (r .kind) kinds.node) (eqb (r .parent) 0) e .1))
 before-it rows (suc i) r e =
     let p = both-true (ltb 0 (r .parent) && leb (r .parent) (suc i)) (mayHold (kindAt rows (r .parent - 1)) (r .kind)) e in
     leb-true (r .parent) (suc i) (both-true (ltb 0 (r .parent)) (leb (r .parent) (suc i)) (p .0) .1)

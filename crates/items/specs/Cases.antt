@@ -9,8 +9,8 @@ use Rattle.utf8.specs.WellFormed.{sequence, illFormed}
 use Rattle.names.specs.Names.{interfaceName, memberName}
 use Rattle.names.specs.Signature.{signature}
 use Rattle.tables.specs.Triple.{shown}
+use Rattle.answers.specs.Text.{Text, text, wrong}
 use Rattle.references.specs.Escape.{escape}
-use Rattle.references.specs.Unescape.{Text, text, wrong}
 use Rattle.document.specs.Elements.{mayHold}
 use Rattle.items.specs.Sound.{goodTriple, soundRow, Soundness, sound, unsound, soundness}
 use Rattle.items.specs.Written.{tag, closingTag}

@@ -3,12 +3,12 @@
 use Prim.Native.Nat.{ℕ, zero, suc}
 use mathlib.Core.List.{List, [], _∷_}
 use mathlib.Core.Option.{Option, none, some}
-use mathlib.Core.Bool.{Bool, _&&_}
 use lib.Dec.{eqb}
 use lib.ListN.{drop}
 use Rattle.slices.specs.Bytes.{if}
+use Rattle.document.specs.Kinds as kinds
 use Rattle.document.specs.Rows as tables
-use Rattle.items.specs.Words.{rowsShown}
+use Rattle.items.specs.Words.{isChild, rowsShown}
 use Rattle.items.specs.Written.{Annotation, Arg, Direction, no-direction, inward, outward, Member, Item, annotated, argument, method, signal}
 
 -- a row with the bytes that it shows
@@ -24,16 +24,12 @@ direction zero = no-direction
 direction (suc zero) = inward
 direction (suc (suc n)) = outward
 
--- a row of kind k whose parent's row plus one is p
-abbrev pub childOf : ℕ → ℕ → Row → Bool
-childOf k p r = eqb (r .kind) k && eqb (r .parent) p
-
 abbrev pub annotationOf : Row → Annotation
 annotationOf r = record { name = present (r .name); value = present (r .value) }
 
 abbrev pub annotations : ℕ → List Row → List Annotation
 annotations p [] = []
-annotations p (r ∷ rs) = let t = annotations p rs in if (childOf 6 p r) (annotationOf r ∷ t) t
+annotations p (r ∷ rs) = let t = annotations p rs in if (isChild kinds.annotation p (r .kind) (r .parent)) (annotationOf r ∷ t) t
 
 -- r is row i of the table t
 abbrev pub argOf : List Row → ℕ → Row → Arg
@@ -42,23 +38,23 @@ argOf t i r = record { name = r .name; type = present (r .value); direction = di
 -- of the rows from row i on
 abbrev pub args : List Row → ℕ → ℕ → List Row → List Arg
 args t p i [] = []
-args t p i (r ∷ rs) = let u = args t p (suc i) rs in if (childOf 7 p r) (argOf t i r ∷ u) u
+args t p i (r ∷ rs) = let u = args t p (suc i) rs in if (isChild kinds.arg p (r .kind) (r .parent)) (argOf t i r ∷ u) u
 
 abbrev pub memberOf : List Row → ℕ → Row → Member
 memberOf t i r = record { name = present (r .name); args = args t (suc i) 0 t; annotations = annotations (suc i) t }
 
 abbrev pub itemOf : List Row → ℕ → Row → Option Item
 itemOf t i r =
-    if (eqb (r .kind) 3) (some (method (memberOf t i r)))
-    (if (eqb (r .kind) 5) (some (signal (memberOf t i r)))
-    (if (eqb (r .kind) 6) (some (annotated (annotationOf r)))
-    (if (eqb (r .kind) 7) (some (argument (argOf t i r))) none)))
+    if (eqb (r .kind) kinds.method) (some (method (memberOf t i r)))
+    (if (eqb (r .kind) kinds.signal) (some (signal (memberOf t i r)))
+    (if (eqb (r .kind) kinds.annotation) (some (annotated (annotationOf r)))
+    (if (eqb (r .kind) kinds.arg) (some (argument (argOf t i r))) none)))
 
 abbrev pub firstItem : List Row → ℕ → List Row → Option Item
 firstItem t i [] = none
 firstItem t i (r ∷ rs) = itemOf t i r
 
--- the content of row i, if there is one and its kind is 3, 5, 6 or 7
+-- the content of row i, if there is one and its kind is written
 unfoldable pub content : List Row → ℕ → Option Item
 content t i = firstItem t i (drop i t)
 

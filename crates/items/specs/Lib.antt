@@ -1,6 +1,7 @@
 -- Sound rows, the content of an item, its bytes, and what the writers answer.
 -- Assumes nothing.
 pub mod Words
+pub mod Order
 pub mod View
 pub mod Sound
 pub mod Written

@@ -11,6 +11,7 @@ use Rattle.names.specs.Names.{interfaceName, memberName, propertyName}
 use Rattle.names.specs.Signature.{signature}
 use Rattle.tables.specs.Triple.{inside, shown}
 use Rattle.tables.specs.declared.Triple.{Triple}
+use Rattle.document.specs.Kinds as kinds
 use Rattle.document.specs.Elements.{among, mayHold, someSignature}
 use Rattle.items.specs.Words.{RowWords, absent, rowsOf}
 
@@ -22,7 +23,7 @@ kindAt (r ∷ rs) (suc i) = kindAt rs i
 
 -- row 0 is a node with parent 0; any other row's parent comes before it and may hold its kind
 abbrev pub placed : List RowWords → ℕ → RowWords → Bool
-placed rows zero r = eqb (r .kind) 1 && eqb (r .parent) 0
+placed rows zero r = eqb (r .kind) kinds.node && eqb (r .parent) 0
 placed rows (suc i) r = ltb 0 (r .parent) && leb (r .parent) (suc i) && mayHold (kindAt rows (r .parent - 1)) (r .kind)
 
 -- whether a kind uses three words, and whether it must
@@ -40,39 +41,59 @@ abbrev pub required : Use
 required = record { may = true; must = true }
 
 -- name is present except in node and arg, where it may be missing
+abbrev pub nameless : List ℕ
+nameless = kinds.node ∷ kinds.arg ∷ []
+
 abbrev pub nameUse : ℕ → Use
-nameUse k = if (among k (1 ∷ 7 ∷ [])) optional required
+nameUse k = if (among k nameless) optional required
 
 -- words 5-7: value of annotation and enumvalue; signature of property, arg, simple-type, enum, member; present where used
+abbrev pub valued : List ℕ
+valued =
+    kinds.property
+    ∷ kinds.annotation
+    ∷ kinds.arg
+    ∷ kinds.simpleType
+    ∷ kinds.enum
+    ∷ kinds.enumvalue
+    ∷ kinds.member
+    ∷ []
+
 abbrev pub valueUse : ℕ → Use
-valueUse k = if (among k (4 ∷ 6 ∷ 7 ∷ 8 ∷ 9 ∷ 10 ∷ 12 ∷ [])) required unused
+valueUse k = if (among k valued) required unused
 
 -- tp type of property, arg, member
+abbrev pub tpTyped : List ℕ
+tpTyped = kinds.property ∷ kinds.arg ∷ kinds.member ∷ []
+
 abbrev pub tpUse : ℕ → Use
-tpUse k = if (among k (4 ∷ 7 ∷ 12 ∷ [])) optional unused
+tpUse k = if (among k tpTyped) optional unused
 
 -- docstring, for all but annotation
 abbrev pub docUse : ℕ → Use
-docUse k = if (eqb k 6) unused optional
+docUse k = if (eqb k kinds.annotation) unused optional
 
--- names of kinds 2 to 5 are valid
+-- names of interface, method, property and signal are valid
 abbrev pub validName : ℕ → List ℕ → Bool
 validName k s =
-    if (eqb k 2) (interfaceName s)
-    (if (eqb k 3) (memberName s)
-    (if (eqb k 4) (propertyName s)
-    (if (eqb k 5) (memberName s) true)))
+    if (eqb k kinds.interface) (interfaceName s)
+    (if (eqb k kinds.method) (memberName s)
+    (if (eqb k kinds.property) (propertyName s)
+    (if (eqb k kinds.signal) (memberName s) true)))
 
--- signatures are valid; property and arg may have the empty one
+-- signatures are valid; property and arg may have the empty one, these not
+abbrev pub signed : List ℕ
+signed = kinds.simpleType ∷ kinds.enum ∷ kinds.member ∷ []
+
 abbrev pub validValue : ℕ → List ℕ → Bool
-validValue k s = if (among k (4 ∷ 7 ∷ [])) (signature s) (if (among k (8 ∷ 9 ∷ 12 ∷ [])) (someSignature s) true)
+validValue k s = if (among k kinds.values) (signature s) (if (among k signed) (someSignature s) true)
 
 abbrev pub anyText : List ℕ → Bool
 anyText s = true
 
 -- word 14 is valid: property 1 read, 2 write, 3 readwrite; arg 1 in, 2 out, 0 none; words that a kind does not use are 0
 abbrev pub validWord : ℕ → ℕ → Bool
-validWord k w = if (eqb k 4) (ltb 0 w && leb w 3) (if (eqb k 7) (leb w 2) (eqb w 0))
+validWord k w = if (eqb k kinds.property) (ltb 0 w && leb w 3) (if (eqb k kinds.arg) (leb w 2) (eqb w 0))
 
 -- a triple is absent where it may be; else it is used, lies inside its buffer, is UTF-8 and valid
 unfoldable pub goodTriple : List ℕ → List ℕ → Use → (List ℕ → Bool) → Triple → Bool

@@ -1,6 +1,7 @@
 -- The rows of a lent table, by their words (docs/FORMAT.md, Tables), and what they show.
 -- Assumes nothing.
-use Prim.Native.Nat.{ℕ, zero, suc}
+use Prim.Native.Nat.{ℕ, zero, suc, _+_, _*_}
+use mathlib.Core.Path.{_≡_}
 use mathlib.Core.List.{List, [], _∷_, map}
 use mathlib.Core.Option.{Option, none, some}
 use mathlib.Core.Bool.{Bool, _&&_}
@@ -26,6 +27,17 @@ pub record RowWords : Type 0 where
 abbrev pub tripleAt : ℕ → List ℕ → Triple
 tripleAt k ws = record { source = getD ws k 0; start = getD ws (suc k) 0; len = getD ws (suc (suc k)) 0 }
 
+-- word k of row i
+abbrev pub wordAt : List ℕ → ℕ → ℕ → ℕ
+wordAt ws i k = getD ws (i * 16 + k) 0
+
+pub record Word (ws : List ℕ) (i k r : ℕ) : Type 0 where
+  pub is : r ≡ wordAt ws i k
+
+-- the triple from word k on of row i
+pub record TripleIs (ws : List ℕ) (i k : ℕ) (r : Triple) : Type 0 where
+  pub is : r ≡ tripleAt k (drop (i * 16) ws)
+
 -- the row with which the words begin
 abbrev pub rowOf : List ℕ → RowWords
 rowOf ws = record {
@@ -43,6 +55,10 @@ rowOf ws = record {
 abbrev pub rowsOf : ℕ → List ℕ → List RowWords
 rowsOf zero ws = []
 rowsOf (suc n) ws = rowOf ws ∷ rowsOf n (drop 16 ws)
+
+-- of kind k, with a parent whose row plus one is p
+abbrev pub isChild : ℕ → ℕ → ℕ → ℕ → Bool
+isChild k p kind parent = eqb kind k && eqb parent p
 
 -- absent is three zeros
 abbrev pub absent : Triple → Bool

@@ -7,8 +7,8 @@ use mathlib.Core.Bool.{_||_}
 use lib.Dec.{ltb}
 use lib.ListN.{length}
 use Rattle.slices.specs.Bytes.{if}
-use Rattle.references.specs.Unescape.{Text, text, wrong}
-use Rattle.references.specs.Entries.{roomy}
+use Rattle.answers.specs.Text.{Text, text, wrong, roomy, Says}
+use Rattle.answers.specs.declared.TextAnswer.{TextAnswer}
 use Rattle.items.specs.Sound.{Soundness, sound, unsound, soundness}
 use Rattle.items.specs.Written.{Item, written}
 use Rattle.items.specs.Content.{contentAt}
@@ -27,3 +27,7 @@ unfoldable pub writing : List ℕ → List ℕ → List ℕ → ℕ → ℕ → 
 writing document x ws n i room =
     let r = checked (soundness document x ws n) (itemWritten i room (contentAt document x ws n i)) in
     if (ltb 1048576 (length document) || ltb 1048576 (length x)) (wrong 2 1048576) r
+
+-- what writing row i answers, and what it leaves in a buffer of that room
+pub record Writes (document x ws : List ℕ) (n i room : ℕ) (out : List ℕ) (r : TextAnswer) : Type 0 where
+  pub says : Says (writing document x ws n i room) room out r

@@ -117,21 +117,26 @@ fn put_listing(out: &mut [u8], document: &[u8]) -> usize {
     }
 }
 
-// Lists what the buffer can hold of standard input.
+// Puts what the first bytes of the buffer are read as; more than the program takes are over-long.
+fn put_answer(out: &mut [u8], document: &[u8], end: usize) -> usize {
+    if 65536 < end {
+        return put_refused(out, 2, 65536);
+    }
+    put_listing(out, output::front(document, end))
+}
+
+// Lists what the buffer can hold of standard input; where that cannot be read or the listing not be written, says so and why on standard error.
 fn list(document: &mut [u8]) {
     let came = read_all(document);
     if came.failed {
-        io::write_all(2, b"listing: cannot read standard input\n");
+        os::fail(b"listing: cannot read standard input");
         return;
     }
     let mut out = io::large_buffer();
-    if 65536 < came.end {
-        let n = put_refused(&mut out, 2, 65536);
-        output::flush(&out, n);
-        return;
+    let n = put_answer(&mut out, document, came.end);
+    if !output::flush(&out, n) {
+        os::fail(b"listing: cannot write standard output");
     }
-    let n = put_listing(&mut out, output::front(document, came.end));
-    output::flush(&out, n);
 }
 
 fn main() {

@@ -4,19 +4,21 @@ use document::Fill;
 use document::Next;
 use document::Refusal;
 use document::StartTag;
+use document::kinds;
 use skip::docstring_or_skip;
-use skip::unsupported;
+use skip::skip_unsupported;
 use tags::step;
 ghost use Prim.Native.Nat.{_+_, _≤_, _<_};
-ghost use mathlib.Core.List.{[], _∷_};
+ghost use mathlib.Core.List.{[]};
 ghost use mathlib.Core.Bool.{true, false};
 ghost use lib.ListN.{length};
 ghost use Rattle.scan.specs.Classes.{Classes};
+ghost use Rattle.document.specs.Kinds as kinds;
 ghost use Rattle.document.specs.Outcome.{lent, Bounded, Ready, Begins, Child, Children};
-ghost use Rattle.members.specs.Kinds.{MemberKind};
+ghost use Rattle.members.specs.Kinds.{CallableKind};
 
 // The children of an annotation: nobody asked for any.
-fn bare(
+fn annotation_children(
     doc: &[u8],
     classes: &[u8; 256],
     rows: &mut [u32],
@@ -37,21 +39,11 @@ fn bare(
                 return Answer::Fault(refusal);
             }
             Next::Close(_, end) => {
-                return Answer::Done(Fill {
-                    at: end,
-                    rows: g.rows,
-                    warnings: g.warnings,
-                    text: g.text,
-                });
+                return Answer::Done(g.moved(end));
             }
             Next::Start(c) => {
-                let h = Fill {
-                    at: c.end,
-                    rows: g.rows,
-                    warnings: g.warnings,
-                    text: g.text,
-                };
-                match unsupported(doc, classes, warnings, c, h) {
+                let h = g.moved(c.end);
+                match skip_unsupported(doc, classes, warnings, c, h) {
                     Answer::Fault(refusal) => {
                         return Answer::Fault(Refusal {
                             place: refusal.place,
@@ -79,7 +71,7 @@ pub fn annotation(
     f: Fill,
 ) -> Answer
     requires { ⌜ Ready (now doc) c f ⌝ ∗ ⌜ parent ≤ 1048576 ⌝ ∗ ⌜ Classes (now classes) ⌝ }
-    ensures { λ r. ⌜ Begins (now (doc .entry)) 6 c parent f (lent (now (rows .entry)) (now (warnings .entry)) (now (text .entry))) (lent (now (rows .exit)) (now (warnings .exit)) (now (text .exit))) r ⌝ }
+    ensures { λ r. ⌜ Begins (now (doc .entry)) kinds.annotation c parent f (lent (now (rows .entry)) (now (warnings .entry)) (now (text .entry))) (lent (now (rows .exit)) (now (warnings .exit)) (now (text .exit))) r ⌝ }
 {
     match elements::annotation_row(doc, rows, text, c, parent, f) {
         Answer::Fault(refusal) => Answer::Fault(refusal),
@@ -87,13 +79,13 @@ pub fn annotation(
             if c.closes {
                 return Answer::Done(g);
             }
-            bare(doc, classes, rows, warnings, text, c.at, c.len, f.rows, g)
+            annotation_children(doc, classes, rows, warnings, text, c.at, c.len, f.rows, g)
         }
     }
 }
 
 // A child of a property or an arg with row i.
-fn annotated_child(
+fn value_child(
     doc: &[u8],
     classes: &[u8; 256],
     rows: &mut [u32],
@@ -104,16 +96,16 @@ fn annotated_child(
     f: Fill,
 ) -> Answer
     requires { ⌜ Ready (now doc) c f ⌝ ∗ ⌜ i < f .rows ⌝ ∗ ⌜ Classes (now classes) ⌝ }
-    ensures { λ r. ⌜ Child (now (doc .entry)) (6 ∷ []) true c i f (lent (now (rows .entry)) (now (warnings .entry)) (now (text .entry))) (lent (now (rows .exit)) (now (warnings .exit)) (now (text .exit))) r ⌝ }
+    ensures { λ r. ⌜ Child (now (doc .entry)) kinds.inValue true c i f (lent (now (rows .entry)) (now (warnings .entry)) (now (text .entry))) (lent (now (rows .exit)) (now (warnings .exit)) (now (text .exit))) r ⌝ }
 {
-    if c.kind == 6 {
+    if c.kind == kinds::ANNOTATION {
         return annotation(doc, classes, rows, warnings, text, c, i + 1, f);
     }
     docstring_or_skip(doc, classes, rows, warnings, c, i, f)
 }
 
 // The children of a property or an arg with row i.
-fn annotated(
+fn value_children(
     doc: &[u8],
     classes: &[u8; 256],
     rows: &mut [u32],
@@ -125,7 +117,7 @@ fn annotated(
     f: Fill,
 ) -> Answer
     requires { ⌜ Bounded (now doc) f ⌝ ∗ ⌜ i < f .rows ⌝ ∗ ⌜ at + len ≤ length (now doc) ⌝ ∗ ⌜ Classes (now classes) ⌝ }
-    ensures { λ r. ⌜ Children (now (doc .entry)) (6 ∷ []) true at len i f (lent (now (rows .entry)) (now (warnings .entry)) (now (text .entry))) (lent (now (rows .exit)) (now (warnings .exit)) (now (text .exit))) r ⌝ }
+    ensures { λ r. ⌜ Children (now (doc .entry)) kinds.inValue true at len i f (lent (now (rows .entry)) (now (warnings .entry)) (now (text .entry))) (lent (now (rows .exit)) (now (warnings .exit)) (now (text .exit))) r ⌝ }
 {
     let mut g = f;
     loop {
@@ -134,21 +126,11 @@ fn annotated(
                 return Answer::Fault(refusal);
             }
             Next::Close(_, end) => {
-                return Answer::Done(Fill {
-                    at: end,
-                    rows: g.rows,
-                    warnings: g.warnings,
-                    text: g.text,
-                });
+                return Answer::Done(g.moved(end));
             }
             Next::Start(c) => {
-                let h = Fill {
-                    at: c.end,
-                    rows: g.rows,
-                    warnings: g.warnings,
-                    text: g.text,
-                };
-                match annotated_child(doc, classes, rows, warnings, text, c, i, h) {
+                let h = g.moved(c.end);
+                match value_child(doc, classes, rows, warnings, text, c, i, h) {
                     Answer::Fault(refusal) => {
                         return Answer::Fault(Refusal {
                             place: refusal.place,
@@ -176,7 +158,7 @@ pub fn arg(
     f: Fill,
 ) -> Answer
     requires { ⌜ Ready (now doc) c f ⌝ ∗ ⌜ parent ≤ 1048576 ⌝ ∗ ⌜ Classes (now classes) ⌝ }
-    ensures { λ r. ⌜ Begins (now (doc .entry)) 7 c parent f (lent (now (rows .entry)) (now (warnings .entry)) (now (text .entry))) (lent (now (rows .exit)) (now (warnings .exit)) (now (text .exit))) r ⌝ }
+    ensures { λ r. ⌜ Begins (now (doc .entry)) kinds.arg c parent f (lent (now (rows .entry)) (now (warnings .entry)) (now (text .entry))) (lent (now (rows .exit)) (now (warnings .exit)) (now (text .exit))) r ⌝ }
 {
     match elements::arg_row(doc, rows, text, c, parent, f) {
         Answer::Fault(refusal) => Answer::Fault(refusal),
@@ -184,7 +166,7 @@ pub fn arg(
             if c.closes {
                 return Answer::Done(g);
             }
-            annotated(doc, classes, rows, warnings, text, c.at, c.len, f.rows, g)
+            value_children(doc, classes, rows, warnings, text, c.at, c.len, f.rows, g)
         }
     }
 }
@@ -201,7 +183,7 @@ pub fn property(
     f: Fill,
 ) -> Answer
     requires { ⌜ Ready (now doc) c f ⌝ ∗ ⌜ parent ≤ 1048576 ⌝ ∗ ⌜ Classes (now classes) ⌝ }
-    ensures { λ r. ⌜ Begins (now (doc .entry)) 4 c parent f (lent (now (rows .entry)) (now (warnings .entry)) (now (text .entry))) (lent (now (rows .exit)) (now (warnings .exit)) (now (text .exit))) r ⌝ }
+    ensures { λ r. ⌜ Begins (now (doc .entry)) kinds.property c parent f (lent (now (rows .entry)) (now (warnings .entry)) (now (text .entry))) (lent (now (rows .exit)) (now (warnings .exit)) (now (text .exit))) r ⌝ }
 {
     match elements::property_row(doc, rows, text, c, parent, f) {
         Answer::Fault(refusal) => Answer::Fault(refusal),
@@ -209,7 +191,7 @@ pub fn property(
             if c.closes {
                 return Answer::Done(g);
             }
-            annotated(doc, classes, rows, warnings, text, c.at, c.len, f.rows, g)
+            value_children(doc, classes, rows, warnings, text, c.at, c.len, f.rows, g)
         }
     }
 }
@@ -226,10 +208,10 @@ fn callable_child(
     f: Fill,
 ) -> Answer
     requires { ⌜ Ready (now doc) c f ⌝ ∗ ⌜ i < f .rows ⌝ ∗ ⌜ Classes (now classes) ⌝ }
-    ensures { λ r. ⌜ Child (now (doc .entry)) (6 ∷ 7 ∷ []) true c i f (lent (now (rows .entry)) (now (warnings .entry)) (now (text .entry))) (lent (now (rows .exit)) (now (warnings .exit)) (now (text .exit))) r ⌝ }
+    ensures { λ r. ⌜ Child (now (doc .entry)) kinds.inCallable true c i f (lent (now (rows .entry)) (now (warnings .entry)) (now (text .entry))) (lent (now (rows .exit)) (now (warnings .exit)) (now (text .exit))) r ⌝ }
 {
     let kind = c.kind;
-    if kind == 7 {
+    if kind == kinds::ARG {
         // by its parts: a copy of the whole answer is a delay for each
         match arg(doc, classes, rows, warnings, text, c, i + 1, f) {
             Answer::Fault(refusal) => {
@@ -243,14 +225,14 @@ fn callable_child(
             }
         }
     }
-    if kind == 6 {
+    if kind == kinds::ANNOTATION {
         return annotation(doc, classes, rows, warnings, text, c, i + 1, f);
     }
     docstring_or_skip(doc, classes, rows, warnings, c, i, f)
 }
 
 // The children of a method or a signal with row i.
-fn callable(
+fn callable_children(
     doc: &[u8],
     classes: &[u8; 256],
     rows: &mut [u32],
@@ -262,7 +244,7 @@ fn callable(
     f: Fill,
 ) -> Answer
     requires { ⌜ Bounded (now doc) f ⌝ ∗ ⌜ i < f .rows ⌝ ∗ ⌜ at + len ≤ length (now doc) ⌝ ∗ ⌜ Classes (now classes) ⌝ }
-    ensures { λ r. ⌜ Children (now (doc .entry)) (6 ∷ 7 ∷ []) true at len i f (lent (now (rows .entry)) (now (warnings .entry)) (now (text .entry))) (lent (now (rows .exit)) (now (warnings .exit)) (now (text .exit))) r ⌝ }
+    ensures { λ r. ⌜ Children (now (doc .entry)) kinds.inCallable true at len i f (lent (now (rows .entry)) (now (warnings .entry)) (now (text .entry))) (lent (now (rows .exit)) (now (warnings .exit)) (now (text .exit))) r ⌝ }
 {
     let mut g = f;
     loop {
@@ -271,20 +253,10 @@ fn callable(
                 return Answer::Fault(refusal);
             }
             Next::Close(_, end) => {
-                return Answer::Done(Fill {
-                    at: end,
-                    rows: g.rows,
-                    warnings: g.warnings,
-                    text: g.text,
-                });
+                return Answer::Done(g.moved(end));
             }
             Next::Start(c) => {
-                let h = Fill {
-                    at: c.end,
-                    rows: g.rows,
-                    warnings: g.warnings,
-                    text: g.text,
-                };
+                let h = g.moved(c.end);
                 match callable_child(doc, classes, rows, warnings, text, c, i, h) {
                     Answer::Fault(refusal) => {
                         return Answer::Fault(Refusal {
@@ -302,7 +274,7 @@ fn callable(
 }
 
 // A method or a signal.
-pub fn member(
+pub fn callable(
     doc: &[u8],
     classes: &[u8; 256],
     rows: &mut [u32],
@@ -313,16 +285,16 @@ pub fn member(
     parent: usize,
     f: Fill,
 ) -> Answer
-    requires { ⌜ Ready (now doc) c f ⌝ ∗ ⌜ parent ≤ 1048576 ⌝ ∗ ⌜ MemberKind kind ⌝ ∗ ⌜ Classes (now classes) ⌝ }
+    requires { ⌜ Ready (now doc) c f ⌝ ∗ ⌜ parent ≤ 1048576 ⌝ ∗ ⌜ CallableKind kind ⌝ ∗ ⌜ Classes (now classes) ⌝ }
     ensures { λ r. ⌜ Begins (now (doc .entry)) kind c parent f (lent (now (rows .entry)) (now (warnings .entry)) (now (text .entry))) (lent (now (rows .exit)) (now (warnings .exit)) (now (text .exit))) r ⌝ }
 {
-    match elements::member_row(doc, rows, text, c, kind, parent, f) {
+    match elements::callable_row(doc, rows, text, c, kind, parent, f) {
         Answer::Fault(refusal) => Answer::Fault(refusal),
         Answer::Done(g) => {
             if c.closes {
                 return Answer::Done(g);
             }
-            callable(doc, classes, rows, warnings, text, c.at, c.len, f.rows, g)
+            callable_children(doc, classes, rows, warnings, text, c.at, c.len, f.rows, g)
         }
     }
 }

@@ -2,7 +2,7 @@
 -- Assumes nothing.
 use Prim.Native.Nat.{ℕ, _+_, _-_, _*_, _≤_, _<_}
 use mathlib.Core.Path.{_≡_, refl, ap, sym, subst, _∙_}
-use mathlib.Core.Bool.{Bool, true, false, _||_}
+use mathlib.Core.Bool.{Bool, true, false, _||_, and-true, and-false, or-false}
 use mathlib.Core.List.{List, [], _∷_}
 use borrow.Author.Needs.{needs}
 use borrow.Author.Tests.{ne-eqb, le-leb, lt-leb, lt-ltb, le-ltb}
@@ -16,9 +16,7 @@ use Rattle.names.specs.Signature.{Open, State, isArray, count, basicCode
 use Rattle.names.specs.Checks.{isParenthesis, awaited, Onward, Ends, Counted, Typed, Fielded, Entered}
 use Rattle.names.specs.declared.End.{End}
 use Rattle.names.specs.declared.End.the-variants.{Bad, At}
-use Rattle.names.proofs.Codes.{or-false, flag-on, flag-off, code-basic, basic-written}
-use Rattle.names.specs.Types.{code}
-use Rattle.names.proofs.Names.{and-true, and-false}
+use Rattle.names.proofs.Codes.{flag-on, flag-off}
 
 -- one byte
 pub accepts-bad : (l : List ℕ) → accepts l State.bad ≡ false
@@ -236,9 +234,6 @@ one-byte b = and-true _ ∙ go (basicCode b || eqb b 118) (eqb b 97) (eqb b 40)
     go false true v = refl
     go false false true = refl
     go false false false = refl
-
-pub basic-is-signature : (s : List ℕ) → basicSignature s ≡ true → signature s ≡ true
-basic-is-signature s e = let k = basic-written s e in rw (k .1) (one-byte (code (k .0)) ∙ rw (code-basic (k .0)))
 
 pub one-variant : (s : List ℕ) → length s ≡ 1 → getD s 0 0 ≡ 118 → true ≡ signature s
 unfolding signature

@@ -1,8 +1,8 @@
 -- Classes of bytes: the bytes of an element, and the codes of the basic types.
 -- Assumes nothing.
 use Prim.Native.Nat.{ℕ, _≤_, _<_}
-use mathlib.Core.Path.{_≡_, refl, ap, sym, subst, _∙_}
-use mathlib.Core.Bool.{Bool, true, false, not, _&&_, _||_}
+use mathlib.Core.Path.{_≡_, refl, ap, sym, _∙_}
+use mathlib.Core.Bool.{Bool, true, false, not, _||_, and-true, and-false, or-false, false≢true}
 use mathlib.Core.List.{List, [], _∷_}
 use borrow.Author.Needs.{needs}
 use borrow.Author.Tests.{ne-eqb, le-leb, lt-leb, not-true, not-false}
@@ -12,10 +12,7 @@ use Rattle.slices.proofs.Runs.{by-byte}
 use Rattle.names.specs.Names.{digit, elementByte}
 use Rattle.names.specs.Types.{Basic, code}
 use Rattle.names.specs.Signature.{basicCode, basicSignature}
-
-pub or-false : (t : Bool) → t || false ≡ t
-or-false true = refl
-or-false false = refl
+use Rattle.names.specs.Grammar.{BasicGrammar}
 
 -- the answer of a callee, negated in a test
 pub flag-on : {r t : Bool} → r ≡ t → not r ≡ false → t ≡ true
@@ -98,24 +95,19 @@ basic-code b =
     by-byte Coded b 111 (λ e. (Basic.object-path, refl)) (λ n₁₂.
     by-byte Coded b 103 (λ e. (Basic.signature, refl)) (λ n₁₃ e.
     let z : false ≡ true = rw (n₁, n₂, n₃, n₄, n₅, n₆, n₇, n₈, n₉, n₁₀, n₁₁, n₁₂, n₁₃) at e in
-    absurd (subst T (sym z) tt))))))))))))))
+    absurd (false≢true z))))))))))))))
 
 -- a signature of one basic type is its code, and back
-pub basic-written : (s : List ℕ) → basicSignature s ≡ true → (k : Basic) × (s ≡ code k ∷ [])
-basic-written [] e = absurd (subst T (sym e) tt)
-basic-written (b ∷ []) e = let k = basic-code b (one (basicCode b) e) in (k .0, ap (λ (x : ℕ). x ∷ []) (k .1))
-  where
-    one : (t : Bool) → t && true ≡ true → t ≡ true
-    one true q = refl
-    one false q = q
-basic-written (b ∷ c ∷ l) e = absurd (none (basicCode b) e)
-  where
-    none : (t : Bool) → t && false ≡ true → ⊥
-    none true q = subst T (sym q) tt
-    none false q = subst T (sym q) tt
+basic-written : (s : List ℕ) → basicSignature s ≡ true → (k : Basic) × (s ≡ code k ∷ [])
+basic-written [] e = absurd (false≢true e)
+basic-written (b ∷ []) e = let k = basic-code b (sym (and-true (basicCode b)) ∙ e) in (k .0, ap (λ (x : ℕ). x ∷ []) (k .1))
+basic-written (b ∷ c ∷ l) e = absurd (false≢true (sym (and-false (basicCode b)) ∙ e))
 
-pub written-basic : (s : List ℕ) (k : Basic) → s ≡ code k ∷ [] → basicSignature s ≡ true
+written-basic : (s : List ℕ) (k : Basic) → s ≡ code k ∷ [] → basicSignature s ≡ true
 written-basic s k e = rw (e, code-basic k)
+
+pub basic-grammar : BasicGrammar
+basic-grammar s = (basic-written s, written-basic s)
 
 -- what answers every need of the functions over one byte
 pub ruleset codes = (digit-low, digit-high, byte-digit, byte-upper, byte-line, byte-none, byte-lower, code-one, code-none, needs)

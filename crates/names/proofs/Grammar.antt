@@ -1,30 +1,27 @@
 -- The test that computes says the grammar of types: it accepts a text where it is what some types within the limits are written as,
 -- which proofs/Spelled.antt shows, and no other, which is shown here. Assumes nothing.
 use Prim.Native.Nat.{ℕ, zero, suc, _+_, _*_, _≤_, _<_}
-use mathlib.Core.Path.{_≡_, refl, ap, sym, subst, _∙_}
-use mathlib.Core.Bool.{Bool, true, false}
+use mathlib.Core.Path.{_≡_, refl, ap, sym, _∙_}
+use mathlib.Core.Bool.{Bool, true, false, false≢true}
 use mathlib.Core.List.{List, [], _∷_, _++_, append-assoc}
 use borrow.Author.Tests.{leb-true, ltb-true, eqb-true}
 use native.Mathlib.Omega.{arith}
-use lib.Dec.{T, eqb, leb, ltb}
+use lib.Dec.{eqb, leb, ltb}
 use lib.ListN.{length}
 use Rattle.slices.specs.Bytes.{if}
-use Rattle.slices.proofs.Runs.{by-byte}
+use Rattle.slices.proofs.Runs.{and-both, by-byte}
 use Rattle.names.specs.Types.{Complete, Element, Fields, written, writtenElement, writtenFields, arrays, arraysElement, arraysFields, parentheses, parenthesesElement, parenthesesFields, AllShallow, writtenAll, IsSignature}
 use Rattle.names.specs.Signature.{Open, State, isArray, count, basicCode, begins, accepts, ended, signature}
+use Rattle.names.specs.Grammar.{SignatureGrammar}
 use Rattle.names.specs.Checks.{isParenthesis, awaited}
 use Rattle.names.proofs.Codes.{basic-code}
-use Rattle.names.proofs.Names.{and-both}
 use Rattle.names.proofs.Checks.{accepts-bad, ended-field, expects}
 use Rattle.names.proofs.Spelled.{spelled-signature}
-
-never : {A : Type 0} → false ≡ true → A
-never e = absurd (subst T (sym e) tt)
 
 -- a test that leads to a good state holds
 guarded : (t : Bool) (l : List ℕ) (os : List Open) → accepts l (if t (State.good os) State.bad) ≡ true → (t ≡ true) × (accepts l (State.good os) ≡ true)
 guarded true l os e = (refl, e)
-guarded false l os e = never (sym (accepts-bad l) ∙ e)
+guarded false l os e = absurd (false≢true (sym (accepts-bad l) ∙ e))
 
 -- a complete type at the begin of a text, what follows it, and room for it within the limits
 record Begun (os : List Open) (l : List ℕ) : Type 0 where
@@ -121,7 +118,7 @@ module _ (os : List Open) (l : List ℕ) where
 
 -- after the value of a dict entry comes a closing brace
 closed : (os : List Open) (r : List ℕ) → accepts r (State.good (Open.brace ∷ os)) ≡ true → (z : List ℕ) × (125 ∷ z ≡ r) × (accepts z (State.good (ended os)) ≡ true)
-closed os [] h = never h
+closed os [] h = absurd (false≢true h)
 closed os (b ∷ r) h = let g = guarded (eqb b 125) r (ended os) h in (r, ap (λ (x : ℕ). x ∷ r) (sym (eqb-true b 125 (g .0))), g .1)
 
 is-entry : (os : List Open) (b : ℕ) (l : List ℕ) → basicCode b ≡ true → Begun (Open.value ∷ os) l → BegunElement os (123 ∷ b ∷ l)
@@ -178,7 +175,7 @@ module _ (os : List Open) (l : List ℕ) (w : Within os) where
           by-byte Typing b 118 (is-variant os l w) (λ v.
           by-byte Typing b 97 (λ h. let g = guarded (ltb (count isArray os) 32) l (Open.element ∷ os) h in is-array os l (arr (ltb-true _ _ (g .0)) (g .1))) (λ a.
           by-byte Typing b 40 (λ h. let g = guarded (ltb (count isParenthesis os) 32) l (Open.first ∷ os) h in is-struct os l (str (ltb-true _ _ (g .0)) (g .1))) (λ p h.
-          never (sym (accepts-bad l) ∙ (rw (e, v, a, p) at h)))))
+          absurd (false≢true (sym (accepts-bad l) ∙ (rw (e, v, a, p) at h))))))
 
 -- by the first byte, where an element is awaited
 by-element : (os : List Open) (b : ℕ) (l : List ℕ) → ((k : List ℕ) → length k ≤ length l → awaited (Open.value ∷ os) k ≡ true → Begun (Open.value ∷ os) k) → (awaited (Open.element ∷ os) (b ∷ l) ≡ true → Begun (Open.element ∷ os) (b ∷ l)) → accepts (b ∷ l) (State.good (Open.element ∷ os)) ≡ true → BegunElement os (b ∷ l)
@@ -189,7 +186,7 @@ by-element os b l val sing =
     sing
   where
     entry : (k : List ℕ) → ((j : List ℕ) → length j ≤ length k → awaited (Open.value ∷ os) j ≡ true → Begun (Open.value ∷ os) j) → accepts k (State.good (Open.key ∷ os)) ≡ true → BegunElement os (123 ∷ k)
-    entry [] f h = never h
+    entry [] f h = absurd (false≢true h)
     entry (c ∷ k) f h =
         let g = guarded (basicCode c) k (Open.value ∷ os) h in
         is-entry os c k (g .0) (f k (omega arith) (sym (expects Open.value os (λ x. refl) k) ∙ g .1))
@@ -200,7 +197,7 @@ by-field o os l i g f =
     go (g .rest) refl (ap (λ (x : List Open). accepts (g .rest) (State.good x)) (sym (ended-field o os i)) ∙ g .goes-on)
   where
     go : (r : List ℕ) → r ≡ g .rest → accepts r (State.good (Open.fields ∷ os)) ≡ true → BegunFields os l
-    go [] e h = never h
+    go [] e h = absurd (false≢true h)
     go (b ∷ r) e h =
         by-byte (λ (x : ℕ). x ∷ r ≡ g .rest → accepts (x ∷ r) (State.good (Open.fields ∷ os)) ≡ true → BegunFields os l) b 41
         (λ q. is-last o os l i g r q)
@@ -209,9 +206,9 @@ by-field o os l i g f =
 
 mutual
   begun : (n : ℕ) (os : List Open) (l : List ℕ) → 2 * length l ≤ n → Within os → awaited os l ≡ true → Begun os l
-  begun zero os [] h w e = never e
+  begun zero os [] h w e = absurd (false≢true e)
   begun zero os (b ∷ l) h w e = absurd (omega arith)
-  begun (suc n) os [] h w e = never e
+  begun (suc n) os [] h w e = absurd (false≢true e)
   begun (suc n) os (b ∷ l) h w e =
       by-begin os l w
       (λ c i. begun-element n os l (omega arith) record { few-arrays = omega arith; few-parentheses = w .few-parentheses } i)
@@ -219,9 +216,9 @@ mutual
       b e
 
   begun-element : (n : ℕ) (os : List Open) (l : List ℕ) → 2 * length l < n → Within (Open.element ∷ os) → accepts l (State.good (Open.element ∷ os)) ≡ true → BegunElement os l
-  begun-element zero os [] h w e = never e
+  begun-element zero os [] h w e = absurd (false≢true e)
   begun-element zero os (b ∷ l) h w e = absurd (omega arith)
-  begun-element (suc n) os [] h w e = never e
+  begun-element (suc n) os [] h w e = absurd (false≢true e)
   begun-element (suc n) os (b ∷ l) h w e =
       by-element os b l
       (λ k j i. begun n (Open.value ∷ os) k (omega arith) record { few-arrays = w .few-arrays; few-parentheses = w .few-parentheses } i)
@@ -249,12 +246,12 @@ all-begun (suc n) (b ∷ l) h e =
       ap (λ (x : List ℕ). written (g .type) ++ x) (i .2) ∙ g .spelled,
     )
 
-pub signature-spelled : {s : List ℕ} → signature s ≡ true → IsSignature s
+signature-spelled : {s : List ℕ} → signature s ≡ true → IsSignature s
 unfolding signature
 signature-spelled {s} e =
     let t = and-both (accepts s (State.good [])) (leb (length s) 255) e in
     let g = all-begun (length s) s (omega arith) (t .0) in
     record { types = g .0; shallow = g .1; spelled = g .2; short = leb-true (length s) 255 (t .1) }
 
-pub grammar : (s : List ℕ) → (signature s ≡ true → IsSignature s) × (IsSignature s → signature s ≡ true)
+pub grammar : SignatureGrammar
 grammar s = (signature-spelled, spelled-signature)

@@ -5,4 +5,4 @@ pub mod Names
 pub mod Checks
 pub mod Spelled
 pub mod Grammar
-pub mod Plain
+pub mod Bytes

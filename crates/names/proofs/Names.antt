@@ -2,7 +2,7 @@
 -- Assumes nothing.
 use Prim.Native.Nat.{ℕ, suc, _+_, _≤_, _<_}
 use mathlib.Core.Path.{_≡_, refl, ap, sym, subst, _∙_}
-use mathlib.Core.Bool.{Bool, true, false, not, _&&_, _||_}
+use mathlib.Core.Bool.{Bool, true, false, not, _&&_, _||_, and-true, and-false, or-true, or-false}
 use mathlib.Core.List.{List, [], _∷_, _++_, append-nil}
 use borrow.Author.Needs.{needs}
 use borrow.Author.Tests.{ne-eqb, le-leb, lt-leb}
@@ -14,10 +14,10 @@ use lib.ListN.{length, drop, getD, length-drop, drop-of-length-le}
 use lib.Seq.{drop-cons, drop-drop, getD-drop}
 use Rattle.slices.specs.Bytes.{if, all, span}
 use Rattle.slices.specs.Run.{Run}
-use Rattle.slices.proofs.Runs.{both, by-byte, runs}
+use Rattle.slices.proofs.Runs.{both, and-both, if-false, by-byte, span-end, runs}
 use Rattle.names.specs.Names.{digit, elementByte, element, grown, elements, every, interfaceName, memberName, propertyName}
 use Rattle.names.specs.Checks.{lead, Element}
-use Rattle.names.proofs.Codes.{or-false, flag-on, flag-off}
+use Rattle.names.proofs.Codes.{flag-on, flag-off}
 
 -- the two ways of `property_name`
 pub property-none : (s : List ℕ) → length s ≡ 0 → false ≡ propertyName s
@@ -27,32 +27,6 @@ property-none (b ∷ s) e = absurd (omega arith)
 pub property-some : (s : List ℕ) → (length s ≡ 0 → ⊥) → leb (length s) 255 ≡ propertyName s
 property-some [] e = absurd (e refl)
 property-some (b ∷ s) e = refl
-
--- tests that are joined
-pub and-both : (a b : Bool) → a && b ≡ true → (a ≡ true) × (b ≡ true)
-and-both true b e = (refl, e)
-and-both false b e = (e, absurd (subst T (sym e) tt))
-
-pub and-false : (t : Bool) → t && false ≡ false
-and-false true = refl
-and-false false = refl
-
-pub and-true : (t : Bool) → t && true ≡ t
-and-true true = refl
-and-true false = refl
-
-or-true : (t : Bool) → t || true ≡ true
-or-true true = refl
-or-true false = refl
-
--- the byte after a run is not of the class
-span-next : (p : ℕ → Bool) (l : List ℕ) → length (span p l) < length l → p (getD l (length (span p l)) 0) ≡ false
-span-next p [] h = absurd (omega arith)
-span-next p (b ∷ l) h = go (span-next p l) (p b) refl h
-  where
-    go : (length (span p l) < length l → p (getD l (length (span p l)) 0) ≡ false) → (t : Bool) → p b ≡ t → length (if t (b ∷ span p l) []) < suc (length l) → p (getD (b ∷ l) (length (if t (b ∷ span p l) [])) 0) ≡ false
-    go i true e h = i (omega arith)
-    go i false e h = e
 
 -- a run is of the class, and it is all there is where it is as long
 span-class : (p : ℕ → Bool) (l : List ℕ) → all p (span p l) ≡ true
@@ -80,7 +54,7 @@ span-whole p (b ∷ l) = go (span-whole p l) (p b)
     go i false = eqb·zero-suc (length l)
 
 -- the element that a text begins with
-pub lead-whole : (l : List ℕ) → (length l ≡ 0 → ⊥) → eqb (length (lead l)) (length l) ≡ element l
+lead-whole : (l : List ℕ) → (length l ≡ 0 → ⊥) → eqb (length (lead l)) (length l) ≡ element l
 lead-whole [] h = absurd (h refl)
 lead-whole (b ∷ l) h = go (digit b)
   where
@@ -111,7 +85,7 @@ lead-next (b ∷ l) n h = go (digit b) n h
   where
     go : (t : Bool) → (length (if t [] (span elementByte (b ∷ l))) ≡ 0 → ⊥) → length (if t [] (span elementByte (b ∷ l))) < suc (length l) → elementByte (getD (b ∷ l) (length (if t [] (span elementByte (b ∷ l)))) 0) ≡ false
     go true n h = absurd (n refl)
-    go false n h = span-next elementByte (b ∷ l) h
+    go false n h = span-end elementByte (b ∷ l) h
 
 -- the bytes of a run go to the front of the first element
 abbrev prefixed : List ℕ → List (List ℕ) → List (List ℕ)
@@ -146,13 +120,9 @@ element-spoilt : (a : List ℕ) (b : ℕ) (r : List ℕ) → elementByte b ≡ f
 element-spoilt [] b r h = rw h (and-false (not (digit b)))
 element-spoilt (x ∷ a) b r h = rw (spoilt (x ∷ a)) (and-false (not (digit x)))
   where
-    either : (t : Bool) → if t false false ≡ false
-    either true = refl
-    either false = refl
-
     spoilt : (c : List ℕ) → all elementByte (c ++ b ∷ r) ≡ false
     spoilt [] = rw h
-    spoilt (y ∷ c) = rw (spoilt c) (either (elementByte y))
+    spoilt (y ∷ c) = rw (spoilt c) (if-false (elementByte y))
 
 -- what is left of a name to check, after a dot or not
 abbrev pub named : Bool → List ℕ → Bool

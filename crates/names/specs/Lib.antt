@@ -3,6 +3,6 @@
 pub mod Names
 pub mod Types
 pub mod Signature
+pub mod Grammar
 pub mod Checks
-pub mod Plain
 pub mod Cases

@@ -123,7 +123,7 @@ pub fn property_name(s: &[u8]) -> bool
 }
 
 // The code of a basic type.
-pub fn basic(b: u8) -> bool
+fn basic(b: u8) -> bool
     ensures { λ r. ⌜ r ≡ basicCode b ⌝ }
 {
     match b {
@@ -187,7 +187,7 @@ fn fields(s: &[u8], from: usize, arrays: u32, parens: u32) -> End
 }
 
 // The end of the complete type at a place, with so many arrays and parentheses open.
-pub fn complete(s: &[u8], at: usize, arrays: u32, parens: u32) -> End
+fn complete(s: &[u8], at: usize, arrays: u32, parens: u32) -> End
     ensures { λ r. ⌜ Typed (now (s .entry)) at arrays parens r ⌝ }
 {
     if s.len() <= at {

@@ -1,4 +1,4 @@
-// How cases are written (crates/cases/stdin): numbers here, bytes in `text` and `shown`, rows of words in `words`.
+// How cases are written (crates/reading_cases/stdin): numbers here, bytes in `text` and `shown`, rows of words in `words`.
 ghost use mathlib.Core.Path.{_≡_};
 ghost use lib.ListN.{length};
 

@@ -1,5 +1,9 @@
 // Standard output through a buffer that the caller lends: each function takes how many bytes the buffer holds, and answers how many it holds then.
+// Where a full buffer could not be written out, what follows is dropped: the count is then FAILED, which `flush` tells.
 ghost use Prim.Native.Nat.{_≤_};
+
+// No count of a buffer.
+const FAILED: usize = 18446744073709551615;
 
 // Puts a byte; a full buffer is written out first.
 pub fn put(out: &mut [u8], n: usize, b: u8) -> usize {
@@ -7,7 +11,9 @@ pub fn put(out: &mut [u8], n: usize, b: u8) -> usize {
         out[n] = b;
         return n + 1;
     }
-    io::write_all(1, out);
+    if !flush(out, n) {
+        return FAILED;
+    }
     if 0 < out.len() {
         out[0] = b;
         return 1;
@@ -78,8 +84,11 @@ pub fn append(buffer: &mut [u8], n: usize, bytes: &[u8]) -> usize {
     m
 }
 
-// Writes out what the buffer holds.
+// Writes out what the buffer holds, and answers whether this and all before it could be written.
 pub fn flush(out: &[u8], n: usize) -> bool {
+    if n == FAILED {
+        return false;
+    }
     io::write_all(1, front(out, n))
 }
 

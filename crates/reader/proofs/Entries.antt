@@ -1,14 +1,14 @@
 -- The public entry: its verdict and the buffers that it leaves, on each of its ways.
 -- Assumes nothing.
-use Prim.Native.Nat.{ℕ, _+_, _*_, _/_, _≤_, _<_}
-use mathlib.Core.Path.{_≡_, refl, sym, _∙_, ap}
-use mathlib.Core.List.{List, [], _∷_, _++_}
+use Prim.Native.Nat.{ℕ, _*_, _/_, _≤_, _<_}
+use mathlib.Core.Path.{_≡_, refl, sym, _∙_}
+use mathlib.Core.List.{List}
 use mathlib.Core.Bool.{Bool, true, false, not, _||_}
 use borrow.Author.Needs.{needs}
 use borrow.Author.Tests.{lt-ltb, le-ltb, ltb-false, leb-true, leb-false, not-true, not-false}
 use native.Mathlib.Omega.{arith}
 use lib.Dec.{ltb, leb}
-use lib.ListN.{length, replicate}
+use lib.ListN.{length}
 use Rattle.utf8.specs.WellFormed.{illFormed}
 use Rattle.utf8.proofs.Texts.{bounded}
 use Rattle.tables.specs.Table.{Rep, Wiped, cleared}
@@ -16,8 +16,8 @@ use Rattle.tables.proofs.Tables.{clear-all, clear-rest, rows-fit}
 use Rattle.document.specs.Tags.{Shown}
 use Rattle.document.specs.Rows.{Tables, wordsFrom, texts, warned}
 use Rattle.document.specs.Elements.{bare}
-use Rattle.document.specs.Reading.{State, begun, accepted, refused}
-use Rattle.document.specs.Whole.{Room, meaning, read, filled, verdictOf, rowsLeft, warningsLeft, textLeft}
+use Rattle.document.specs.Reading.{begun, accepted, refused}
+use Rattle.document.specs.Whole.{meaning, read, filled, roomOf, Says}
 use Rattle.document.specs.Outcome.{Lent, lent, Stands, Sound, runs}
 use Rattle.document.specs.declared.Refusal.{Refusal}
 use Rattle.document.specs.declared.Fill.{Fill}
@@ -27,7 +27,7 @@ use Rattle.document.specs.declared.Verdict.the-variants.{Refused, Accepted}
 use Rattle.rows.proofs.Words.{length-warned}
 use Rattle.rows.proofs.Tables.{text-counted}
 use Rattle.reader.specs.Nodes.{ReadsWhole}
-use Rattle.reader.specs.Entry.{room, Says, Ended, Refuses, hasRoom, HasRoom, Accepts}
+use Rattle.reader.specs.Entry.{Ended, Refuses, HasRoom, Accepts}
 
 -- clearing every buffer, and clearing the tails
 pub refuses : {x : Refusal} {r r′ w w′ t t′ : List ℕ} → Wiped 0 r r′ → Wiped 0 w w′ → Wiped 0 t t′ → Refuses x r r′ w w′ t t′ (Refused x)
@@ -100,37 +100,37 @@ done {doc} {r} {w} {t} {a} {f} x e =
     (y .ends .0, y .ends .1, sound doc (x .sound) ∙ y .ends .2)
 
 -- a refusal
-turned : {doc : List ℕ} {x : Refusal} {r r′ w w′ t t′ : List ℕ} {v : Verdict} → read doc (room (length r) (length w) (length t)) ≡ refused x → Refuses x r r′ w w′ t t′ v → Says doc (length r) (length w) (length t) r′ w′ t′ v
+turned : {doc : List ℕ} {x : Refusal} {r r′ w w′ t t′ : List ℕ} {v : Verdict} → read doc (roomOf r w t) ≡ refused x → Refuses x r r′ w w′ t t′ v → Says doc (roomOf r w t) r′ w′ t′ v
 turned e z = record { verdict = rw e (z .verdict); rows-left = rw e (z .rows-left); warnings-left = rw e (z .warnings-left); text-left = rw e (z .text-left) }
 
 module _ {doc : List ℕ} {r r′ w w′ t t′ : List ℕ} {v : Verdict} where
-  pub too-long : 1048576 < length doc → Refuses (bare 2 1048576) r r′ w w′ t t′ v → Says doc (length r) (length w) (length t) r′ w′ t′ v
+  pub too-long : 1048576 < length doc → Refuses (bare 2 1048576) r r′ w w′ t t′ v → Says doc (roomOf r w t) r′ w′ t′ v
   unfolding read
   too-long h = turned (rw (long doc h))
 
-  pub not-utf8 : {p : ℕ} → length doc ≤ 1048576 → p ≡ illFormed doc → p < length doc → Refuses (bare 1 p) r r′ w w′ t t′ v → Says doc (length r) (length w) (length t) r′ w′ t′ v
+  pub not-utf8 : {p : ℕ} → length doc ≤ 1048576 → p ≡ illFormed doc → p < length doc → Refuses (bare 1 p) r r′ w w′ t t′ v → Says doc (roomOf r w t) r′ w′ t′ v
   unfolding read
   not-utf8 h e l = turned (rw (ill doc h (rw e at l), e))
 
   module _ {a : Answer} (x : Ended doc r w t a) where
-    pub faulty : {y : Refusal} → a ≡ Answer.Fault y → Refuses y r r′ w w′ t t′ v → Says doc (length r) (length w) (length t) r′ w′ t′ v
+    pub faulty : {y : Refusal} → a ≡ Answer.Fault y → Refuses y r r′ w w′ t t′ v → Says doc (roomOf r w t) r′ w′ t′ v
     unfolding read
     faulty e = turned (rw (sound doc (x .sound) ∙ (rw e at x) .ends))
 
     module _ {f : Fill} (e : a ≡ Answer.Done f) where
-      pub crowded : {b : Bool} → HasRoom (length r) (length w) (length t) f b → b ≡ false → Refuses (bare 18 (length doc)) r r′ w w′ t t′ v → Says doc (length r) (length w) (length t) r′ w′ t′ v
+      pub crowded : {b : Bool} → HasRoom (length r) (length w) (length t) f b → b ≡ false → Refuses (bare 18 (length doc)) r r′ w w′ t t′ v → Says doc (roomOf r w t) r′ w′ t′ v
       unfolding read
       crowded {b} h g =
           let d = done x e in
           turned (rw (d .2, d .1 .many, many-warnings (d .1), text-counted (d .1), not-false (crowds (length r) (length w) (length t) f) (sym (h .is) ∙ g)))
 
-      pub fitting : {b : Bool} → HasRoom (length r) (length w) (length t) f b → b ≡ true → Accepts f r r′ w w′ t t′ v → Says doc (length r) (length w) (length t) r′ w′ t′ v
+      pub fitting : {b : Bool} → HasRoom (length r) (length w) (length t) f b → b ≡ true → Accepts f r r′ w w′ t t′ v → Says doc (roomOf r w t) r′ w′ t′ v
       unfolding read
       fitting {b} h g z =
           let d = done x e in
           let c : crowds (length r) (length w) (length t) f ≡ false = not-true (crowds (length r) (length w) (length t) f) (sym (h .is) ∙ g) in
           let n = neither (ltb (length r / 16) (f .rows)) (ltb (length w / 4) (f .warnings)) (ltb (length t) (f .text)) c in
-          let q : read doc (room (length r) (length w) (length t)) ≡ accepted (d .0) = rw (d .2, d .1 .many, many-warnings (d .1), text-counted (d .1), c) in
+          let q : read doc (roomOf r w t) ≡ accepted (d .0) = rw (d .2, d .1 .many, many-warnings (d .1), text-counted (d .1), c) in
           record {
             verdict = rw q (z .verdict ∙ rw (d .1 .many, many-warnings (d .1), text-counted (d .1)));
             rows-left = rw q (z .rows-left ∙ tail 16 (f .rows) r (wordsFrom 0 (d .0 .rows)) (omega arith) (d .1 .rows) (rows-fit 16 (f .rows) (length r) (omega arith) (ltb-false (length r / 16) (f .rows) (n .0))));
@@ -151,9 +151,6 @@ module _ {f : Fill} {r w t : ℕ} {b : Bool} (h : HasRoom r w t f b) (g : b ≡ 
 
 pub ruleset finishing = (faulty, crowded, fitting, rows-inside, warnings-inside, needs)
 
-pub said : (doc : List ℕ) (r w t : ℕ) (rows warnings text : List ℕ) (v : Verdict) → Says doc r w t rows warnings text v → (v ≡ verdictOf (read doc (room r w t))) × ((rows ≡ rowsLeft (room r w t) (read doc (room r w t))) × ((warnings ≡ warningsLeft (room r w t) (read doc (room r w t))) × (text ≡ textLeft (room r w t) (read doc (room r w t)))))
-said doc r w t rows warnings text v s = (s .verdict, (s .rows-left, (s .warnings-left, s .text-left)))
-
 pub is-sound : {doc : List ℕ} {p : ℕ} → length doc ≤ 1048576 → p ≡ illFormed doc → length doc ≤ p → Sound doc
 is-sound {doc} {p} h e l = record { small = h; utf8 = omega (arith, bounded doc) }
 
@@ -163,5 +160,5 @@ ended s h = record { sound = s; ends = h .ends }
 pub ruleset entry = (too-long, not-utf8, is-sound, ended, needs)
 
 -- the buffers had the same room all along
-pub carried : {doc rows warnings text : List ℕ} {v : Verdict} {r w t r′ w′ t′ : ℕ} → Says doc r w t rows warnings text v → r ≡ r′ → w ≡ w′ → t ≡ t′ → Says doc r′ w′ t′ rows warnings text v
+pub carried : {doc rows warnings text : List ℕ} {v : Verdict} {r w t r′ w′ t′ : ℕ} → Says doc (record { rows = r; warnings = w; text = t }) rows warnings text v → r ≡ r′ → w ≡ w′ → t ≡ t′ → Says doc (record { rows = r′; warnings = w′; text = t′ }) rows warnings text v
 carried s a b c = rw (← a, ← b, ← c) s

@@ -10,6 +10,7 @@ use lib.Dec.{eqb}
 use lib.ListN.{length, getD, set}
 use lib.Seq.{getD-set-same, getD-set-other}
 use Rattle.slices.specs.Bytes.{if, bytes}
+use Rattle.document.specs.Kinds as kinds
 use Rattle.document.specs.Tags.{Shown}
 use Rattle.document.specs.Rows.{Tables}
 use Rattle.document.specs.Reading.{Frame, element, State, reading, closed, parentOf}
@@ -38,13 +39,13 @@ frames-set root opened d (suc zero) x h = rw (getD-set-other opened d 0 x 0 (ome
 frames-set root opened d (suc (suc n)) x h =
     rw (getD-set-other opened d (suc n) x 0 (omega arith), frames-set root opened d (suc n) x (omega arith))
 
-pub frames-push : (root opened : List ℕ) (d x : ℕ) → 0 < d → d < length opened → framesOf root (set opened d x) (d + 1) ≡ element 1 (bytes "node") x ∷ framesOf root opened d
+pub frames-push : (root opened : List ℕ) (d x : ℕ) → 0 < d → d < length opened → framesOf root (set opened d x) (d + 1) ≡ element kinds.node (bytes "node") x ∷ framesOf root opened d
 frames-push root opened zero x h l = absurd (omega arith)
 frames-push root opened (suc d) x h l =
     rw (add-one, getD-set-same opened (suc d) x 0 l, frames-set root opened (suc d) (suc d) x (omega arith))
 
 -- the innermost node and those around it
-pub frames-top : (root opened : List ℕ) (d : ℕ) → 0 < d → framesOf root opened d ≡ element 1 (if (eqb d 1) root (bytes "node")) (getD opened (d - 1) 0) ∷ framesOf root opened (d - 1)
+pub frames-top : (root opened : List ℕ) (d : ℕ) → 0 < d → framesOf root opened d ≡ element kinds.node (if (eqb d 1) root (bytes "node")) (getD opened (d - 1) 0) ∷ framesOf root opened (d - 1)
 frames-top root opened zero h = absurd (omega arith)
 frames-top root opened (suc zero) h = refl
 frames-top root opened (suc (suc d)) h = rw (ne-eqb (suc (suc d)) 1 (λ e. omega arith), sub-one)

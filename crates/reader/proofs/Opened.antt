@@ -5,7 +5,7 @@ use mathlib.Core.Path.{_≡_, refl, sym, _∙_, ap}
 use mathlib.Core.List.{List, [], _∷_}
 use mathlib.Core.Bool.{Bool, true, false}
 use borrow.Author.Needs.{needs}
-use borrow.Author.Tests.{le-leb, lt-leb, eqb-true}
+use borrow.Author.Tests.{le-leb, lt-leb}
 use native.Mathlib.Decide.{decLt}
 use native.Mathlib.Numerals.{add-one}
 use native.Mathlib.Omega.{arith}
@@ -15,33 +15,25 @@ use lib.Dec.{leb, eqb}
 use lib.ListN.{length, take, drop, getD, set, length-set}
 use lib.Seq.{getD-set-same, getD-set-other}
 use Rattle.slices.specs.Bytes.{if, bytes, same}
-use Rattle.slices.proofs.Runs.{both}
+use Rattle.slices.proofs.Runs.{same-equal}
+use Rattle.document.specs.Kinds as kinds
 use Rattle.document.specs.Tags.{Shown}
 use Rattle.document.specs.Tokens.{Tag}
 use Rattle.document.specs.Rows.{Row, Tables}
 use Rattle.document.specs.Elements.{bare, opens, refuses, opensAs, kindOf, localKind, localName}
 use Rattle.document.specs.Reading.{Frame, element, State, reading, refused, closed, parentOf, withRow, entered, begins}
-use Rattle.document.specs.Outcome.{Lent, lent, Stands, Bounded, Ready, TagIs, TagFits, Opening, runs, whole}
+use Rattle.document.specs.Outcome.{Lent, lent, Stands, Bounded, Ready, TagIs, TagFits, Opening, runs, whole, moved}
 use Rattle.document.specs.declared.StartTag.{StartTag}
 use Rattle.document.specs.declared.Refusal.{Refusal}
 use Rattle.document.specs.declared.Fill.{Fill}
 use Rattle.document.specs.declared.Answer.{Answer}
 use Rattle.document.proofs.Runs.{run-refused}
-use Rattle.document.proofs.Loops.{moved, moved-stands}
+use Rattle.document.proofs.Loops.{moved-stands}
 use Rattle.reader.specs.Nodes.{framesOf, Walking, OnwardTurn, LeadsFrom, Opens, Started}
 use Rattle.reader.specs.declared.Walk.{Walk}
 use Rattle.reader.specs.declared.Turn.{Turn}
 use Rattle.reader.specs.declared.Turn.the-variants.{Fault, Done, On}
 use Rattle.reader.proofs.Frames.{frames-length, frames-closed, frames-push}
-
--- lists that compare equal are equal
-same-equal : (a b : List ℕ) → same a b ≡ true → a ≡ b
-same-equal [] [] e = refl
-same-equal [] (y ∷ b) e = let z : _≡_ {A = ℕ} 0 1 = cc in absurd (omega arith)
-same-equal (x ∷ a) [] e = let z : _≡_ {A = ℕ} 0 1 = cc in absurd (omega arith)
-same-equal (x ∷ a) (y ∷ b) e =
-    let t = both (eqb x y) (same a b) e in
-    rw (eqb-true x y (t .0)) (ap (_∷_ y) (same-equal a b (t .1)))
 
 not-one : (a b c d f g h : Bool) → _≡_ {A = ℕ} (if a 8 (if b 9 (if c 10 (if d 11 (if f 12 (if g 13 (if h 14 0))))))) 1 → ⊥
 not-one true b c d f g h e = omega arith
@@ -53,11 +45,11 @@ not-one false false false false false true h e = omega arith
 not-one false false false false false false true e = omega arith
 not-one false false false false false false false e = omega arith
 
-local-not-one : (n : List ℕ) → localKind n ≡ 1 → ⊥
+local-not-one : (n : List ℕ) → localKind n ≡ kinds.node → ⊥
 local-not-one n e = not-one (same n (bytes "simple-type")) (same n (bytes "enum")) (same n (bytes "enumvalue")) (same n (bytes "struct")) (same n (bytes "member")) (same n (bytes "mapping")) (same n (bytes "docstring")) e
 
 -- the name of kind 1 is `node`
-node-name : (n : List ℕ) → kindOf n ≡ 1 → n ≡ bytes "node"
+node-name : (n : List ℕ) → kindOf n ≡ kinds.node → n ≡ bytes "node"
 unfolding kindOf
 node-name n e =
     go (same n (bytes "node")) (same n (bytes "interface")) (same n (bytes "method")) (same n (bytes "property")) (same n (bytes "signal")) (same n (bytes "annotation")) (same n (bytes "arg")) refl e
@@ -100,23 +92,23 @@ module _ {doc opened : List ℕ} {c : StartTag} {s : Walk} (begun : Started doc 
   pub level-inside : (s .depth ≡ 1024 → ⊥) → s .depth < length opened
   level-inside n = omega (arith, g .few, g .long)
 
-  module _ (i : ℕ) {rows rows′ text text′ : List ℕ} {a : Answer} (o : Opening doc 1 c (i + 1) (moved (s .fill) (c .end)) rows rows′ text text′ a) where
-    pub open-fault : {y : Refusal} → a ≡ Answer.Fault y → Opens doc c i s opened opened rows rows′ text text′ (Fault y)
+  module _ (i : ℕ) {rows rows′ text text′ : List ℕ} {a : Answer} (o : Opening doc kinds.node c (i + 1) (moved (s .fill) (c .end)) rows rows′ text text′ a) where
+    pub open-fault : {q : Refusal} → a ≡ Answer.Fault q → Opens doc c i s opened opened rows rows′ text text′ (Fault q)
     unfolding begins
-    open-fault {y} e = record {
+    open-fault {q} e = record {
       onward = tt;
-      leads = λ root t v w z d h x. rw (h, ← add-one i, (rw e at o) .is t z) (run-refused whole doc (c .end) y);
+      leads = λ root t v w z d h x. rw (h, ← add-one i, (rw e at o) .is t z) (run-refused whole doc (c .end) q);
     }
 
     module _ {h : Fill} (e : a ≡ Answer.Done h) where
-      done : Opening doc 1 c (i + 1) (moved (s .fill) (c .end)) rows rows′ text text′ (Answer.Done h)
+      done : Opening doc kinds.node c (i + 1) (moved (s .fill) (c .end)) rows rows′ text text′ (Answer.Done h)
       done = rw e at o
 
       at-end : h .at ≡ c .end
       at-end = done .onward .0
 
       -- the state after the row
-      after : (root : List ℕ) (t : Tag) (v : Tables Shown) (w : List ℕ) → TagIs doc c t → parentOf (framesOf root opened (s .depth)) ≡ suc i → Stands v (lent rows w text) (s .fill) → (row : Row Shown) × (begins whole doc 1 t (framesOf root opened (s .depth)) v ≡ entered whole doc 1 t row (framesOf root opened (s .depth)) v) × Stands (withRow row v) (lent rows′ w text′) h
+      after : (root : List ℕ) (t : Tag) (v : Tables Shown) (w : List ℕ) → TagIs doc c t → parentOf (framesOf root opened (s .depth)) ≡ suc i → Stands v (lent rows w text) (s .fill) → (row : Row Shown) × (begins whole doc kinds.node t (framesOf root opened (s .depth)) v ≡ entered whole doc kinds.node t row (framesOf root opened (s .depth)) v) × Stands (withRow row v) (lent rows′ w text′) h
       unfolding begins
       after root t v w z k x =
           let j = done .is t z in
@@ -126,7 +118,7 @@ module _ {doc opened : List ℕ} {c : StartTag} {s : Walk} (begun : Started doc 
       grown : (j : ℕ) → j < s .fill .rows → j < h .rows
       grown j b = omega (arith, done .onward .1)
 
-      shut-at : (root : List ℕ) (t : Tag) (v : Tables Shown) → TagIs doc c t → c .closes ≡ true → (row : Row Shown) → runs doc (c .end) (entered whole doc 1 t row (framesOf root opened (s .depth)) v) ≡ runs doc (h .at) (reading (framesOf root opened (s .depth)) (withRow row v))
+      shut-at : (root : List ℕ) (t : Tag) (v : Tables Shown) → TagIs doc c t → c .closes ≡ true → (row : Row Shown) → runs doc (c .end) (entered whole doc kinds.node t row (framesOf root opened (s .depth)) v) ≡ runs doc (h .at) (reading (framesOf root opened (s .depth)) (withRow row v))
       shut-at root t v z x row = rw (at-end, sym (z .closes) ∙ x, frames-closed root opened (s .depth) (withRow row v) (g .deep))
 
       pub open-closes : c .closes ≡ true → Opens doc c i s opened opened rows rows′ text text′ (On (record { depth = s .depth; at = s .at; len = s .len; fill = h }))
@@ -148,7 +140,7 @@ module _ {doc opened : List ℕ} {c : StartTag} {s : Walk} (begun : Started doc 
       }
 
       module _ (x : c .closes ≡ false) where
-        deep-at : (root : List ℕ) (t : Tag) (v : Tables Shown) → TagIs doc c t → s .depth ≡ 1024 → (row : Row Shown) → runs doc (c .end) (entered whole doc 1 t row (framesOf root opened (s .depth)) v) ≡ refused (bare 7 (c .end))
+        deep-at : (root : List ℕ) (t : Tag) (v : Tables Shown) → TagIs doc c t → s .depth ≡ 1024 → (row : Row Shown) → runs doc (c .end) (entered whole doc kinds.node t row (framesOf root opened (s .depth)) v) ≡ refused (bare 7 (c .end))
         deep-at root t v z n row =
             let b : leb 1024 (length (framesOf root opened (s .depth))) ≡ true = le-leb 1024 (length (framesOf root opened (s .depth))) (omega (arith, frames-length root opened (s .depth))) in
             rw (sym (z .closes) ∙ x, b) (run-refused whole doc (c .end) (bare 7 (t .after))) ∙ ap (λ q. refused (bare 7 q)) (sym (z .end))
@@ -162,12 +154,12 @@ module _ {doc opened : List ℕ} {c : StartTag} {s : Walk} (begun : Started doc 
         }
 
         module _ (n : s .depth ≡ 1024 → ⊥) where
-          more-at : (root : List ℕ) (t : Tag) (v : Tables Shown) → TagIs doc c t → c .kind ≡ 1 → length (v .rows) ≡ s .fill .rows → (row : Row Shown) → runs doc (c .end) (entered whole doc 1 t row (framesOf root opened (s .depth)) v) ≡ runs doc (h .at) (reading (framesOf root (set opened (s .depth) (s .fill .rows)) (s .depth + 1)) (withRow row v))
+          more-at : (root : List ℕ) (t : Tag) (v : Tables Shown) → TagIs doc c t → c .kind ≡ kinds.node → length (v .rows) ≡ s .fill .rows → (row : Row Shown) → runs doc (c .end) (entered whole doc kinds.node t row (framesOf root opened (s .depth)) v) ≡ runs doc (h .at) (reading (framesOf root (set opened (s .depth) (s .fill .rows)) (s .depth + 1)) (withRow row v))
           more-at root t v z k m row =
               let b : leb 1024 (length (framesOf root opened (s .depth))) ≡ false = lt-leb 1024 (length (framesOf root opened (s .depth))) (omega (arith, frames-length root opened (s .depth), g .few)) in
               rw (at-end, sym (z .closes) ∙ x, b, frames-push root opened (s .depth) (s .fill .rows) (g .deep) (level-inside n), m, node-name (t .name) (sym (z .kind) ∙ k))
 
-          pub open-more : c .kind ≡ 1 → Opens doc c i s opened (set opened (s .depth) (s .fill .rows)) rows rows′ text text′ (On (record { depth = s .depth + 1; at = c .at; len = c .len; fill = h }))
+          pub open-more : c .kind ≡ kinds.node → Opens doc c i s opened (set opened (s .depth) (s .fill .rows)) rows rows′ text text′ (On (record { depth = s .depth + 1; at = c .at; len = c .len; fill = h }))
           open-more k = record {
             onward = (
               omega (arith, at-end, l, fits .inside),

@@ -11,6 +11,7 @@ use mir.Syntax.{w64}
 use mir.Val.{Fits}
 use lib.ListN.{length, take, drop, getD}
 use Rattle.tables.proofs.Tables.{empty-stands}
+use Rattle.document.specs.Kinds as kinds
 use Rattle.document.specs.Tags.{Shown}
 use Rattle.document.specs.Tokens.{Tag}
 use Rattle.document.specs.Rows.{Row, Tables}
@@ -82,16 +83,16 @@ carried b (Answer.Done f) h e = (e .0, e .1, h ∙ e .2)
 pub root-ready : {doc : List ℕ} {c : StartTag} → Sound doc → TagFits doc c → 0 < c .at → Ready doc c (record { at = c .end; rows = 0; warnings = 0; text = 0 })
 root-ready sound fits l = record { sound = sound; fits = fits; at = refl; few = omega arith; text = omega arith }
 
-module _ {doc : List ℕ} {c : StartTag} {rows rows′ text text′ : List ℕ} {a : Answer} (o : Opening doc 1 c 0 (record { at = c .end; rows = 0; warnings = 0; text = 0 }) rows rows′ text text′ a) where
+module _ {doc : List ℕ} {c : StartTag} {rows rows′ text text′ : List ℕ} {a : Answer} (o : Opening doc kinds.node c 0 (record { at = c .end; rows = 0; warnings = 0; text = 0 }) rows rows′ text text′ a) where
   pub root-fault : {w : List ℕ} {x : Refusal} → a ≡ Answer.Fault x → ReadsRoot doc c (lent rows′ w text′) (Answer.Fault x)
   unfolding begins
   root-fault {w} {x} e = record { ends = λ t z. rw ((rw e at o) .is t z) (run-refused whole doc (c .end) x) }
 
   module _ {h : Fill} (e : a ≡ Answer.Done h) where
-    done : Opening doc 1 c 0 (record { at = c .end; rows = 0; warnings = 0; text = 0 }) rows rows′ text text′ (Answer.Done h)
+    done : Opening doc kinds.node c 0 (record { at = c .end; rows = 0; warnings = 0; text = 0 }) rows rows′ text text′ (Answer.Done h)
     done = rw e at o
 
-    after : (t : Tag) (w : List ℕ) → TagIs doc c t → (row : Row Shown) × (begins whole doc 1 t [] (record { rows = []; warnings = [] }) ≡ entered whole doc 1 t row [] (record { rows = []; warnings = [] })) × Stands (record { rows = row ∷ []; warnings = [] }) (lent rows′ w text′) h
+    after : (t : Tag) (w : List ℕ) → TagIs doc c t → (row : Row Shown) × (begins whole doc kinds.node t [] (record { rows = []; warnings = [] }) ≡ entered whole doc kinds.node t row [] (record { rows = []; warnings = [] })) × Stands (record { rows = row ∷ []; warnings = [] }) (lent rows′ w text′) h
     unfolding begins
     after t w z =
         let j = done .is t z in
@@ -110,7 +111,7 @@ module _ {doc : List ℕ} {c : StartTag} {rows rows′ text text′ : List ℕ} 
           (record { rows = j .0 ∷ []; warnings = [] }, j .2, ap (runs doc (c .end)) (j .1) ∙ ended t z (j .0));
     }
       where
-        ended : (t : Tag) → TagIs doc c t → (row : Row Shown) → runs doc (c .end) (entered whole doc 1 t row [] (record { rows = []; warnings = [] })) ≡ accepted (record { rows = row ∷ []; warnings = [] })
+        ended : (t : Tag) → TagIs doc c t → (row : Row Shown) → runs doc (c .end) (entered whole doc kinds.node t row [] (record { rows = []; warnings = [] })) ≡ accepted (record { rows = row ∷ []; warnings = [] })
         ended t z row = rw (sym (z .closes) ∙ x) (run-accepted whole doc (c .end) (record { rows = row ∷ []; warnings = [] }))
 
     pub root-open : TagFits doc c → c .closes ≡ false → RootOpen doc c h rows′ text′
@@ -122,7 +123,7 @@ module _ {doc : List ℕ} {c : StartTag} {rows rows′ text text′ : List ℕ} 
       stands = λ t w z. let j = after t w z in (record { rows = j .0 ∷ []; warnings = [] }, j .2, j .1 ∙ inside t z (j .0));
     }
       where
-        inside : (t : Tag) → TagIs doc c t → (row : Row Shown) → entered whole doc 1 t row [] (record { rows = []; warnings = [] }) ≡ reading (element 1 (take (c .len) (drop (c .at) doc)) 0 ∷ []) (record { rows = row ∷ []; warnings = [] })
+        inside : (t : Tag) → TagIs doc c t → (row : Row Shown) → entered whole doc kinds.node t row [] (record { rows = []; warnings = [] }) ≡ reading (element kinds.node (take (c .len) (drop (c .at) doc)) 0 ∷ []) (record { rows = row ∷ []; warnings = [] })
         inside t z row = rw (sym (z .closes) ∙ x, z .named .is)
 
 -- the first of the open nodes
@@ -147,7 +148,7 @@ module _ {doc opened : List ℕ} {c : StartTag} {g : Fill} {rows text : List ℕ
         carried b r (ap (runs doc (c .end)) (j .2) ∙ there (j .0)) (k .leads (j .0) (λ d. absurd (omega arith)) (j .1));
   }
     where
-      there : (v : Tables Shown) → runs doc (c .end) (reading (element 1 (take (c .len) (drop (c .at) doc)) 0 ∷ []) v) ≡ runs doc (g .at) (reading (framesOf (take (c .len) (drop (c .at) doc)) opened 1) v)
+      there : (v : Tables Shown) → runs doc (c .end) (reading (element kinds.node (take (c .len) (drop (c .at) doc)) 0 ∷ []) v) ≡ runs doc (g .at) (reading (framesOf (take (c .len) (drop (c .at) doc)) opened 1) v)
       there v = rw (o .at, q .root)
 
 pub ruleset leveled = (levels-walk, levels-named, levels-read, needs)

@@ -11,20 +11,21 @@ use native.Mathlib.Omega.{arith}
 use lib.Dec.{eqb}
 use lib.ListN.{length, take, drop, getD}
 use Rattle.slices.specs.Bytes.{if, bytes}
+use Rattle.document.specs.Kinds as kinds
 use Rattle.document.specs.Tags.{Shown}
 use Rattle.document.specs.Tokens.{Tag}
 use Rattle.document.specs.Rows.{Tables}
 use Rattle.document.specs.Elements.{kindOf, mayHold}
 use Rattle.document.specs.Reading.{Frame, element, State, reading, accepted, refused, nameOf, closed, child, begins}
-use Rattle.document.specs.Outcome.{Lent, lent, Stands, Bounded, Ready, TagIs, TagFits, Steps, OnwardNext, Leads, Child, Ends, runs, whole}
+use Rattle.document.specs.Outcome.{Lent, lent, Stands, Bounded, Ready, TagIs, TagFits, Steps, OnwardNext, Leads, Child, Ends, runs, whole, moved}
 use Rattle.document.specs.declared.StartTag.{StartTag}
 use Rattle.document.specs.declared.Refusal.{Refusal}
 use Rattle.document.specs.declared.Fill.{Fill}
 use Rattle.document.specs.declared.Answer.{Answer}
 use Rattle.document.specs.declared.Next.{Next}
 use Rattle.document.proofs.Runs.{run-accepted}
-use Rattle.document.proofs.Loops.{moved-stands}
-use Rattle.reader.specs.Nodes.{framesOf, Nested, Walking, Turns, LeadsFrom, Opens, Started, Begun, Looks, NextIn, nameIn, moved, Shuts, IsShut, ChildIn, IsChildIn}
+use Rattle.document.proofs.Loops.{moved-stands, moved-owner}
+use Rattle.reader.specs.Nodes.{framesOf, Nested, Walking, Turns, LeadsFrom, Opens, Started, Begun, Looks, NextIn, nameIn, Shuts, IsShut, ChildIn, IsChildIn}
 use Rattle.reader.specs.declared.Walk.{Walk}
 use Rattle.reader.specs.declared.Turn.{Turn}
 use Rattle.reader.specs.declared.Turn.the-variants.{Fault, Done, On}
@@ -46,14 +47,27 @@ looks at len g h = record { deep = g .deep; from = g .bounds .inside; root = h; 
 pub ruleset nexts = (next-root, next-nested, needs)
 
 -- a child that is no node
-module _ {doc : List ℕ} {c : StartTag} {i : ℕ} {s : Walk} {b b′ : Lent} {a : Answer} (h : Child doc (1 ∷ 2 ∷ 8 ∷ 9 ∷ 11 ∷ 13 ∷ []) true c i (moved (s .fill) (c .end)) b b′ a) where
+module _ {doc : List ℕ} {c : StartTag} {i : ℕ} {s : Walk} {b b′ : Lent} {a : Answer} {m : Fill} (h : Child doc kinds.inNode true c i m b b′ a) (y : m ≡ moved (s .fill) (c .end)) where
   pub child-fault : {x : Refusal} → a ≡ Answer.Fault x → ChildIn doc c i s b b′ (Fault x)
-  child-fault e = record { is = rw e at h }
+  child-fault e = record { is = rw (y, e) at h }
 
   pub child-on : {g : Fill} → a ≡ Answer.Done g → ChildIn doc c i s b b′ (On (record { depth = s .depth; at = s .at; len = s .len; fill = g }))
-  child-on e = record { is = (rw e at h, refl) }
+  child-on e = record { is = (rw (y, e) at h, refl) }
 
-pub ruleset childIns = (child-fault, child-on, needs)
+-- the closing tag of a node
+module _ {s : Walk} {end : ℕ} {m : Fill} (y : m ≡ moved (s .fill) end) where
+  pub shut-root : s .depth ≡ 1 → Shuts s end (Done m)
+  shut-root e = record { is = (e, y) }
+
+  pub shut-inner : (s .depth ≡ 1 → ⊥) → Shuts s end (On (record { depth = s .depth - 1; at = s .at; len = s .len; fill = m }))
+  shut-inner n = record { is = (n, rw y) }
+
+pub ruleset shutting = (shut-root, shut-inner, needs)
+
+pub child-ready : {doc : List ℕ} {c : StartTag} {f m : Fill} → Ready doc c f → m ≡ f → Ready doc c m
+child-ready r y = rw y r
+
+pub ruleset childIns = (child-fault, child-on, child-ready, moved-owner, needs)
 
 prefixed : (doc root opened : List ℕ) (b : Lent) {x x′ : State Shown} (k : Turn) → x ≡ x′ → LeadsFrom doc root opened x′ b k → LeadsFrom doc root opened x b k
 prefixed doc root opened b (Fault y) h l = h ∙ l
@@ -61,7 +75,7 @@ prefixed doc root opened b (Done f) h l = (l .0, l .1, h ∙ l .2)
 prefixed doc root opened b (On s′) h l = (l .0, l .1, h ∙ l .2, l .3)
 
 module _ {doc root opened : List ℕ} {s : Walk} (g : Walking doc opened s) {r : Next} (x : NextIn doc root s r) where
-  frames : framesOf root opened (s .depth) ≡ element 1 (nameIn root s) (getD opened (s .depth - 1) 0) ∷ framesOf root opened (s .depth - 1)
+  frames : framesOf root opened (s .depth) ≡ element kinds.node (nameIn root s) (getD opened (s .depth - 1) 0) ∷ framesOf root opened (s .depth - 1)
   frames = frames-top root opened (s .depth) (g .deep)
 
   pub turn-fault : {q : Refusal} {b : Lent} → r ≡ Next.Fault q → Turns doc root opened opened s b b (Fault q)
@@ -69,7 +83,7 @@ module _ {doc root opened : List ℕ} {s : Walk} (g : Walking doc opened s) {r :
     onward = tt;
     leads = λ v d y.
         let z : NextIn doc root s (Next.Fault q) = rw e at x in
-        rw frames (z .leads (element 1 (nameIn root s) (getD opened (s .depth - 1) 0)) (framesOf root opened (s .depth - 1)) v d refl);
+        rw frames (z .leads (element kinds.node (nameIn root s) (getD opened (s .depth - 1) 0)) (framesOf root opened (s .depth - 1)) v d refl);
   }
 
   -- the closing tag
@@ -88,7 +102,7 @@ module _ {doc root opened : List ℕ} {s : Walk} (g : Walking doc opened s) {r :
       }
 
       shuts : (v : Tables Shown) → Nested doc s → runs doc (s .fill .at) (reading (framesOf root opened (s .depth)) v) ≡ runs doc end (closed (framesOf root opened (s .depth - 1)) v)
-      shuts v d = rw frames (z .leads (element 1 (nameIn root s) (getD opened (s .depth - 1) 0)) (framesOf root opened (s .depth - 1)) v d refl)
+      shuts v d = rw frames (z .leads (element kinds.node (nameIn root s) (getD opened (s .depth - 1) 0)) (framesOf root opened (s .depth - 1)) v d refl)
 
       last : (v : Tables Shown) → s .depth ≡ 1 → runs doc end (closed (framesOf root opened (s .depth - 1)) v) ≡ accepted v
       last v e = rw e (run-accepted whole doc end v)
@@ -122,10 +136,10 @@ module _ {doc root opened : List ℕ} {s : Walk} (g : Walking doc opened s) {r :
     start : NextIn doc root s (Next.Start c)
     start = rw e at x
 
-    pub turn-further : s .fill .at < c .at
+    turn-further : s .fill .at < c .at
     turn-further = start .onward .0
 
-    pub turn-fits : TagFits doc c
+    turn-fits : TagFits doc c
     turn-fits = start .onward .1
 
     pub turn-started : Started doc opened c s
@@ -135,7 +149,7 @@ module _ {doc root opened : List ℕ} {s : Walk} (g : Walking doc opened s) {r :
     turn-begun {opened′} {b} {b′} {k} h = record {
       onward = h .onward;
       leads = λ v d y.
-          let z = start .leads (element 1 (nameIn root s) (getD opened (s .depth - 1) 0)) (framesOf root opened (s .depth - 1)) v d refl in
+          let z = start .leads (element kinds.node (nameIn root s) (getD opened (s .depth - 1) 0)) (framesOf root opened (s .depth - 1)) v d refl in
           prefixed doc root opened′ b′ k (rw frames (z .2)) (h .leads root (z .0) v (z .1) d y);
     }
 
@@ -164,7 +178,7 @@ module _ {doc opened : List ℕ} {c : StartTag} {s : Walk} (begun : Started doc 
   pub begun-deep : 0 < s .depth
   begun-deep = walks .deep
 
-  pub begun-open : {i : ℕ} {opened′ rows rows′ w text text′ : List ℕ} {k : Turn} → c .kind ≡ 1 → i ≡ getD opened (s .depth - 1) 0 → Opens doc c i s opened opened′ rows rows′ text text′ k → Begun doc c s opened opened′ (lent rows w text) (lent rows′ w text′) k
+  pub begun-open : {i : ℕ} {opened′ rows rows′ w text text′ : List ℕ} {k : Turn} → c .kind ≡ kinds.node → i ≡ getD opened (s .depth - 1) 0 → Opens doc c i s opened opened′ rows rows′ text text′ k → Begun doc c s opened opened′ (lent rows w text) (lent rows′ w text′) k
   unfolding mayHold
   begun-open {i} {opened′} {rows} {rows′} {w} {text} {text′} {k} n q o = record {
     onward = o .onward;
@@ -173,16 +187,16 @@ module _ {doc opened : List ℕ} {c : StartTag} {s : Walk} (begun : Started doc 
         (o .leads root t v w z d (frames-parent root opened (s .depth) (walks .deep) ∙ ap suc (sym q)) y);
   }
     where
-      one : (root : List ℕ) (t : Tag) (v : Tables Shown) → kindOf (t .name) ≡ 1 → runs doc (c .end) (child whole doc 1 (getD opened (s .depth - 1) 0) t (framesOf root opened (s .depth)) v) ≡ runs doc (c .end) (begins whole doc 1 t (framesOf root opened (s .depth)) v)
+      one : (root : List ℕ) (t : Tag) (v : Tables Shown) → kindOf (t .name) ≡ kinds.node → runs doc (c .end) (child whole doc kinds.node (getD opened (s .depth - 1) 0) t (framesOf root opened (s .depth)) v) ≡ runs doc (c .end) (begins whole doc kinds.node t (framesOf root opened (s .depth)) v)
       one root t v j = rw j
 
   pub begun-child : {i : ℕ} {b b′ : Lent} {k : Turn} → i ≡ getD opened (s .depth - 1) 0 → ChildIn doc c i s b b′ k → Begun doc c s opened opened b b′ k
   begun-child {i} {b} {b′} {k} q h = go k (h .is)
     where
-      frames : (root : List ℕ) → framesOf root opened (s .depth) ≡ element 1 (nameIn root s) (getD opened (s .depth - 1) 0) ∷ framesOf root opened (s .depth - 1)
+      frames : (root : List ℕ) → framesOf root opened (s .depth) ≡ element kinds.node (nameIn root s) (getD opened (s .depth - 1) 0) ∷ framesOf root opened (s .depth - 1)
       frames root = frames-top root opened (s .depth) (walks .deep)
 
-      ends : (root : List ℕ) {a : Answer} → Child doc (1 ∷ 2 ∷ 8 ∷ 9 ∷ 11 ∷ 13 ∷ []) true c i (moved (s .fill) (c .end)) b b′ a → (v : Tables Shown) (t : Tag) → TagIs doc c t → Stands v b (s .fill) → Ends doc (runs doc (c .end) (child whole doc 1 (getD opened (s .depth - 1) 0) t (framesOf root opened (s .depth)) v)) (framesOf root opened (s .depth)) i (take i (v .rows)) b′ a
+      ends : (root : List ℕ) {a : Answer} → Child doc kinds.inNode true c i (moved (s .fill) (c .end)) b b′ a → (v : Tables Shown) (t : Tag) → TagIs doc c t → Stands v b (s .fill) → Ends doc (runs doc (c .end) (child whole doc kinds.node (getD opened (s .depth - 1) 0) t (framesOf root opened (s .depth)) v)) (framesOf root opened (s .depth)) i (take i (v .rows)) b′ a
       ends root m v t z y = rw (← q, frames root) (rw (← q) (m .ends 1 (nameIn root s) t (framesOf root opened (s .depth - 1)) v refl refl z (moved-stands (c .end) y)))
 
       grown : (x n : ℕ) → s .fill .rows ≤ n → x < s .fill .rows → x < n

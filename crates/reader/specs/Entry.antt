@@ -1,33 +1,20 @@
--- What the public entry says.
+-- What the steps of the public entry say.
 -- Assumes nothing.
-use Prim.Native.Nat.{ℕ, _*_, _/_, _≤_, _<_}
+use Prim.Native.Nat.{ℕ, _*_, _/_}
 use mathlib.Core.Path.{_≡_}
 use mathlib.Core.List.{List}
 use mathlib.Core.Bool.{Bool, not, _||_}
 use lib.Dec.{ltb}
 use lib.ListN.{length, replicate}
 use Rattle.tables.specs.Table.{cleared}
-use Rattle.document.specs.Tags.{Shown}
-use Rattle.document.specs.Reading.{State, begun}
-use Rattle.document.specs.Whole.{Room, read, verdictOf, rowsLeft, warningsLeft, textLeft}
-use Rattle.document.specs.Outcome.{Lent, lent, Sound, runs}
+use Rattle.document.specs.Reading.{begun}
+use Rattle.document.specs.Outcome.{lent, Sound, runs}
 use Rattle.document.specs.declared.Refusal.{Refusal}
 use Rattle.document.specs.declared.Fill.{Fill}
 use Rattle.document.specs.declared.Answer.{Answer}
 use Rattle.document.specs.declared.Verdict.{Verdict}
 use Rattle.document.specs.declared.Verdict.the-variants.{Refused, Accepted}
 use Rattle.reader.specs.Nodes.{EndsNodes}
-
--- the room of buffers of so many words, words and bytes
-abbrev pub room : ℕ → ℕ → ℕ → Room
-room r w t = record { rows = r; warnings = w; text = t }
-
--- verdict and buffers are the document's, with that room
-pub record Says (doc : List ℕ) (r w t : ℕ) (rows warnings text : List ℕ) (v : Verdict) : Type 0 where
-  pub verdict : v ≡ verdictOf (read doc (room r w t))
-  pub rows-left : rows ≡ rowsLeft (room r w t) (read doc (room r w t))
-  pub warnings-left : warnings ≡ warningsLeft (room r w t) (read doc (room r w t))
-  pub text-left : text ≡ textLeft (room r w t) (read doc (room r w t))
 
 -- a document within the limit and UTF-8 has been read to its end, as the answer and the buffers say
 pub record Ended (doc rows warnings text : List ℕ) (a : Answer) : Type 0 where

@@ -7,11 +7,12 @@ use mathlib.Core.Bool.{true, false}
 use lib.Dec.{eqb}
 use lib.ListN.{length, take, drop, getD}
 use Rattle.slices.specs.Bytes.{if, bytes}
+use Rattle.document.specs.Kinds as kinds
 use Rattle.document.specs.Tags.{Shown}
 use Rattle.document.specs.Tokens.{Tag}
 use Rattle.document.specs.Rows.{Tables}
 use Rattle.document.specs.Reading.{Frame, element, State, begun, reading, accepted, refused, nameOf, parentOf, child, begins}
-use Rattle.document.specs.Outcome.{Lent, lent, Stands, Bounded, TagIs, TagFits, OnwardNext, Leads, Child, runs, whole}
+use Rattle.document.specs.Outcome.{Lent, lent, Stands, Bounded, TagIs, TagFits, OnwardNext, Leads, Child, moved, runs, whole}
 use Rattle.document.specs.declared.StartTag.{StartTag}
 use Rattle.document.specs.declared.Fill.{Fill}
 use Rattle.document.specs.declared.Answer.{Answer}
@@ -23,8 +24,8 @@ use Rattle.reader.specs.declared.Turn.the-variants.{Fault, Done, On}
 -- the frames of the open nodes: the root, whose name is given, and nodes in it; their rows stand in a list, the root's first
 abbrev pub framesOf : List ℕ → List ℕ → ℕ → List Frame
 framesOf root rows zero = []
-framesOf root rows (suc zero) = element 1 root (getD rows 0 0) ∷ []
-framesOf root rows (suc (suc d)) = element 1 (bytes "node") (getD rows (suc d) 0) ∷ framesOf root rows (suc d)
+framesOf root rows (suc zero) = element kinds.node root (getD rows 0 0) ∷ []
+framesOf root rows (suc (suc d)) = element kinds.node (bytes "node") (getD rows (suc d) 0) ∷ framesOf root rows (suc d)
 
 -- where a node is open in the root, its name stands in the document
 abbrev pub Nested : List ℕ → Walk → Type 0
@@ -64,7 +65,7 @@ pub record Opens (doc : List ℕ) (c : StartTag) (i : ℕ) (s : Walk) (opened op
       Nested doc s →
       parentOf (framesOf root opened (s .depth)) ≡ suc i →
       Stands v (lent rows w text) (s .fill) →
-      LeadsFrom doc root opened′ (runs doc (c .end) (begins whole doc 1 t (framesOf root opened (s .depth)) v)) (lent rows′ w text′) r
+      LeadsFrom doc root opened′ (runs doc (c .end) (begins whole doc kinds.node t (framesOf root opened (s .depth)) v)) (lent rows′ w text′) r
 
 -- the name of the innermost open node
 abbrev pub nameIn : List ℕ → Walk → List ℕ
@@ -83,10 +84,6 @@ pub record NextIn (doc root : List ℕ) (s : Walk) (r : Next) : Type 0 where
   pub onward : OnwardNext doc (s .fill .at) r
   pub leads : (f : Frame) (fs : List Frame) (u : Tables Shown) → Nested doc s → nameOf f ≡ nameIn root s → Leads doc (s .fill .at) f fs u r
 
--- the counts at another place
-abbrev pub moved : Fill → ℕ → Fill
-moved f at = record { at = at; rows = f .rows; warnings = f .warnings; text = f .text }
-
 -- what closing the innermost open node says: the root's end, or one level less
 abbrev pub IsShut : Walk → ℕ → Turn → Type 0
 IsShut s end (Fault x) = ⊥
@@ -98,10 +95,10 @@ pub record Shuts (s : Walk) (end : ℕ) (r : Turn) : Type 0 where
 
 -- what a child that is no node says, where row i is the innermost open node's
 abbrev pub IsChildIn : List ℕ → StartTag → ℕ → Walk → Lent → Lent → Turn → Type 0
-IsChildIn doc c i s b b′ (Fault x) = Child doc (1 ∷ 2 ∷ 8 ∷ 9 ∷ 11 ∷ 13 ∷ []) true c i (moved (s .fill) (c .end)) b b′ (Answer.Fault x)
+IsChildIn doc c i s b b′ (Fault x) = Child doc kinds.inNode true c i (moved (s .fill) (c .end)) b b′ (Answer.Fault x)
 IsChildIn doc c i s b b′ (Done g) = ⊥
 IsChildIn doc c i s b b′ (On s′) =
-    Child doc (1 ∷ 2 ∷ 8 ∷ 9 ∷ 11 ∷ 13 ∷ []) true c i (moved (s .fill) (c .end)) b b′ (Answer.Done (s′ .fill))
+    Child doc kinds.inNode true c i (moved (s .fill) (c .end)) b b′ (Answer.Done (s′ .fill))
     × (s′ ≡ record { depth = s .depth; at = s .at; len = s .len; fill = s′ .fill })
 
 pub record ChildIn (doc : List ℕ) (c : StartTag) (i : ℕ) (s : Walk) (b b′ : Lent) (r : Turn) : Type 0 where
@@ -121,7 +118,7 @@ pub record Begun (doc : List ℕ) (c : StartTag) (s : Walk) (opened opened′ : 
       TagIs doc c t →
       Nested doc s →
       Stands v b (s .fill) →
-      LeadsFrom doc root opened′ (runs doc (c .end) (child whole doc 1 (getD opened (s .depth - 1) 0) t (framesOf root opened (s .depth)) v)) b′ r
+      LeadsFrom doc root opened′ (runs doc (c .end) (child whole doc kinds.node (getD opened (s .depth - 1) 0) t (framesOf root opened (s .depth)) v)) b′ r
 
 -- what walking the open nodes to the root's end says
 abbrev pub EndsNodes : State Shown → Lent → Answer → Type 0
@@ -137,7 +134,7 @@ pub record ReadsWhole (doc : List ℕ) (b : Lent) (r : Answer) : Type 0 where
 
 -- what reading the root element says
 pub record ReadsRoot (doc : List ℕ) (c : StartTag) (b : Lent) (r : Answer) : Type 0 where
-  pub ends : (t : Tag) → TagIs doc c t → EndsNodes (runs doc (c .end) (begins whole doc 1 t [] (record { rows = []; warnings = [] }))) b r
+  pub ends : (t : Tag) → TagIs doc c t → EndsNodes (runs doc (c .end) (begins whole doc kinds.node t [] (record { rows = []; warnings = [] }))) b r
 
 -- room for the rows of the open nodes: the root's is 0
 pub record Levels (opened : List ℕ) : Type 0 where
@@ -155,4 +152,4 @@ pub record RootOpen (doc : List ℕ) (c : StartTag) (g : Fill) (rows text : List
       TagIs doc c t →
       (v : Tables Shown)
       × Stands v (lent rows w text) g
-      × (begins whole doc 1 t [] (record { rows = []; warnings = [] }) ≡ reading (element 1 (take (c .len) (drop (c .at) doc)) 0 ∷ []) v)
+      × (begins whole doc kinds.node t [] (record { rows = []; warnings = [] }) ≡ reading (element kinds.node (take (c .len) (drop (c .at) doc)) 0 ∷ []) v)

@@ -6,17 +6,18 @@ use document::Refusal;
 use document::StartTag;
 use document::Token;
 use document::Verdict;
+use document::kinds;
 use tags::step;
 ghost use mathlib.Core.Path.{_≡_};
-ghost use mathlib.Core.List.{[], _∷_};
 ghost use mathlib.Core.Bool.{true, false};
 ghost use Prim.Native.Nat.{_+_, _*_, _≤_, _<_};
 ghost use lib.ListN.{length, take, drop};
 ghost use Rattle.scan.specs.Classes.{Classes};
-ghost use Rattle.document.specs.Outcome.{lent, Ready, Sound, TagFits, Child};
-ghost use Rattle.document.specs.Whole.{read, verdictOf, rowsLeft, warningsLeft, textLeft};
-ghost use Rattle.reader.specs.Entry.{room, Says, Ended, Refuses, HasRoom, Accepts};
-ghost use Rattle.reader.specs.Nodes.{Walking, Turns, Opens, Looks, NextIn, Shuts, ChildIn, Started, Begun, Walks, Levels, RootOpen, ReadsRoot, ReadsWhole, moved};
+ghost use Rattle.document.specs.Kinds as kinds;
+ghost use Rattle.document.specs.Outcome.{lent, Ready, Sound, TagFits, Child, moved};
+ghost use Rattle.document.specs.Whole.{roomOf, Says};
+ghost use Rattle.reader.specs.Entry.{Ended, Refuses, HasRoom, Accepts};
+ghost use Rattle.reader.specs.Nodes.{Walking, Turns, Opens, Looks, NextIn, Shuts, ChildIn, Started, Begun, Walks, Levels, RootOpen, ReadsRoot, ReadsWhole};
 
 // How many nodes are open, the place and length of the name of one that is open in the root, and the counts so far.
 pub struct Walk {
@@ -44,11 +45,11 @@ fn node_child(
     i: usize,
     f: Fill,
 ) -> Answer
-    requires { ⌜ Ready (now doc) c f ⌝ ∗ ⌜ i < f .rows ⌝ ∗ ⌜ (c .kind ≡ 1 → ⊥) ⌝ ∗ ⌜ Classes (now classes) ⌝ }
-    ensures { λ r. ⌜ Child (now (doc .entry)) (1 ∷ 2 ∷ 8 ∷ 9 ∷ 11 ∷ 13 ∷ []) true c i f (lent (now (rows .entry)) (now (warnings .entry)) (now (text .entry))) (lent (now (rows .exit)) (now (warnings .exit)) (now (text .exit))) r ⌝ }
+    requires { ⌜ Ready (now doc) c f ⌝ ∗ ⌜ i < f .rows ⌝ ∗ ⌜ (c .kind ≡ kinds.node → ⊥) ⌝ ∗ ⌜ Classes (now classes) ⌝ }
+    ensures { λ r. ⌜ Child (now (doc .entry)) kinds.inNode true c i f (lent (now (rows .entry)) (now (warnings .entry)) (now (text .entry))) (lent (now (rows .exit)) (now (warnings .exit)) (now (text .exit))) r ⌝ }
 {
     let kind = c.kind;
-    if kind == 2 {
+    if kind == kinds::INTERFACE {
         return interfaces::interface(doc, classes, rows, warnings, text, c, i + 1, f);
     }
     if interfaces::is_definition(kind) {
@@ -67,19 +68,19 @@ fn open_node(
     i: usize,
     s: Walk,
 ) -> Turn
-    requires { ⌜ Started (now doc) (now opened) c s ⌝ ∗ ⌜ c .kind ≡ 1 ⌝ ∗ ⌜ i < s .fill .rows ⌝ }
+    requires { ⌜ Started (now doc) (now opened) c s ⌝ ∗ ⌜ c .kind ≡ kinds.node ⌝ ∗ ⌜ i < s .fill .rows ⌝ }
     ensures { λ r. ⌜ Opens (now (doc .entry)) c i s (now (opened .entry)) (now (opened .exit)) (now (rows .entry)) (now (rows .exit)) (now (text .entry)) (now (text .exit)) r ⌝ }
 {
     let f = s.fill;
     let depth = s.depth;
     let closes = c.closes;
-    let moved = Fill {
+    let h = Fill {
         at: c.end,
         rows: f.rows,
         warnings: f.warnings,
         text: f.text,
     };
-    match elements::node_row(doc, rows, text, c, i + 1, moved) {
+    match elements::node_row(doc, rows, text, c, i + 1, h) {
         Answer::Fault(refusal) => Turn::Fault(refusal),
         Answer::Done(g) => {
             if closes {
@@ -125,12 +126,7 @@ fn close_node(s: Walk, end: usize) -> Turn
     ensures { λ r. ⌜ Shuts s end r ⌝ }
 {
     let f = s.fill;
-    let fill = Fill {
-        at: end,
-        rows: f.rows,
-        warnings: f.warnings,
-        text: f.text,
-    };
+    let fill = f.moved(end);
     if s.depth == 1 {
         return Turn::Done(fill);
     }
@@ -153,16 +149,11 @@ fn read_child(
     i: usize,
     s: Walk,
 ) -> Turn
-    requires { ⌜ Ready (now doc) c (moved (s .fill) (c .end)) ⌝ ∗ ⌜ i < s .fill .rows ⌝ ∗ ⌜ (c .kind ≡ 1 → ⊥) ⌝ ∗ ⌜ Classes (now classes) ⌝ }
+    requires { ⌜ Ready (now doc) c (moved (s .fill) (c .end)) ⌝ ∗ ⌜ i < s .fill .rows ⌝ ∗ ⌜ (c .kind ≡ kinds.node → ⊥) ⌝ ∗ ⌜ Classes (now classes) ⌝ }
     ensures { λ r. ⌜ ChildIn (now (doc .entry)) c i s (lent (now (rows .entry)) (now (warnings .entry)) (now (text .entry))) (lent (now (rows .exit)) (now (warnings .exit)) (now (text .exit))) r ⌝ }
 {
     let f = s.fill;
-    let fill = Fill {
-        at: c.end,
-        rows: f.rows,
-        warnings: f.warnings,
-        text: f.text,
-    };
+    let fill = f.moved(c.end);
     match node_child(doc, classes, rows, warnings, text, c, i, fill) {
         Answer::Fault(refusal) => Turn::Fault(refusal),
         Answer::Done(g) => Turn::On(Walk {
@@ -190,7 +181,7 @@ fn start_in(
 {
     let last = s.depth - 1;
     let i = wide(opened[last]);
-    if c.kind == 1 {
+    if c.kind == kinds::NODE {
         return open_node(doc, rows, text, opened, c, i, s);
     }
     read_child(doc, classes, rows, warnings, text, c, i, s)
@@ -383,7 +374,7 @@ fn has_room(rows: usize, warnings: usize, text: usize, f: Fill) -> bool
 // The verdict on a document that has been read, and the buffers that go with it.
 fn finish(doc: &[u8], rows: &mut [u32], warnings: &mut [u32], text: &mut [u8], a: Answer) -> Verdict
     requires { ⌜ Ended (now doc) (now rows) (now warnings) (now text) a ⌝ }
-    ensures { λ r. ⌜ Says (now (doc .entry)) (length (now (rows .entry))) (length (now (warnings .entry))) (length (now (text .entry))) (now (rows .exit)) (now (warnings .exit)) (now (text .exit)) r ⌝ }
+    ensures { λ r. ⌜ Says (now (doc .entry)) (roomOf (now (rows .entry)) (now (warnings .entry)) (now (text .entry))) (now (rows .exit)) (now (warnings .exit)) (now (text .exit)) r ⌝ }
 {
     match a {
         Answer::Fault(refusal) => refuse(rows, warnings, text, refusal),
@@ -407,10 +398,7 @@ pub fn parse_with_warnings(
     warnings: &mut [u32],
     text: &mut [u8],
 ) -> Verdict
-    ensures verdict { λ r. ⌜ r ≡ verdictOf (read (now (document .entry)) (room (length (now (rows .entry))) (length (now (warnings .entry))) (length (now (text .entry))))) ⌝ }
-    ensures rows { λ r. ⌜ now (rows .exit) ≡ rowsLeft (room (length (now (rows .entry))) (length (now (warnings .entry))) (length (now (text .entry)))) (read (now (document .entry)) (room (length (now (rows .entry))) (length (now (warnings .entry))) (length (now (text .entry))))) ⌝ }
-    ensures warnings { λ r. ⌜ now (warnings .exit) ≡ warningsLeft (room (length (now (rows .entry))) (length (now (warnings .entry))) (length (now (text .entry)))) (read (now (document .entry)) (room (length (now (rows .entry))) (length (now (warnings .entry))) (length (now (text .entry))))) ⌝ }
-    ensures text { λ r. ⌜ now (text .exit) ≡ textLeft (room (length (now (rows .entry))) (length (now (warnings .entry))) (length (now (text .entry)))) (read (now (document .entry)) (room (length (now (rows .entry))) (length (now (warnings .entry))) (length (now (text .entry))))) ⌝ }
+    ensures { λ r. ⌜ Says (now (document .entry)) (roomOf (now (rows .entry)) (now (warnings .entry)) (now (text .entry))) (now (rows .exit)) (now (warnings .exit)) (now (text .exit)) r ⌝ }
 {
     if 1048576 < document.len() {
         let long = Refusal {
@@ -433,7 +421,7 @@ pub fn parse_with_warnings(
 // The same for a document within the limit that is UTF-8.
 fn read_sound(doc: &[u8], rows: &mut [u32], warnings: &mut [u32], text: &mut [u8]) -> Verdict
     requires { ⌜ Sound (now doc) ⌝ }
-    ensures { λ r. ⌜ Says (now (doc .entry)) (length (now (rows .entry))) (length (now (warnings .entry))) (length (now (text .entry))) (now (rows .exit)) (now (warnings .exit)) (now (text .exit)) r ⌝ }
+    ensures { λ r. ⌜ Says (now (doc .entry)) (roomOf (now (rows .entry)) (now (warnings .entry)) (now (text .entry))) (now (rows .exit)) (now (warnings .exit)) (now (text .exit)) r ⌝ }
 {
     let classes = scan::classes();
     let a = document_node(doc, &classes, rows, warnings, text);

@@ -1,26 +1,25 @@
 -- What the entries answer, and the text that they leave, on each of their ways.
 -- Assumes nothing.
 use Prim.Native.Nat.{ℕ, _+_, _-_, _*_, _^_, _≤_, _<_}
-use mathlib.Core.Path.{_≡_, refl, sym, ap, _∙_}
-use mathlib.Core.List.{List, [], _++_}
+use mathlib.Core.Path.{_≡_, _∙_}
+use mathlib.Core.List.{List, []}
 use borrow.Author.Needs.{needs}
 use borrow.Author.Tests.{lt-ltb, le-ltb}
-use native.Mathlib.Nat.{mul-one}
 use native.Mathlib.Omega.{arith}
-use lib.ListN.{length, replicate}
-use Rattle.tables.specs.Table.{Rep, Wiped, cleared}
-use Rattle.tables.proofs.Tables.{empty-stands, clear-all, clear-rest}
+use lib.ListN.{length}
+use Rattle.tables.proofs.Tables.{empty-stands}
 use Rattle.utf8.specs.WellFormed.{illFormed}
+use Rattle.answers.specs.Text.{wrong, Says, Finishes}
+use Rattle.answers.specs.Puts.{Puts}
+use Rattle.answers.specs.declared.TextAnswer.{TextAnswer}
 use Rattle.references.specs.Escape.{escape}
-use Rattle.references.specs.Unescape.{Text, wrong, unescape}
-use Rattle.references.specs.Outcome.{Checks, Puts, Shows}
-use Rattle.references.specs.Entries.{escaping, fitting, unescaping, answerOf, leftOf, Says}
-use Rattle.references.specs.Admission.{Admits, Reads, Finishes}
+use Rattle.references.specs.Unescape.{unescape}
+use Rattle.references.specs.Outcome.{Checks, Shows}
+use Rattle.references.specs.Entries.{escaping, fitting, unescaping}
+use Rattle.references.specs.Admission.{Admits, Reads}
 use Rattle.references.specs.declared.ValuePlace.{ValuePlace}
 use Rattle.references.specs.declared.Checked.{Checked}
 use Rattle.references.specs.declared.Checked.the-variants.{Good, Fault}
-use Rattle.references.specs.declared.Answer.{Answer}
-use Rattle.references.specs.declared.Answer.the-variants.{Refused, Done}
 
 -- ---- 2, then 1
 
@@ -50,29 +49,7 @@ module _ {v : List ℕ} where
         go Good k = let d : Admits v Good = rw e at c in record { is = (d .is .0, d .is .1, k .is) }
         go (Fault n p) k = let d : Admits v Good = rw e at c in record { is = λ room. d .is .1 _ ∙ rw (k .is) }
 
--- ---- the text left
-
-pub refused : {t t′ : List ℕ} {n p : ℕ} → Wiped 0 t t′ → Says (wrong n p) (length t) t′ (Refused n p)
-refused {t} z = record { answer = refl; left = z .is ∙ clear-all t }
-
-module _ {n number place : ℕ} {t t′ : List ℕ} where
-  pub finish-full : {r : Answer} → length t < n → Says (wrong number place) (length t) t′ r → Finishes n number place t t′ r
-  finish-full h s = record { says = λ xs k. rw (lt-ltb (length t) (length xs) (omega (arith, k .many, mul-one n))) s }
-
-  pub finish-fits : n ≤ length t → Wiped n t t′ → Finishes n number place t t′ (Done n)
-  finish-fits h z = record {
-    says = λ xs k.
-        let e : length xs ≡ n = k .many ∙ mul-one n in
-        rw (le-ltb (length t) (length xs) (omega arith)) record {
-          answer = ap Done (sym e);
-          left = z .is ∙ rest xs k e;
-        };
-  }
-    where
-      rest : (xs : List ℕ) → Rep 1 t n xs → length xs ≡ n → cleared n t ≡ xs ++ replicate (length t - length xs) 0
-      rest xs k e = rw e (rw mul-one at (clear-rest {w = 1} (omega arith) k (rw mul-one h)))
-
-pub ruleset steps = (admits-long, admits-ill, admits-all, reads-fault, reads-check, refused, finish-full, finish-fits, needs)
+pub ruleset steps = (admits-long, admits-ill, admits-all, reads-fault, reads-check, needs)
 
 -- ---- the entries
 
@@ -80,7 +57,7 @@ module _ {v : List ℕ} {a : Checked} (c : Admits v a) where
   pub escape-room : a ≡ Good → 0 + 6 * length v < 2 ^ 62
   escape-room e = let d : Admits v Good = rw e at c in omega (arith, d .is .0)
 
-  module _ {t′ : List ℕ} {room : ℕ} {r : Answer} where
+  module _ {t′ : List ℕ} {room : ℕ} {r : TextAnswer} where
     pub escape-fault : {n : ℕ} {p : ValuePlace} → a ≡ Fault n p → Says (wrong n (p .0)) room t′ r → Says (escaping v room) room t′ r
     unfolding escaping
     escape-fault {n} {p} e s = let d : Admits v (Fault n p) = rw e at c in rw (d .is _) s
@@ -97,7 +74,7 @@ module _ {v : List ℕ} {a : Checked} (c : Reads v a) where
   pub unescape-room : a ≡ Good → 0 + length v < 2 ^ 62
   unescape-room e = let d : Reads v Good = rw e at c in omega (arith, d .is .0)
 
-  module _ {t′ : List ℕ} {room : ℕ} {r : Answer} where
+  module _ {t′ : List ℕ} {room : ℕ} {r : TextAnswer} where
     pub unescape-fault : {n : ℕ} {p : ValuePlace} → a ≡ Fault n p → Says (wrong n (p .0)) room t′ r → Says (unescaping v room) room t′ r
     unescape-fault {n} {p} e s = let d : Reads v (Fault n p) = rw e at c in rw (d .is room) s
 
@@ -107,8 +84,5 @@ module _ {v : List ℕ} {a : Checked} (c : Reads v a) where
         let d : Reads v Good = rw e at c in
         let s = f .says (d .is .2 .0) (q .puts (d .is .2 .0) (d .is .2 .1) .stands [] (empty-stands 1 t)) in
         rw (d .is .1 _, d .is .2 .1) (rw l at s)
-
-pub said : (f : List ℕ → ℕ → Text) (v : List ℕ) (room : ℕ) (t : List ℕ) (r : Answer) → Says (f v room) room t r → (r ≡ answerOf (f v room)) × (t ≡ leftOf room (f v room))
-said f v room t r s = (s .answer, s .left)
 
 pub ruleset entries = (escape-fault, escape-done, escape-room, unescape-fault, unescape-done, unescape-room, needs)

@@ -1,6 +1,6 @@
 -- What stands between `&` and `;`.
 -- Assumes nothing.
-use Prim.Native.Nat.{ℕ, suc, _≤_, _<_}
+use Prim.Native.Nat.{ℕ, _≤_, _<_}
 use Prim.Native.String as string
 use mathlib.Core.Path.{_≡_, refl, sym, ap, _∙_}
 use mathlib.Core.List.{List, [], _∷_}
@@ -12,7 +12,7 @@ use lib.Dec.{eqb}
 use lib.ListN.{length, drop, getD, drop-of-length-le}
 use lib.Seq.{drop-cons}
 use Rattle.slices.specs.Bytes.{if, bytes, all, empty, same}
-use Rattle.slices.proofs.Runs.{both}
+use Rattle.slices.proofs.Runs.{same-equal}
 use Rattle.references.specs.Characters.{xmlChar}
 use Rattle.references.specs.Unescape.{Reference, character, fault, decimalDigit, hexDigit, number, ofCode, ofDigits, ofNumber, charReference, reference}
 use Rattle.references.specs.Digits.{digitIn, Base}
@@ -117,12 +117,6 @@ char-good (b ∷ d ∷ l) c h = (
       (no-fault 10 c) h,
 )
 
-same-length : (a b : List ℕ) → same a b ≡ true → length a ≡ length b
-same-length [] [] e = refl
-same-length [] (y ∷ b) e = let z : _≡_ {A = ℕ} 0 1 = cc in absurd (omega arith)
-same-length (x ∷ a) [] e = let z : _≡_ {A = ℕ} 0 1 = cc in absurd (omega arith)
-same-length (x ∷ a) (y ∷ b) e = ap suc (same-length a b (both (eqb x y) (same a b) e .1))
-
 pub reference-good : (e : List ℕ) (c : ℕ) → reference e ≡ character c → (2 ≤ length e) × (xmlChar c ≡ true)
 unfolding reference xmlChar
 reference-good e c =
@@ -131,7 +125,7 @@ reference-good e c =
     named : (s : string.String) (n : ℕ) → 2 ≤ length (bytes s) → xmlChar n ≡ true → {y : Reference} → (y ≡ character c → (2 ≤ length e) × (xmlChar c ≡ true)) → if (same e (bytes s)) (character n) y ≡ character c → (2 ≤ length e) × (xmlChar c ≡ true)
     named s n h g {y} =
         either ((2 ≤ length e) × (xmlChar c ≡ true)) (same e (bytes s)) (character n) y c
-        (λ t q. let i : n ≡ c = cc in (omega (arith, same-length e (bytes s) t), rw i at g))
+        (λ t q. let i : n ≡ c = cc in (omega (arith, ap length (same-equal e (bytes s) t)), rw i at g))
 
 pub good : (e : List ℕ) (c : ℕ) → reference e ≡ character c → Good e c
 good e c h = let g = reference-good e c h in record { long = g .0; small = char-small c (g .1) }

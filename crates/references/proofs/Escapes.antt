@@ -5,6 +5,7 @@ use mathlib.Core.Path.{_≡_, refl, sym, _∙_}
 use mathlib.Core.List.{List, [], _∷_, _++_, append-nil, append-assoc}
 use mathlib.Core.Bool.{Bool, true, false}
 use borrow.Author.Needs.{needs}
+use borrow.Author.Tests.{ne-eqb}
 use native.Mathlib.Numerals.{add-one}
 use native.Mathlib.Omega.{arith}
 use lib.ListN.{length, take, getD, length-append}
@@ -13,9 +14,9 @@ use Rattle.slices.specs.Bytes.{all}
 use Rattle.slices.proofs.Runs.{both, by-byte}
 use Rattle.scan.specs.Classes.{escapable}
 use Rattle.tables.specs.Table.{Put}
+use Rattle.answers.specs.Puts.{Puts}
+use Rattle.answers.proofs.Putting.{puts-none, puts-one, puts-then}
 use Rattle.references.specs.Escape.{escaped, escape}
-use Rattle.references.specs.Outcome.{Puts}
-use Rattle.references.proofs.Putting.{puts-none, puts-one, puts-then}
 
 -- what holds of the eight bytes that are escaped, and of any other as it is, holds of each byte
 pub by-escape :
@@ -34,13 +35,13 @@ by-escape P b p1 p2 p3 p4 p5 p6 p7 p8 q =
     by-byte (λ x. P x (escaped x)) b 13 p8 λ h8.
     rw (h1, h2, h3, h4, h5, h6, h7, h8) (q (rw (h1, h2, h3, h4, h5, h6, h7, h8)))
 
-pub escaped-same : (b : ℕ) → escapable b ≡ false → escaped b ≡ b ∷ []
+escaped-same : (b : ℕ) → escapable b ≡ false → escaped b ≡ b ∷ []
 escaped-same b = by-escape (λ x e. escapable x ≡ false → e ≡ x ∷ []) b (λ e. cc) (λ e. cc) (λ e. cc) (λ e. cc) (λ e. cc) (λ e. cc) (λ e. cc) (λ e. cc) (λ h e. refl)
 
-pub escaped-most : (b : ℕ) → length (escaped b) ≤ 6
+escaped-most : (b : ℕ) → length (escaped b) ≤ 6
 escaped-most b = by-escape (λ x e. length e ≤ 6) b (omega arith) (omega arith) (omega arith) (omega arith) (omega arith) (omega arith) (omega arith) (omega arith) (λ h. omega arith)
 
-pub escaped-least : (b : ℕ) → 1 ≤ length (escaped b)
+escaped-least : (b : ℕ) → 1 ≤ length (escaped b)
 escaped-least b = by-escape (λ x e. 1 ≤ length e) b (omega arith) (omega arith) (omega arith) (omega arith) (omega arith) (omega arith) (omega arith) (omega arith) (λ h. omega arith)
 
 -- ---- laws of the whole
@@ -71,6 +72,18 @@ escape-same p d [] h = refl
 escape-same p d (b ∷ s) h =
     let t = both (p b) (all p s) h in
     rw (escaped-same b (d b (t .0)), escape-same p d s (t .1))
+
+-- ---- what is put
+
+-- a byte as it is escaped
+module _ {b n r : ℕ} {t t′ : List ℕ} where
+  pub reference-one : {ys : List ℕ} (k : ℕ) → b ≡ k → ys ≡ escaped k → Puts ys n t t′ r → Puts (escaped b) n t t′ r
+  reference-one k e f p = rw (e, ← f) p
+
+  pub reference-none : (b ≡ 38 → ⊥) → (b ≡ 60 → ⊥) → (b ≡ 62 → ⊥) → (b ≡ 34 → ⊥) → (b ≡ 39 → ⊥) → (b ≡ 9 → ⊥) → (b ≡ 10 → ⊥) → (b ≡ 13 → ⊥) → Put 1 (b ∷ []) n t t′ r → Puts (escaped b) n t t′ r
+  reference-none e1 e2 e3 e4 e5 e6 e7 e8 p = rw (ne-eqb b 38 e1, ne-eqb b 60 e2, ne-eqb b 62 e3, ne-eqb b 34 e4, ne-eqb b 39 e5, ne-eqb b 9 e6, ne-eqb b 10 e7, ne-eqb b 13 e8) (puts-one p)
+
+pub ruleset references = (reference-one, reference-none, needs)
 
 -- ---- the loop that puts it
 

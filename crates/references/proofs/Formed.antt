@@ -4,23 +4,26 @@ use Prim.Native.Nat.{ℕ, zero, suc, _+_, _/_, _%_, _≤_, _<_}
 use mathlib.Core.Path.{_≡_, refl, sym, ap, _∙_}
 use mathlib.Core.List.{List, [], _∷_, _++_}
 use mathlib.Core.Bool.{true, false}
-use borrow.Author.Tests.{lt-ltb, le-ltb, ne-eqb, ltb-true, leb-true, le-leb}
+use borrow.Author.Tests.{lt-ltb, le-ltb, ne-eqb, leb-true, le-leb}
 use native.Mathlib.Numerals.{add-one}
 use native.Mathlib.Omega.{arith}
-use lib.Dec.{leb, ltb}
+use lib.Dec.{leb}
 use lib.ListN.{length, drop, getD, length-append, length-drop}
 use Rattle.slices.specs.Bytes.{all}
 use Rattle.slices.proofs.Runs.{both}
 use Rattle.scan.specs.Classes.{escapable}
-use Rattle.utf8.specs.WellFormed.{to, table, begins, sequence, illFormed}
+use Rattle.utf8.specs.WellFormed.{to, table, begins, sequence}
 use Rattle.utf8.specs.Sequence.{taken}
 use Rattle.utf8.proofs.Sequences as sequences
 use Rattle.utf8.proofs.Sequences.{Char, Only, Followed, rest, only, within-true, below, char-shape}
-use Rattle.utf8.proofs.Texts.{All, joined, Whole, none-whole, whole, formed, whole-append, whole-char, ascii-char}
+use Rattle.utf8.proofs.Texts.{All, joined, Whole, none-whole, whole, formed, whole-append, whole-char, ascii-char, ascii}
 use Rattle.utf8.proofs.Cuts.{cut-after-ascii}
-use Rattle.references.specs.Characters.{xmlChar, utf8}
+use Rattle.utf8.specs.Encoding.{utf8}
+use Rattle.answers.specs.Text.{text}
+use Rattle.references.specs.Characters.{xmlChar}
 use Rattle.references.specs.Escape.{escaped, escape}
-use Rattle.references.specs.Unescape.{text, shownFrom, unescape, plain}
+use Rattle.references.specs.Unescape.{shownFrom, unescape, plain}
+use Rattle.references.specs.RoundTrip.{EscapeFormed, UnescapeFormed}
 use Rattle.references.proofs.Numbers.{never, char-small, char-surrogate}
 use Rattle.references.proofs.Values.{plain-above}
 use Rattle.references.proofs.Escapes.{by-escape, escape-append, escape-one, escape-same}
@@ -61,17 +64,17 @@ module _ (a b c : ℕ) (l : 0x80 ≤ b) (m : b ≤ 0xbf) (i : 0x80 ≤ c) (j : c
         (λ g. row-char 8 a (b ∷ c ∷ d ∷ []) (omega arith) (three-more 0x80 0x8f l (f4 (omega arith))) refl))
 
 -- no surrogate, and below the first code that is none
-pub record Scalar (c : ℕ) : Type 0 where
+record Scalar (c : ℕ) : Type 0 where
   pub small : c < 0x110000
   pub apart : 0xd800 ≤ c → c < 0xe000 → ⊥
 
-pub scalar : (c : ℕ) → xmlChar c ≡ true → Scalar c
+scalar : (c : ℕ) → xmlChar c ≡ true → Scalar c
 scalar c h = record {
   small = char-small c h;
   apart = λ k l. never (xmlChar c) (sym (char-surrogate c (omega arith) (omega arith) l)) h;
 }
 
-pub utf8-char : (c : ℕ) → Scalar c → Char (utf8 c)
+utf8-char : (c : ℕ) → Scalar c → Char (utf8 c)
 unfolding utf8
 utf8-char c s =
     below c 0x80 (λ h. rw (lt-ltb c 0x80 h) (ascii-char h))
@@ -112,12 +115,6 @@ by-char P (a ∷ l) h f g = below a 128 (λ k. one l k (s .leads .1 k)) (λ k. g
     one [] k e = f a k
     one (b ∷ l) k e = absurd (omega arith)
 
-ascii : (l : List ℕ) → all (λ b. ltb b 128) l ≡ true → Whole l
-ascii [] h = none-whole
-ascii (b ∷ l) h =
-    let t = both (ltb b 128) (all (λ b. ltb b 128) l) h in
-    whole-append (whole-char (ascii-char (ltb-true b 128 (t .0)))) (ascii l (t .1))
-
 escaped-whole : (b : ℕ) → b < 128 → Whole (escaped b)
 escaped-whole b h =
     by-escape (λ x e. Whole e) b (ascii _ refl) (ascii _ refl) (ascii _ refl) (ascii _ refl) (ascii _ refl) (ascii _ refl) (ascii _ refl) (ascii _ refl) (λ e. whole-char (ascii-char h))
@@ -130,7 +127,7 @@ escape-chars : (cs : List (List ℕ)) → All cs → Whole (escape (joined cs))
 escape-chars [] h = unfold escape in none-whole
 escape-chars (c ∷ cs) h = rw escape-append (whole-append (escape-char c (h .0)) (escape-chars cs (h .1)))
 
-pub escape-formed : (v : List ℕ) → illFormed v ≡ length v → illFormed (escape v) ≡ length (escape v)
+pub escape-formed : EscapeFormed
 escape-formed v h = let w = whole v h in formed (rw (w .is) at (escape-chars (w .parts) (w .all)))
 
 -- ---- unescaping
@@ -185,6 +182,6 @@ shown-whole (suc n) l at t h w e =
     whole-step n (shown-whole n) (w .parts) at t (w .all) (rw (w .is) h) (rw (w .is) e)
 
 -- what a well-formed value shows is well-formed
-pub unescape-formed : (v t : List ℕ) → illFormed v ≡ length v → unescape v ≡ text t → illFormed t ≡ length t
+pub unescape-formed : UnescapeFormed
 unfolding unescape
 unescape-formed v t h e = formed (shown-whole (length v) v 0 t (omega arith) (whole v h) e)

@@ -3,7 +3,6 @@
 pub mod Numbers
 pub mod Entities
 pub mod Pieces
-pub mod Putting
 pub mod Values
 pub mod Escapes
 pub mod Answers

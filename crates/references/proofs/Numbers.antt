@@ -3,7 +3,7 @@
 use Prim.Native.Nat.{ℕ, suc, _+_, _-_, _*_, _≤_, _<_}
 use mathlib.Core.Path.{_≡_, refl, sym, _∙_}
 use mathlib.Core.List.{List, [], _∷_}
-use mathlib.Core.Bool.{Bool, true, false, _&&_, _||_}
+use mathlib.Core.Bool.{Bool, true, false, _&&_, _||_, or-false}
 use borrow.Author.Needs.{needs}
 use borrow.Author.Tests.{lt-ltb, le-ltb, le-leb, lt-leb, eq-eqb, ne-eqb, ltb-true, ltb-false}
 use native.Mathlib.Nat.{mul-le-mul, mul-one}
@@ -21,10 +21,6 @@ use Rattle.references.specs.Unescape.{decimalDigit, hexDigit, digitValue
 use Rattle.references.specs.Digits.{digitIn, bounded, Base}
 use Rattle.references.specs.Outcome.{referenceOf}
 use Rattle.references.specs.declared.Reference.the-variants.{Character, Bad}
-
-or-false : (t : Bool) → t || false ≡ t
-or-false true = refl
-or-false false = refl
 
 -- ---- characters
 
@@ -66,7 +62,7 @@ module _ (c : ℕ) where
           char-high g = sym (past-controls ∙ simp (lt-leb c 0xd7ff l, lt-leb c 0xfffd m, le-leb 0xe000 c k, le-leb 0x10000 c g))
 
 -- a number past the last character has none
-pub no-char : (c : ℕ) → 0x110000 ≤ c → xmlChar c ≡ false
+no-char : (c : ℕ) → 0x110000 ≤ c → xmlChar c ≡ false
 no-char c h = sym (char-high c (omega arith) (omega arith) (omega arith) (omega arith) (omega arith)) ∙ lt-leb c 0x10ffff (omega arith)
 
 pub never : (t : Bool) → t ≡ false → t ≡ true → ⊥

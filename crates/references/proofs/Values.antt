@@ -3,28 +3,29 @@
 use Prim.Native.Nat.{ℕ, zero, suc, _+_, _-_, _^_, _≤_, _<_}
 use mathlib.Core.Path.{_≡_, refl, sym, ap, _∙_}
 use mathlib.Core.List.{List, [], _∷_, _++_, append-nil, append-assoc}
-use mathlib.Core.Bool.{Bool, true, false, not, _||_}
+use mathlib.Core.Bool.{Bool, true, false, _||_}
 use borrow.Author.Needs.{needs}
 use borrow.Author.Tests.{ne-eqb, eqb-true, not-true}
 use native.Mathlib.Nat.{add-zero}
-use native.Mathlib.Numerals.{add-one}
 use native.Mathlib.Omega.{arith}
 use lib.Dec.{eqb, ltb}
 use lib.ListN.{length, drop, getD, length-drop, drop-of-length-le}
 use lib.Seq.{drop-cons, drop-drop}
-use Rattle.slices.specs.Bytes.{if, other, all}
+use Rattle.slices.specs.Bytes.{if, other}
 use Rattle.slices.specs.Run.{Run}
 use Rattle.slices.proofs.Runs.{run-past}
 use Rattle.tables.specs.Table.{Put}
-use Rattle.references.specs.Characters.{utf8}
+use Rattle.utf8.specs.Encoding.{utf8}
+use Rattle.answers.specs.Text.{Text, text, wrong}
+use Rattle.answers.specs.Puts.{Puts}
+use Rattle.answers.proofs.Putting.{puts-none, puts-one, puts-then}
 use Rattle.references.specs.Unescape as definition
-use Rattle.references.specs.Unescape.{Text, text, wrong, shows, bad, afterCr, piece, before, joined, shownFrom, unescape, plain}
-use Rattle.references.specs.Outcome.{Pieces, IsPiece, Checks, Puts, Shows}
+use Rattle.references.specs.Unescape.{shows, bad, afterCr, piece, before, joined, shownFrom, unescape, plain}
+use Rattle.references.specs.Outcome.{Pieces, IsPiece, Checks, Shows}
 use Rattle.references.specs.declared.ValuePlace.{ValuePlace}
 use Rattle.references.specs.declared.Piece.{Piece}
 use Rattle.references.specs.declared.Piece.the-variants.{Byte, Char, Wrong}
 use Rattle.references.specs.declared.Checked.the-variants.{Good, Fault}
-use Rattle.references.proofs.Putting.{puts-none, puts-one, puts-then}
 
 -- bytes that are taken already are dropped
 pub taken : (k : ℕ) (l : List ℕ) (at : ℕ) → k ≤ length l → shownFrom k l at ≡ shownFrom 0 (drop k l) (at + k)
@@ -39,21 +40,21 @@ unfoldable pub rest : List ℕ → ℕ → Text
 rest v at = shownFrom 0 (drop at v) at
 
 module _ (v : List ℕ) (at : ℕ) (h : at < length v) where
-  pub rest-shows : {s : List ℕ} {next : ℕ} → piece (getD v at 0) (drop (suc at) v) ≡ shows s (next - suc at) → at < next → next ≤ length v → rest v at ≡ before s (rest v next)
+  rest-shows : {s : List ℕ} {next : ℕ} → piece (getD v at 0) (drop (suc at) v) ≡ shows s (next - suc at) → at < next → next ≤ length v → rest v at ≡ before s (rest v next)
   unfolding rest
   rest-shows {s} {next} e a b =
       let n : suc at + (next - suc at) ≡ next = omega arith in
       rw (drop-cons v at 0 h, e, taken (next - suc at) (drop (suc at) v) (suc at) (rw length-drop (omega arith)), drop-drop (next - suc at) (suc at) v, n)
 
-  pub rest-bad : {n : ℕ} → piece (getD v at 0) (drop (suc at) v) ≡ bad n → rest v at ≡ wrong n at
+  rest-bad : {n : ℕ} → piece (getD v at 0) (drop (suc at) v) ≡ bad n → rest v at ≡ wrong n at
   unfolding rest
   rest-bad e = rw (drop-cons v at 0 h, e)
 
-pub rest-ends : (v : List ℕ) (at : ℕ) → length v ≤ at → rest v at ≡ text []
+rest-ends : (v : List ℕ) (at : ℕ) → length v ≤ at → rest v at ≡ text []
 unfolding rest
 rest-ends v at h = rw (drop-of-length-le v h)
 
-pub rest-all : (v : List ℕ) → unescape v ≡ rest v 0
+rest-all : (v : List ℕ) → unescape v ≡ rest v 0
 unfolding rest unescape
 rest-all v = refl
 
@@ -77,7 +78,7 @@ is-wrong {v} {at} {n} c e = let d : Pieces v at (Wrong n) = rw e at c in d .is
 
 -- ---- the faults alone
 
-abbrev pub faultOf : Text → Text
+abbrev faultOf : Text → Text
 faultOf (text t) = text []
 faultOf (wrong n p) = wrong n p
 
@@ -164,41 +165,8 @@ pub ruleset checks = (check-begins, check-ends, check-fault, byte-inside, check-
 
 -- ---- bytes that show themselves
 
-module _ (b : ℕ) where
-  pub plain-above : 38 < b → true ≡ plain b
-  plain-above h = rw (ne-eqb b 38 (omega arith), ne-eqb b 9 (omega arith), ne-eqb b 10 (omega arith), ne-eqb b 13 (omega arith))
-
-  pub special-ampersand : b ≡ 38 → false ≡ plain b
-  special-ampersand e = rw e
-
-  pub special-tab : b ≡ 9 → false ≡ plain b
-  special-tab e = rw e
-
-  pub special-feed : b ≡ 10 → false ≡ plain b
-  special-feed e = rw e
-
-  pub plain-below : (b ≡ 38 → ⊥) → (b ≡ 9 → ⊥) → (b ≡ 10 → ⊥) → not (eqb b 13) ≡ plain b
-  plain-below e f g = rw (ne-eqb b 38 e, ne-eqb b 9 f, ne-eqb b 10 g)
-
--- a loop over all bytes: whether those that are left are plain is what was asked
-pub record Scanning (v : List ℕ) (at : ℕ) : Type 0 where
-  pub left : all plain v ≡ all plain (drop at v)
-
-pub scan-begins : {v : List ℕ} → Scanning v 0
-scan-begins = record { left = refl }
-
-module _ {v : List ℕ} {at : ℕ} (g : Scanning v at) where
-  pub scan-ends : length v ≤ at → true ≡ all plain v
-  scan-ends h = sym (g .left ∙ rw (drop-of-length-le v h))
-
-  module _ (h : at < length v) {t : Bool} (e : t ≡ plain (getD v at 0)) where
-    pub scan-more : t ≡ true → Scanning v (at + 1)
-    scan-more f = record { left = g .left ∙ rw (drop-cons v at 0 h, sym e ∙ f, add-one) }
-
-    pub scan-stops : t ≡ false → false ≡ all plain v
-    scan-stops f = sym (g .left ∙ rw (drop-cons v at 0 h, sym e ∙ f))
-
-pub ruleset plains = (plain-above, special-ampersand, special-tab, special-feed, plain-below, scan-begins, scan-ends, scan-more, scan-stops, needs)
+pub plain-above : (b : ℕ) → 38 < b → true ≡ plain b
+plain-above b h = rw (ne-eqb b 38 (omega arith), ne-eqb b 9 (omega arith), ne-eqb b 10 (omega arith), ne-eqb b 13 (omega arith))
 
 -- ---- the shown bytes put
 

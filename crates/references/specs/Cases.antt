@@ -2,11 +2,13 @@
 -- Assumes nothing.
 use Prim.Native.Nat.{ℕ}
 use mathlib.Core.Path.{_≡_, refl}
-use mathlib.Core.List.{List, [], _∷_, _++_, map}
+use mathlib.Core.List.{List, [], _∷_, map}
 use Rattle.slices.specs.Bytes.{bytes}
-use Rattle.references.specs.Characters.{xmlChar, utf8}
+use Rattle.utf8.specs.Encoding.{utf8}
+use Rattle.answers.specs.Text.{Text, text, wrong}
+use Rattle.references.specs.Characters.{xmlChar}
 use Rattle.references.specs.Escape.{escape}
-use Rattle.references.specs.Unescape.{Text, text, wrong, reference, piece, unescape}
+use Rattle.references.specs.Unescape.{reference, piece, unescape}
 
 abbrev pub values : List (List ℕ × Text)
 values =
@@ -23,6 +25,7 @@ values =
     ∷ (bytes "&a &lt;", wrong 10 0)
     ∷ (bytes "&#65 &lt;", wrong 11 0)
     ∷ (bytes "&#0", wrong 9 0)
+    ∷ (13 ∷ 10 ∷ bytes "&q;", wrong 10 2)
     ∷ []
 
 pub worked : map (λ v. unescape (v .0)) values ≡ map (λ v. v .1) values

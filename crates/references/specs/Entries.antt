@@ -1,16 +1,14 @@
--- What the entries `escape` and `unescape` answer and leave, for the room lent.
+-- What the entries `escape` and `unescape` come to, for the room lent.
 -- Assumes nothing.
-use Prim.Native.Nat.{ℕ, _-_}
-use mathlib.Core.Path.{_≡_}
-use mathlib.Core.List.{List, _++_}
+use Prim.Native.Nat.{ℕ}
+use mathlib.Core.List.{List}
 use lib.Dec.{ltb}
-use lib.ListN.{length, replicate}
+use lib.ListN.{length}
 use Rattle.slices.specs.Bytes.{if}
 use Rattle.utf8.specs.WellFormed.{illFormed}
+use Rattle.answers.specs.Text.{Text, text, wrong, roomy}
 use Rattle.references.specs.Escape.{escape}
-use Rattle.references.specs.Unescape.{Text, text, wrong, unescape}
-use Rattle.references.specs.declared.Answer.{Answer}
-use Rattle.references.specs.declared.Answer.the-variants.{Refused, Done}
+use Rattle.references.specs.Unescape.{unescape}
 
 -- 2, then 1, for a value
 abbrev pub checked : List ℕ → Text → Text
@@ -19,10 +17,6 @@ checked v r =
     if (ltb 1048576 (length v)) (wrong 2 1048576) u
 
 -- escaping: 2, 1, 21 at the bytes needed
-abbrev pub roomy : ℕ → Text → Text
-roomy room (text t) = if (ltb room (length t)) (wrong 21 (length t)) (text t)
-roomy room (wrong n p) = wrong n p
-
 unfoldable pub escaping : List ℕ → ℕ → Text
 escaping v room = checked v (roomy room (text (escape v)))
 
@@ -33,18 +27,3 @@ fitting end room (wrong n p) = wrong n p
 
 unfoldable pub unescaping : List ℕ → ℕ → Text
 unescaping v room = checked v (fitting (length v) room (unescape v))
-
--- number and place, or the count
-abbrev pub answerOf : Text → Answer
-answerOf (text t) = Done (length t)
-answerOf (wrong n p) = Refused n p
-
--- the text and zeros, or zeros alone
-abbrev pub leftOf : ℕ → Text → List ℕ
-leftOf room (text t) = t ++ replicate (room - length t) 0
-leftOf room (wrong n p) = replicate room 0
-
--- the answer and the bytes left are those of an outcome, with so much room
-pub record Says (o : Text) (room : ℕ) (out : List ℕ) (r : Answer) : Type 0 where
-  pub answer : r ≡ answerOf o
-  pub left : out ≡ leftOf room o

@@ -6,5 +6,6 @@ pub mod Unescape
 pub mod Digits
 pub mod Outcome
 pub mod Entries
+pub mod RoundTrip
 pub mod Admission
 pub mod Cases

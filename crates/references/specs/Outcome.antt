@@ -2,12 +2,13 @@
 -- Assumes nothing.
 use Prim.Native.Nat.{ℕ, suc, _+_, _-_, _≤_, _<_}
 use mathlib.Core.Path.{_≡_}
-use mathlib.Core.List.{List, [], _∷_, _++_}
+use mathlib.Core.List.{List, [], _∷_}
 use lib.ListN.{length, drop, getD}
-use Rattle.tables.specs.Table.{Rep}
-use Rattle.references.specs.Characters.{utf8}
+use Rattle.answers.specs.Puts.{Puts}
+use Rattle.utf8.specs.Encoding.{utf8}
+use Rattle.answers.specs.Text.{text, wrong}
 use Rattle.references.specs.Unescape as definition
-use Rattle.references.specs.Unescape.{Text, text, wrong, unescape, piece, shows, bad, character, fault}
+use Rattle.references.specs.Unescape.{unescape, piece, shows, bad, character, fault}
 use Rattle.references.specs.declared.Reference.{Reference}
 use Rattle.references.specs.declared.Reference.the-variants.{Character, Bad}
 use Rattle.references.specs.declared.Piece.{Piece}
@@ -36,11 +37,6 @@ IsChecked v (Fault n p) = unescape v ≡ wrong n (p .0)
 
 pub record Checks (v : List ℕ) (r : Checked) : Type 0 where
   pub is : IsChecked v r
-
--- bytes are added to a buffer that may be full: all are counted, and it stands for the bytes with these at their end
-pub record Puts (ys : List ℕ) (n : ℕ) (buf buf′ : List ℕ) (r : ℕ) : Type 0 where
-  pub counts : r ≡ n + length ys
-  pub stands : (xs : List ℕ) → Rep 1 buf n xs → Rep 1 buf′ r (xs ++ ys)
 
 -- what putting the shown bytes of a value says: no more of them than the value has; and they are the text, where it shows one
 pub record Shows (v : List ℕ) (n : ℕ) (buf buf′ : List ℕ) (r : ℕ) : Type 0 where

@@ -7,7 +7,9 @@ use mathlib.Core.Bool.{Bool, not, _&&_, _||_}
 use lib.Dec.{eqb, leb}
 use lib.ListN.{length}
 use Rattle.slices.specs.Bytes.{if, bytes, other, span, past, all, empty, same}
-use Rattle.references.specs.Characters.{xmlChar, utf8}
+use Rattle.utf8.specs.Encoding.{utf8}
+use Rattle.answers.specs.Text.{Text, text, wrong}
+use Rattle.references.specs.Characters.{xmlChar}
 
 -- [0-9], [0-9a-fA-F], and the value of a digit
 abbrev pub decimalDigit : ℕ → Bool
@@ -86,10 +88,6 @@ piece b l =
     if (eqb b 38) r (if (eqb b 13) c (if (eqb b 10 || eqb b 9) (shows (32 ∷ []) 0) (shows (b ∷ []) 0)))
 
 -- the text that a value shows, or a fault's number and its place in the value
-pub data Text : Type 0 where
-  text : List ℕ → Text
-  wrong : ℕ → ℕ → Text
-
 abbrev pub before : List ℕ → Text → Text
 before s (text t) = text (s ++ t)
 before s (wrong n p) = wrong n p

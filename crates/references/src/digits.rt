@@ -10,7 +10,7 @@ ghost use Rattle.references.specs.Outcome.{referenceOf};
 use crate::Reference;
 
 // Whether XML allows a character.
-pub fn is_char(c: u32) -> bool
+fn is_xml_char(c: u32) -> bool
     ensures { λ r. ⌜ r ≡ xmlChar c ⌝ }
 {
     if c < 0x20 {
@@ -118,7 +118,7 @@ pub fn of_digits(s: &[u8], from: usize, base: u32) -> Reference
             return Reference::Bad(11);
         }
     }
-    if is_char(n) {
+    if is_xml_char(n) {
         return Reference::Character(n);
     }
     Reference::Bad(11)

@@ -2,16 +2,18 @@
 ghost use mathlib.Core.Path.{_≡_};
 ghost use Prim.Native.Nat.{_+_, _*_, _<_, _^_};
 ghost use lib.ListN.{length, drop, getD};
-ghost use Rattle.slices.specs.Bytes.{all};
 ghost use Rattle.scan.specs.Classes.{Classes};
-ghost use Rattle.references.specs.Escape.{escape};
-ghost use Rattle.references.specs.Unescape.{wrong, plain, ofNumber, charReference, reference};
-ghost use Rattle.references.specs.Outcome.{referenceOf, Pieces, Checks, Puts, Shows};
-ghost use Rattle.references.specs.Entries.{escaping, unescaping, answerOf, leftOf, Says};
-ghost use Rattle.references.specs.Admission.{Admits, Reads, Finishes};
+ghost use Rattle.answers.specs.Text.{answerOf, leftOf};
+ghost use Rattle.answers.specs.Puts.{Puts};
+ghost use Rattle.references.specs.Escape.{escaped, escape};
+ghost use Rattle.references.specs.Unescape.{ofNumber, charReference, reference};
+ghost use Rattle.references.specs.Outcome.{referenceOf, Pieces, Checks, Shows};
+ghost use Rattle.references.specs.Entries.{escaping, unescaping};
+ghost use Rattle.references.specs.Admission.{Admits, Reads};
+use answers::TextAnswer;
+use answers::put;
 
 mod digits;
-pub mod put;
 
 // A place in a value, and one in the document.
 pub struct ValuePlace(pub usize);
@@ -35,12 +37,6 @@ pub enum Piece {
 pub enum Checked {
     Good,
     Fault(u32, ValuePlace),
-}
-
-// What an entry answers: number and place, or how many bytes it wrote.
-pub enum Answer {
-    Refused(u32, usize),
-    Done(usize),
 }
 
 // A place in a value as one in the document, where the value begins at an offset.
@@ -70,7 +66,7 @@ fn of_number(entity: &[u8]) -> Reference
 }
 
 // What stands between `&` and `;`, where it names none of the five entities.
-pub fn char_reference(entity: &[u8]) -> Reference
+fn char_reference(entity: &[u8]) -> Reference
     ensures { λ r. ⌜ referenceOf r ≡ charReference (now (entity .entry)) ⌝ }
 {
     if entity.len() == 0 {
@@ -83,7 +79,7 @@ pub fn char_reference(entity: &[u8]) -> Reference
 }
 
 // What stands between `&` and `;`.
-pub fn reference_of(entity: &[u8]) -> Reference
+fn reference_of(entity: &[u8]) -> Reference
     ensures { λ r. ⌜ referenceOf r ≡ reference (now (entity .entry)) ⌝ }
 {
     if slices::equal(entity, b"amp") {
@@ -177,39 +173,6 @@ pub fn check(value: &[u8]) -> Checked
     Checked::Good
 }
 
-fn is_plain_byte(b: u8) -> bool
-    ensures { λ r. ⌜ r ≡ plain b ⌝ }
-{
-    if 38 < b {
-        return true;
-    }
-    if b == 38 {
-        return false;
-    }
-    if b == 9 {
-        return false;
-    }
-    if b == 10 {
-        return false;
-    }
-    b != 13
-}
-
-// Whether a value shows itself: it is free of `&`, tab, LF and CR.
-pub fn is_plain(value: &[u8]) -> bool
-    ensures { λ r. ⌜ r ≡ all plain (now (value .entry)) ⌝ }
-{
-    let mut at = 0;
-    while at < value.len() {
-        if is_plain_byte(value[at]) {
-            at += 1;
-        } else {
-            return false;
-        }
-    }
-    true
-}
-
 // Puts the shown bytes of a value at a count, up to its first fault.
 pub fn put_shown(value: &[u8], out: &mut [u8], n: usize) -> usize
     requires { ⌜ n + length (now value) < 2 ^ 62 ⌝ }
@@ -235,6 +198,38 @@ pub fn put_shown(value: &[u8], out: &mut [u8], n: usize) -> usize
     m
 }
 
+// A byte as it is escaped.
+fn put_reference(out: &mut [u8], n: usize, b: u8) -> usize
+    requires { ⌜ n + 6 < 2 ^ 62 ⌝ }
+    ensures { λ r. ⌜ Puts (escaped b) n (now (out .entry)) (now (out .exit)) r ⌝ }
+{
+    if b == 38 {
+        return put::put_bytes(out, n, b"&amp;");
+    }
+    if b == 60 {
+        return put::put_bytes(out, n, b"&lt;");
+    }
+    if b == 62 {
+        return put::put_bytes(out, n, b"&gt;");
+    }
+    if b == 34 {
+        return put::put_bytes(out, n, b"&quot;");
+    }
+    if b == 39 {
+        return put::put_bytes(out, n, b"&apos;");
+    }
+    if b == 9 {
+        return put::put_bytes(out, n, b"&#9;");
+    }
+    if b == 10 {
+        return put::put_bytes(out, n, b"&#10;");
+    }
+    if b == 13 {
+        return put::put_bytes(out, n, b"&#13;");
+    }
+    tables::put_byte(out, n, b)
+}
+
 // Puts the escaped bytes of a value at a count.
 pub fn put_escaped(value: &[u8], classes: &[u8; 256], out: &mut [u8], n: usize) -> usize
     requires { ⌜ Classes (now classes) × (n + 6 * length (now value) < 2 ^ 62) ⌝ }
@@ -245,7 +240,7 @@ pub fn put_escaped(value: &[u8], classes: &[u8; 256], out: &mut [u8], n: usize) 
     while at < value.len() {
         let b = value[at];
         if scan::is_escapable(classes, b) {
-            m = put::put_reference(out, m, b);
+            m = put_reference(out, m, b);
             at += 1;
         } else {
             m = tables::put_byte(out, m, b);
@@ -279,51 +274,32 @@ fn admit_shown(value: &[u8]) -> Checked
     }
 }
 
-// Leaves zeros.
-pub fn refuse(out: &mut [u8], number: u32, place: usize) -> Answer
-    ensures { λ r. ⌜ Says (wrong number place) (length (now (out .entry))) (now (out .exit)) r ⌝ }
-{
-    tables::clear_bytes(out, 0);
-    Answer::Refused(number, place)
-}
-
-// Leaves n bytes and zeros after them, or zeros where they do not fit.
-pub fn finish(out: &mut [u8], n: usize, number: u32, place: usize) -> Answer
-    ensures { λ r. ⌜ Finishes n number place (now (out .entry)) (now (out .exit)) r ⌝ }
-{
-    if out.len() < n {
-        return refuse(out, number, place);
-    }
-    tables::clear_bytes(out, n);
-    Answer::Done(n)
-}
-
 // Escapes a value. A value of more than 1,048,576 bytes is refused with 2, an ill-formed one with 1, one that has no room with 21 and the
 // bytes needed.
-pub fn escape(value: &[u8], out: &mut [u8]) -> Answer
+pub fn escape(value: &[u8], out: &mut [u8]) -> TextAnswer
     ensures answer { λ r. ⌜ r ≡ answerOf (escaping (now (value .entry)) (length (now (out .entry)))) ⌝ }
     ensures left { λ r. ⌜ now (out .exit) ≡ leftOf (length (now (out .entry))) (escaping (now (value .entry)) (length (now (out .entry)))) ⌝ }
 {
     match admit(value) {
-        Checked::Fault(number, place) => refuse(out, number, place.0),
+        Checked::Fault(number, place) => answers::refuse(out, number, place.0),
         Checked::Good => {
             let classes = scan::classes();
             let n = put_escaped(value, &classes, out, 0);
-            finish(out, n, 21, n)
+            answers::finish(out, n, 21, n)
         }
     }
 }
 
 // Unescapes a value. Refused as for `escape` with 2 and 1, then with 9 to 11 at a reference, and with 18 where there is no room.
-pub fn unescape(value: &[u8], out: &mut [u8]) -> Answer
+pub fn unescape(value: &[u8], out: &mut [u8]) -> TextAnswer
     ensures answer { λ r. ⌜ r ≡ answerOf (unescaping (now (value .entry)) (length (now (out .entry)))) ⌝ }
     ensures left { λ r. ⌜ now (out .exit) ≡ leftOf (length (now (out .entry))) (unescaping (now (value .entry)) (length (now (out .entry)))) ⌝ }
 {
     match admit_shown(value) {
-        Checked::Fault(number, place) => refuse(out, number, place.0),
+        Checked::Fault(number, place) => answers::refuse(out, number, place.0),
         Checked::Good => {
             let n = put_shown(value, out, 0);
-            finish(out, n, 18, value.len())
+            answers::finish(out, n, 18, value.len())
         }
     }
 }

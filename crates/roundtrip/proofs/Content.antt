@@ -2,18 +2,18 @@
 -- Assumes nothing.
 use Prim.Native.Nat.{ℕ, suc, _+_, _≤_, _<_}
 use native.Mathlib.Omega.{arith}
-use native.Mathlib.Nat.{add-zero}
 use mathlib.Core.Path.{_≡_, refl, ap, _∙_, sym}
 use mathlib.Core.List.{List, [], _∷_, _++_, append-assoc, append-nil}
 use mathlib.Core.Option.{none, some}
-use mathlib.Core.Bool.{Bool, true, false, and-false}
+use mathlib.Core.Bool.{false, and-false}
 use borrow.Author.Tests.{eq-eqb, ne-eqb}
 use lib.Dec.{eqb}
 use lib.ListN.{length, length-append}
 use lib.Seq.{drop-append-seam}
-use Rattle.slices.specs.Bytes.{if}
 use Rattle.items.specs.Written.{Annotation, Arg, Direction, no-direction, inward, outward, Member, Item, annotated, argument, method, signal}
-use Rattle.items.specs.Content.{Row, childOf, annotationOf, annotations, argOf, args, memberOf, content, direction}
+use Rattle.items.specs.Words.{isChild}
+use Rattle.items.specs.Content.{Row, annotations, argOf, args, memberOf, content, direction}
+use Rattle.items.proofs.Children.{annotations-append, args-append}
 use Rattle.roundtrip.specs.Items.{code, bareRow, annotationRows, argRow, argRows, argsRows, memberRows, rows, nodeRow, interfaceRow}
 
 -- no row is a child of rows lo to hi less one
@@ -25,7 +25,7 @@ clear-append : (lo hi : ℕ) (l m : List Row) → Clear lo hi l → Clear lo hi 
 clear-append lo hi [] m h k = k
 clear-append lo hi (r ∷ l) m h k = (h .0, clear-append lo hi l m (h .1) k)
 
-no-child : (k p : ℕ) (r : Row) → (r .parent ≡ p → ⊥) → childOf k p r ≡ false
+no-child : (k p : ℕ) (r : Row) → (r .parent ≡ p → ⊥) → isChild k p (r .kind) (r .parent) ≡ false
 no-child k p r h = rw (ne-eqb (r .parent) p h) (and-false (eqb (r .kind) k))
 
 clear-notes : (lo hi q : ℕ) (l : List Row) → lo < q → q ≤ hi → Clear lo hi l → annotations q l ≡ []
@@ -36,31 +36,13 @@ clear-args : (t : List Row) (lo hi q i : ℕ) (l : List Row) → lo < q → q �
 clear-args t lo hi q i [] a b h = refl
 clear-args t lo hi q i (r ∷ l) a b h = rw (no-child 7 q r (λ e. h .0 (omega arith) (omega arith))) (clear-args t lo hi q (suc i) l a b (h .1))
 
-notes-append : (q : ℕ) (l m : List Row) → annotations q (l ++ m) ≡ annotations q l ++ annotations q m
-notes-append q [] m = refl
-notes-append q (r ∷ l) m = go (childOf 6 q r) (notes-append q l m)
-  where
-    go : (b : Bool) → annotations q (l ++ m) ≡ annotations q l ++ annotations q m → if b (annotationOf r ∷ annotations q (l ++ m)) (annotations q (l ++ m)) ≡ if b (annotationOf r ∷ annotations q l) (annotations q l) ++ annotations q m
-    go true e = ap (_∷_ (annotationOf r)) e
-    go false e = e
-
-args-append : (t : List Row) (q i : ℕ) (l m : List Row) → args t q i (l ++ m) ≡ args t q i l ++ args t q (i + length l) m
-args-append t q i [] m = rw add-zero
-args-append t q i (r ∷ l) m =
-    let e : suc i + length l ≡ i + suc (length l) = omega arith in
-    go (childOf 7 q r) (rw e at (args-append t q (suc i) l m))
-  where
-    go : (b : Bool) → args t q (suc i) (l ++ m) ≡ args t q (suc i) l ++ args t q (i + suc (length l)) m → if b (argOf t i r ∷ args t q (suc i) (l ++ m)) (args t q (suc i) (l ++ m)) ≡ if b (argOf t i r ∷ args t q (suc i) l) (args t q (suc i) l) ++ args t q (i + suc (length l)) m
-    go true e = ap (_∷_ (argOf t i r)) e
-    go false e = e
-
 own-notes : (q : ℕ) (xs : List Annotation) → annotations q (annotationRows q xs) ≡ xs
 own-notes q [] = refl
 own-notes q (x ∷ xs) = rw (eq-eqb q q refl) (ap (_∷_ x) (own-notes q xs))
 
 -- rows that hold just their own annotations, in a table with no other children of theirs
 notes-in : (b l m : List Row) (lo hi q : ℕ) → lo < q → q ≤ hi → Clear lo hi b → Clear lo hi m → annotations q (b ++ (l ++ m)) ≡ annotations q l
-notes-in b l m lo hi q x y h k = rw (notes-append q b (l ++ m), notes-append q l m, clear-notes lo hi q b x y h, clear-notes lo hi q m x y k) (append-nil (annotations q l))
+notes-in b l m lo hi q x y h k = rw (annotations-append q b (l ++ m), annotations-append q l m, clear-notes lo hi q b x y h, clear-notes lo hi q m x y k) (append-nil (annotations q l))
 
 direction-back : (d : Direction) → direction (code d) ≡ d
 direction-back no-direction = refl
@@ -96,7 +78,7 @@ no-args t p i q (x ∷ xs) = no-args t p (suc i) q xs
 no-notes : (q i : ℕ) (xs : List Arg) → 0 < q → q ≤ i → annotations q (argsRows q i xs) ≡ []
 no-notes q i [] g h = refl
 no-notes q i (x ∷ xs) g h =
-    notes-append q (annotationRows (suc i) (x .annotations)) (argsRows q (i + length (argRows q i x)) xs)
+    annotations-append q (annotationRows (suc i) (x .annotations)) (argsRows q (i + length (argRows q i x)) xs)
     ∙ rw (clear-notes 0 i q (annotationRows (suc i) (x .annotations)) g h (clear-annotations 0 i (suc i) (x .annotations) (λ a b. omega arith)))
     (no-notes q (i + length (argRows q i x)) xs g (omega arith))
 
@@ -135,7 +117,7 @@ module _ (k : ℕ) (not-arg : eqb k 7 ≡ false) (not-note : eqb k 6 ≡ false) 
   member-notes =
       ap (annotations (suc i)) e
       ∙ notes-in b (memberRows k p i c) m i (i + length (memberRows k p i c)) (suc i) (omega arith) (omega arith) before after
-      ∙ rw not-note (notes-append (suc i) inner outer ∙ rw (no-notes (suc i) (suc i) (c .args) (omega arith) (omega arith)) (own-notes (suc i) (c .annotations)))
+      ∙ rw not-note (annotations-append (suc i) inner outer ∙ rw (no-notes (suc i) (suc i) (c .args) (omega arith) (omega arith)) (own-notes (suc i) (c .annotations)))
 
   inner-args : args t (suc i) (suc i) inner ≡ c .args
   inner-args =

@@ -10,11 +10,10 @@ use lib.Dec.{ltb}
 use lib.ListN.{length, take, replicate}
 use lib.Seq.{take-at}
 use Rattle.slices.specs.Bytes.{if}
-use Rattle.references.specs.Unescape.{Text, text, wrong}
-use Rattle.references.specs.Entries.{answerOf, leftOf}
-use Rattle.references.specs.declared.Answer.the-variants.{Done}
+use Rattle.answers.specs.Text.{Text, text, wrong, answerOf, leftOf}
+use Rattle.answers.specs.declared.TextAnswer.the-variants.{Done}
 use Rattle.document.specs.Rows.{wordsFrom, texts}
-use Rattle.document.specs.Whole.{Room, verdictOf, filled}
+use Rattle.document.specs.Whole.{Room, verdictOf, filled, Says}
 use Rattle.document.specs.declared.Verdict.{Verdict}
 use Rattle.document.specs.declared.Verdict.the-variants.{Accepted}
 use Rattle.accepted.proofs.Accepted.{words-shown}
@@ -22,10 +21,10 @@ use Rattle.items.specs.Words.{rowsShown}
 use Rattle.items.specs.Sound.{Soundness, sound, unsound, soundness}
 use Rattle.items.specs.Written.{Item, written}
 use Rattle.items.specs.Content.{content, contentAt}
-use Rattle.items.specs.Writing.{itemWritten, checked, writing}
+use Rattle.items.specs.Writing.{itemWritten, checked, writing, Writes}
 use Rattle.roundtrip.specs.Items.{rows, nodeRow, interfaceRow, values, referenced}
 use Rattle.roundtrip.specs.Statement.{ReadsAs}
-use Rattle.roundtrip.specs.Entries.{Wrote, lent, Parsed, Returns}
+use Rattle.roundtrip.specs.Entries.{Returns}
 use Rattle.roundtrip.proofs.Content.{table-back}
 use Rattle.roundtrip.proofs.Whole.{Answers}
 
@@ -48,10 +47,10 @@ module _ {doc : List ℕ} {room : Room} {name : List ℕ} {c : Item} (a : Answer
       gives : rowsShown doc (texts (a .tables .rows)) (wordsFrom 0 (a .tables .rows)) (length (a .tables .rows)) ≡ nodeRow ∷ interfaceRow name ∷ rows 2 2 c
       gives = rw (append-nil (texts (a .tables .rows)), append-nil (wordsFrom 0 (a .tables .rows))) at (left-shown [] [])
 
-module _ {doc rows′ warnings text′ name : List ℕ} {c : Item} {r : Verdict} (a : Answers doc (lent rows′ warnings text′) name c) (p : Parsed doc rows′ warnings text′ r) where
+module _ {doc rows′ warnings text′ name : List ℕ} {c : Item} {lent : Room} {r : Verdict} (a : Answers doc lent name c) (p : Says doc lent rows′ warnings text′ r) where
   pub returns : Returns doc rows′ text′ name c r
   returns = record {
-    verdict = p .answer ∙ ap verdictOf (a .reads) ∙ counts;
+    verdict = p .verdict ∙ ap verdictOf (a .reads) ∙ counts;
     gives = gives;
     same = ap (λ t. content t 2) gives ∙ table-back name c;
   }
@@ -59,17 +58,17 @@ module _ {doc rows′ warnings text′ name : List ℕ} {c : Item} {r : Verdict}
       counts : Accepted (length (a .tables .rows)) (length (texts (a .tables .rows))) (length (a .tables .warnings)) ≡ Accepted (2 + length (rows 2 2 c)) (referenced (values c)) 0
       counts = rw (a .many, a .text, a .silent)
 
-      rows-are : rows′ ≡ filled (length rows′) (wordsFrom 0 (a .tables .rows))
+      rows-are : rows′ ≡ filled (lent .rows) (wordsFrom 0 (a .tables .rows))
       rows-are = rw (a .reads) at (p .rows-left)
 
-      text-is : text′ ≡ filled (length text′) (texts (a .tables .rows))
+      text-is : text′ ≡ filled (lent .text) (texts (a .tables .rows))
       text-is = rw (a .reads) at (p .text-left)
 
       filled-shown : (x w : List ℕ) (m k : ℕ) → x ≡ filled m (texts (a .tables .rows)) → w ≡ filled k (wordsFrom 0 (a .tables .rows)) → rowsShown doc x w (2 + length (rows 2 2 c)) ≡ nodeRow ∷ interfaceRow name ∷ rows 2 2 c
       filled-shown x w m k e f = rw (e, f, ← a .many) (left-shown a _ _)
 
       gives : rowsShown doc text′ rows′ (2 + length (rows 2 2 c)) ≡ nodeRow ∷ interfaceRow name ∷ rows 2 2 c
-      gives = filled-shown text′ rows′ (length text′) (length rows′) text-is rows-are
+      gives = filled-shown text′ rows′ (lent .text) (lent .rows) text-is rows-are
 
 -- ---- the bytes that `write` leaves
 
@@ -99,19 +98,18 @@ pub record Leaves (document text ws : List ℕ) (n i : ℕ) (b : List ℕ) : Typ
   pub is-item : contentAt document text ws n i ≡ some item
   pub bytes : b ≡ written item
 
-pub leaves : (document x ws : List ℕ) (n i m : ℕ) (out : List ℕ) → Wrote document x ws n i out (Done m) → Leaves document x ws n i (take m out)
+pub leaves : (document x ws out : List ℕ) (n i room m : ℕ) → Writes document x ws n i room out (Done m) → Leaves document x ws n i (take m out)
 unfolding writing
-leaves document x ws n i m out w =
-    let o = writing document x ws n i (length out) in
-    let t = text-of m o (w .answer) in
-    let r = checked (soundness document x ws n) (itemWritten i (length out) (contentAt document x ws n i)) in
+leaves document x ws out n i room m w =
+    let t = text-of m (writing document x ws n i room) (w .says .answer) in
+    let r = checked (soundness document x ws n) (itemWritten i room (contentAt document x ws n i)) in
     let u = passed (ltb 1048576 (length document) || ltb 1048576 (length x)) 2 1048576 r (t .0) (t .1) in
-    let s = sound-then (soundness document x ws n) (itemWritten i (length out) (contentAt document x ws n i)) (t .0) u in
-    let c = item-then i (length out) (contentAt document x ws n i) (t .0) (s .1) in
-    let left : out ≡ t .0 ++ replicate (length out - length (t .0)) 0 = w .left ∙ ap (leftOf (length out)) (t .1) in
+    let s = sound-then (soundness document x ws n) (itemWritten i room (contentAt document x ws n i)) (t .0) u in
+    let c = item-then i room (contentAt document x ws n i) (t .0) (s .1) in
+    let left : out ≡ t .0 ++ replicate (room - length (t .0)) 0 = w .says .left ∙ ap (leftOf room) (t .1) in
     record {
       is-sound = s .0;
       item = c .0;
       is-item = c .1;
-      bytes = ap (take m) left ∙ take-at (t .0) (replicate (length out - length (t .0)) 0) m (t .2) ∙ c .2;
+      bytes = ap (take m) left ∙ take-at (t .0) (replicate (room - length (t .0)) 0) m (t .2) ∙ c .2;
     }

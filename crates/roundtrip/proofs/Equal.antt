@@ -108,7 +108,7 @@ no-beginning (signal a) (method b) g h x e = meet 2 (signal a) (method b) refl r
 no-beginning (signal a) (signal b) g h x e = meet 2 (signal a) (signal b) refl refl g h x e
 
 -- bytes tell their content
-pub told : (c d : Item) → Good c → Good d → Told c d
+pub told : (c d : Item) → Good c → Good d → Told c d (written c) (written d)
 told c d g h = record {
   same = λ e. ap written e;
   tells = λ e. no-beginning c d g h [] (sym e ∙ sym (append-nil (written c)));

@@ -7,16 +7,14 @@ use mathlib.Core.Option.{Option, none, some}
 use mathlib.Core.Bool.{Bool, true, false, not, _&&_}
 use lib.Dec.{eqb, leb, ltb}
 use lib.ListN.{length, length-map, take, drop}
-use Rattle.slices.specs.Bytes.{if, bytes, same}
+use Rattle.slices.specs.Bytes.{if, same}
 use Rattle.utf8.specs.WhiteSpace.{trimStart, trimEnd}
-use Rattle.names.specs.Names.{interfaceName, memberName, propertyName}
-use Rattle.names.specs.Signature.{signature}
-use Rattle.document.specs.Tags.{Shown, tpType}
+use Rattle.document.specs.Tags.{Shown}
 use Rattle.document.specs.Tokens.{Tag, Token, start, close, fault, end, tokens}
 use Rattle.document.specs.Rows.{Doc, Row, Tables, documented}
-use Rattle.document.specs.Elements.{kindOf, mayHold, among, accessOf, directionOf, attr, bare, Opened, opens, refuses, kept, row, required, valid, namedRow, propertyRow, annotationRow, directed, argRow, opensAs}
+use Rattle.document.specs.Elements.{kindOf, mayHold, Opened, opens, refuses, kept, row, opensAs}
 use Rattle.document.specs.Reading.{Definition, Purpose, ignored, captures, Frame, element, definition, passing, State, begun, reading, accepted, refused, nameOf, parentOf, reasonOf, noted, frameOf, withRow, closed, judged, captured, passed, shut, tooDeep, entered, opened, begins, unsupported, docstringIn, child, started, turn, root, inside, step, fold, run}
-use Rattle.document.specs.declared.Refusal.{Refusal}
+use Rattle.document.proofs.Opens.{any-way}
 use Rattle.items.specs.View.{over, viewRow, viewTables, view}
 
 -- a function on both ways of a test
@@ -76,64 +74,9 @@ module _ {A B : Type 0} (f : A → B) (keep : Shown → A) where
   view-row : (k p : ℕ) (n v tp : Option Shown) (w : ℕ) → viewOpened f (opens (row keep k p n v tp w)) ≡ opens (row seen k p n v tp w)
   view-row k p n v tp w = λ j. opens (record { kind = k; parent = p; name = view-kept n j; value = view-kept v j; tp = view-kept tp j; doc = none; word = w })
 
-  -- a function that leaves refusals, on a row that wants an attribute, a valid text, or a direction
-  module _ (g : Opened A → Opened B) (refusal : (x : Refusal) → g (refuses x) ≡ refuses x) (t : Tag) where
-    on-required : (o : Option Shown) {x : Shown → Opened A} {y : Shown → Opened B} → ((s : Shown) → g (x s) ≡ y s) → g (required keep o t x) ≡ required seen o t y
-    on-required none h = refusal (bare 12 (suc (t .at)))
-    on-required (some s) h = h s
-
-    on-valid : (b : Bool) (n p : ℕ) {x : Opened A} {y : Opened B} → g x ≡ y → g (valid keep b n p x) ≡ valid seen b n p y
-    on-valid b n p h = branch g b h (refusal (bare n p))
-
-    on-directed : (o : Option Shown) {x : ℕ → Opened A} {y : ℕ → Opened B} → ((d : ℕ) → g (x d) ≡ y d) → g (directed keep o t x) ≡ directed seen o t y
-    on-directed none h = h 0
-    on-directed (some d) h = on-valid (not (eqb (directionOf (d .value)) 0)) 16 (t .after) (h (directionOf (d .value)))
-
-  refusal-seen : (x : Refusal) → viewOpened f (refuses x) ≡ refuses x
-  refusal-seen x = refl
-
-  module _ (p : ℕ) (t : Tag) where
-    view-named : (good : List ℕ → Bool) (k : ℕ) → viewOpened f (namedRow keep good k p t) ≡ namedRow seen good k p t
-    view-named good k =
-        on-required (viewOpened f) refusal-seen t (attr (bytes "name") t) λ n.
-        on-valid (viewOpened f) refusal-seen t (good (n .value)) 13 (suc (t .at)) (view-row k p (some n) none none 0)
-
-    view-property : viewOpened f (propertyRow keep p t) ≡ propertyRow seen p t
-    view-property =
-        on-required (viewOpened f) refusal-seen t (attr (bytes "name") t) λ n.
-        on-valid (viewOpened f) refusal-seen t (propertyName (n .value)) 13 (suc (t .at))
-        (on-required (viewOpened f) refusal-seen t (attr (bytes "type") t) λ s.
-        on-valid (viewOpened f) refusal-seen t (signature (s .value)) 14 (suc (t .at))
-        (on-required (viewOpened f) refusal-seen t (attr (bytes "access") t) λ a.
-        on-valid (viewOpened f) refusal-seen t (not (eqb (accessOf (a .value)) 0)) 15 (t .after) (view-row 4 p (some n) (some s) (tpType (t .attrs)) (accessOf (a .value)))))
-
-    view-annotation : viewOpened f (annotationRow keep p t) ≡ annotationRow seen p t
-    view-annotation =
-        on-required (viewOpened f) refusal-seen t (attr (bytes "name") t) λ n.
-        on-required (viewOpened f) refusal-seen t (attr (bytes "value") t) λ v. view-row 6 p (some n) (some v) none 0
-
-    view-arg : viewOpened f (argRow keep p t) ≡ argRow seen p t
-    view-arg =
-        on-required (viewOpened f) refusal-seen t (attr (bytes "type") t) λ s.
-        on-valid (viewOpened f) refusal-seen t (signature (s .value)) 14 (suc (t .at))
-        (on-directed (viewOpened f) refusal-seen t (attr (bytes "direction") t) λ d. view-row 7 p (attr (bytes "name") t) (some s) (tpType (t .attrs)) d)
-
-    view-opens : (k : ℕ) → viewOpened f (opensAs keep k p t) ≡ opensAs seen k p t
-    unfolding opensAs
-    view-opens k =
-        let n = attr (bytes "name") t in
-        let o = viewOpened f in
-        branch o (eqb k 1) (view-row 1 p n none none 0)
-        (branch o (eqb k 2) (view-named interfaceName 2)
-        (branch o (eqb k 3) (view-named memberName 3)
-        (branch o (eqb k 4) view-property
-        (branch o (eqb k 5) (view-named memberName 5)
-        (branch o (eqb k 6) view-annotation
-        (branch o (eqb k 7) view-arg
-        (branch o (among k (8 ∷ 9 ∷ [])) (view-row k p n (attr (bytes "type") t) none 0)
-        (branch o (eqb k 10) (view-row 10 p (attr (bytes "suffix") t) (attr (bytes "value") t) none 0)
-        (branch o (eqb k 12) (view-row 12 p n (attr (bytes "type") t) (tpType (t .attrs)) 0)
-        (view-row k p n none none 0))))))))))
+  view-opens : (p : ℕ) (t : Tag) (k : ℕ) → viewOpened f (opensAs keep k p t) ≡ opensAs seen k p t
+  view-opens p t k =
+      any-way keep seen p t (λ o o′. viewOpened f o ≡ o′) (λ n h. refl) (λ n h. refl) (λ k w n v tp c. view-row k p n v tp w) k
 
   -- ---- steps
 

@@ -9,11 +9,11 @@ use mathlib.Core.Bool.{Bool, true, false}
 use borrow.Author.Tests.{eq-eqb}
 use lib.ListN.{length, length-append}
 use Rattle.slices.specs.Bytes.{if, all, same}
-use Rattle.slices.proofs.Runs.{by-byte, same-short}
-use Rattle.scan.specs.Classes.{escapable}
+use Rattle.slices.proofs.Runs.{same-short}
 use Rattle.references.specs.Escape.{escape}
 use Rattle.references.specs.Unescape.{plain}
 use Rattle.references.proofs.Escapes.{by-escape, escape-least}
+use Rattle.references.proofs.RoundTrip.{same-plain}
 use Rattle.document.specs.Tags.{Shown}
 use Rattle.document.specs.Rows as tables
 use Rattle.document.specs.Rows.{textOf, rowText, texts}
@@ -54,13 +54,6 @@ texts-size (r ∷ rs) =
 
 -- ---- a text is written without a reference exactly if escaping leaves it
 
-plain-same : (b : ℕ) → escapable b ≡ false → plain b ≡ true
-plain-same b =
-    by-byte (λ x. escapable x ≡ false → plain x ≡ true) b 38 (λ e. cc) λ h1.
-    by-byte (λ x. escapable x ≡ false → plain x ≡ true) b 9 (λ e. cc) λ h2.
-    by-byte (λ x. escapable x ≡ false → plain x ≡ true) b 10 (λ e. cc) λ h3.
-    by-byte (λ x. escapable x ≡ false → plain x ≡ true) b 13 (λ e. cc) λ h4. λ e. rw (h1, h2, h3, h4)
-
 plain-escape : (v : List ℕ) → all plain (escape v) ≡ same (escape v) v
 unfolding escape
 plain-escape [] = refl
@@ -68,7 +61,7 @@ plain-escape (b ∷ s) =
     by-escape (λ x e. all plain (e ++ escape s) ≡ same (e ++ escape s) (x ∷ s)) b
     (same-short (97 ∷ 109 ∷ 112 ∷ 59 ∷ escape s) s (λ e. omega (arith, escape-least s)))
     refl refl refl refl refl refl refl
-    (λ h. rw (plain-same b h, eq-eqb b b refl) (plain-escape s))
+    (λ h. rw (same-plain b h, eq-eqb b b refl) (plain-escape s))
 
 -- ---- by the texts that rows show
 

@@ -1,62 +1,31 @@
 -- What sound rows show: valid names and signatures, well-formed texts; and so the content of each row.
 -- Assumes nothing.
-use Prim.Native.Nat.{ℕ, zero, suc, _+_, _/_, _≤_}
+use Prim.Native.Nat.{ℕ, zero, suc, _+_, _*_}
 use native.Mathlib.Omega.{arith}
 use mathlib.Core.Path.{_≡_, refl, ap, sym, _∙_}
 use mathlib.Core.List.{List, [], _∷_, _++_, map}
 use mathlib.Core.Option.{Option, none, some}
 use mathlib.Core.Bool.{Bool, true, false, not, _&&_}
-use borrow.Author.Tests.{eqb-true, ltb-false}
-use lib.Dec.{eqb, ltb}
+use borrow.Author.Tests.{eqb-true}
+use lib.Dec.{eqb}
 use lib.ListN.{length, drop}
+use lib.Seq.{drop-drop}
 use Rattle.slices.specs.Bytes.{if}
 use Rattle.utf8.specs.WellFormed.{illFormed, wellFormed}
 use Rattle.utf8.proofs.Texts.{formed, none-whole}
 use Rattle.names.specs.Names.{memberName}
 use Rattle.names.specs.Signature.{signature}
-use Rattle.names.proofs.Names.{and-both}
+use Rattle.slices.proofs.Runs.{and-both}
 use Rattle.tables.specs.Triple as triples
 use Rattle.tables.specs.declared.Triple.{Triple}
 use Rattle.document.specs.Elements.{among, mayHold}
-use Rattle.items.specs.Words.{RowWords, absent, rowsOf, shownBy, viewed, rowsShown}
-use Rattle.items.specs.Sound.{Use, nameUse, valueUse, tpUse, docUse, validName, validValue, validWord, anyText, inDocument, placed, kindAt, goodTriple, soundRow, firstBad, judged, sound, unsound, soundness}
+use Rattle.items.specs.Words.{RowWords, absent, rowOf, rowsOf, shownBy, viewed, rowsShown, isChild}
+use Rattle.items.specs.Sound.{Use, nameUse, valueUse, validName, validValue, kindAt, goodTriple, soundRow, sound, soundness}
 use Rattle.items.specs.Written.{Arg, Item, annotated, argument, method, signal}
-use Rattle.items.specs.Content.{Row, present, childOf, annotationOf, annotations, argOf, args, memberOf, itemOf, firstItem, content, contentAt}
+use Rattle.items.specs.Content.{Row, present, annotationOf, annotations, argOf, args, memberOf, itemOf, firstItem, content, contentAt}
+use Rattle.items.proofs.Rows.{row-parts, sound-row}
 use Rattle.roundtrip.specs.Items.{noteValues, nameValues, argValues, argsValues, memberValues, values}
 use Rattle.roundtrip.proofs.Items.{Signed, Good, kind}
-
--- ---- every row is sound
-
-abbrev Each : List ℕ → List ℕ → List RowWords → ℕ → List RowWords → Type 0
-Each document text rows i [] = Unit {0}
-Each document text rows i (r ∷ rs) = (soundRow document text rows i r ≡ true) × Each document text rows (suc i) rs
-
-module _ (document text : List ℕ) (rows : List RowWords) where
-  none-bad : (i : ℕ) (rs : List RowWords) → i + length rs ≤ firstBad document text rows i rs → Each document text rows i rs
-  none-bad i [] h = tt
-  none-bad i (r ∷ rs) h = go (soundRow document text rows i r) refl h (none-bad (suc i) rs)
-    where
-      go : (b : Bool) → soundRow document text rows i r ≡ b → i + suc (length rs) ≤ if b (firstBad document text rows (suc i) rs) i → (suc i + length rs ≤ firstBad document text rows (suc i) rs → Each document text rows (suc i) rs) → (soundRow document text rows i r ≡ true) × Each document text rows (suc i) rs
-      go true e h f = (e, f (omega arith))
-      go false e h f = absurd (omega arith)
-
-length-rows : (n : ℕ) (ws : List ℕ) → length (rowsOf n ws) ≡ n
-length-rows zero ws = refl
-length-rows (suc n) ws = ap suc (length-rows n (drop 16 ws))
-
--- a test that did not end in `unsound`
-passed : (b : Bool) (p : ℕ) (r : _) → if b (unsound p) r ≡ sound → (b ≡ false) × (r ≡ sound)
-passed true p r e = let z : _≡_ {A = ℕ} 0 1 = cc in absurd (omega arith)
-passed false p r e = (refl, e)
-
-each-sound : (document text ws : List ℕ) (n : ℕ) → soundness document text ws n ≡ sound → Each document text (rowsOf n ws) 0 (rowsOf n ws)
-unfolding soundness
-each-sound document text ws n e =
-    let bad = firstBad document text (rowsOf n ws) 0 (rowsOf n ws) in
-    let x = passed (ltb 262144 n) 262144 (if (ltb (length ws / 16) n) (unsound (length ws / 16)) (judged n bad)) e in
-    let y = passed (ltb (length ws / 16) n) (length ws / 16) (judged n bad) (x .1) in
-    let z = passed (ltb bad n) bad sound (y .1) in
-    none-bad document text (rowsOf n ws) 0 (rowsOf n ws) (omega (arith, ltb-false bad n (z .0), length-rows n ws))
 
 -- ---- what a sound row shows
 
@@ -94,34 +63,26 @@ abbrev AllFine : List Row → Type 0
 AllFine [] = Unit {0}
 AllFine (r ∷ rs) = Fine r × AllFine rs
 
-module _ (document text : List ℕ) (rows : List RowWords) where
-  fine : (i : ℕ) (r : RowWords) → soundRow document text rows i r ≡ true → Fine (viewed document text r)
-  unfolding soundRow
-  fine i r h =
-      let k = r .kind in
-      let n = goodTriple document text (nameUse k) (validName k) (r .name) in
-      let v = goodTriple document text (valueUse k) (validValue k) (r .value) in
-      let t = goodTriple document text (tpUse k) anyText (r .tp) in
-      let d = goodTriple document text (docUse k) anyText (r .doc) in
-      let a = and-both (placed rows i r && n && v && t && d && inDocument (r .doc) && validWord k (r .word)) (eqb (r .last) 0) h in
-      let b = and-both (placed rows i r && n && v && t && d && inDocument (r .doc)) (validWord k (r .word)) (a .0) in
-      let c = and-both (placed rows i r && n && v && t && d) (inDocument (r .doc)) (b .0) in
-      let e = and-both (placed rows i r && n && v && t) d (c .0) in
-      let f = and-both (placed rows i r && n && v) t (e .0) in
-      let g = and-both (placed rows i r && n) v (f .0) in
-      let named = and-both (placed rows i r) n (g .0) .1 in
-      let valued = g .1 in
-      record {
-        name = good-formed document text (nameUse k) (validName k) (r .name) named;
-        value = good-formed document text (valueUse k) (validValue k) (r .value) valued;
-        method-named = λ q. good-valid document text (nameUse 3) (validName 3) (r .name) (rw q at named) refl;
-        signal-named = λ q. good-valid document text (nameUse 5) (validName 5) (r .name) (rw q at named) refl;
-        signed = λ q. good-valid document text (valueUse 7) (validValue 7) (r .value) (rw q at valued) refl;
-      }
+fine : (document text : List ℕ) (rows : List RowWords) (i : ℕ) (r : RowWords) → soundRow document text rows i r ≡ true → Fine (viewed document text r)
+fine document text rows i r h =
+    let k = r .kind in
+    let p = row-parts document text rows i r h in
+    record {
+      name = good-formed document text (nameUse k) (validName k) (r .name) (p .name);
+      value = good-formed document text (valueUse k) (validValue k) (r .value) (p .value);
+      method-named = λ q. good-valid document text (nameUse 3) (validName 3) (r .name) (rw q at (p .name)) refl;
+      signal-named = λ q. good-valid document text (nameUse 5) (validName 5) (r .name) (rw q at (p .name)) refl;
+      signed = λ q. good-valid document text (valueUse 7) (validValue 7) (r .value) (rw q at (p .value)) refl;
+    }
 
-  all-fine : (i : ℕ) (rs : List RowWords) → Each document text rows i rs → AllFine (map (viewed document text) rs)
-  all-fine i [] h = tt
-  all-fine i (r ∷ rs) h = (fine i r (h .0), all-fine (suc i) rs (h .1))
+-- the m rows from row i on, up to row n
+all-fine : (document text ws : List ℕ) (n : ℕ) → soundness document text ws n ≡ sound → (m i : ℕ) → i + m ≡ n → AllFine (rowsShown document text (drop (i * 16) ws) m)
+all-fine document text ws n e zero i l = tt
+all-fine document text ws n e (suc m) i l =
+    let k : i * 16 + 16 ≡ suc i * 16 = omega arith in (
+      fine document text (rowsOf n ws) i (rowOf (drop (i * 16) ws)) (sound-row document text ws n e i (omega arith)),
+      rw (drop-drop 16 (i * 16) ws, k) (all-fine document text ws n e m (suc i) (omega arith)),
+    )
 
 -- ---- the content of a row
 
@@ -139,7 +100,7 @@ name-formed (some n) h = (h, tt)
 
 annotations-formed : (p : ℕ) (rs : List Row) → AllFine rs → AllFormed (noteValues (annotations p rs))
 annotations-formed p [] h = tt
-annotations-formed p (r ∷ rs) h = go (childOf 6 p r) (annotations-formed p rs (h .1))
+annotations-formed p (r ∷ rs) h = go (isChild 6 p (r .kind) (r .parent)) (annotations-formed p rs (h .1))
   where
     go : (b : Bool) → AllFormed (noteValues (annotations p rs)) → AllFormed (noteValues (if b (annotationOf r ∷ annotations p rs) (annotations p rs)))
     go true k = (h .0 .name, (h .0 .value, k))
@@ -209,7 +170,7 @@ pub content-good : (document text ws : List ℕ) (n i : ℕ) (c : Item) → soun
 unfolding content
 content-good document text ws n i c e h =
     let t = rowsShown document text ws n in
-    let all : AllFine t = all-fine document text (rowsOf n ws) 0 (rowsOf n ws) (each-sound document text ws n e) in
+    let all : AllFine t = all-fine document text ws n e n 0 (omega arith) in
     first-good t all i (drop i t) (fine-drop i t all) c h
 
 -- ---- there is such a row

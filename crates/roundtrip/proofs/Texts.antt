@@ -7,20 +7,13 @@ use mathlib.Core.Option.{Option, none, some}
 use mathlib.Core.Bool.{Bool, true, false}
 use borrow.Author.Tests.{ltb-true}
 use lib.Dec.{ltb}
-use Rattle.slices.specs.Bytes.{bytes, all}
-use Rattle.slices.proofs.Runs.{both}
-use Rattle.utf8.proofs.Texts.{Whole, none-whole, whole, formed, whole-append, whole-char, ascii-char}
+use Rattle.slices.specs.Bytes.{bytes}
+use Rattle.utf8.proofs.Texts.{Whole, none-whole, whole, formed, whole-append, whole-char, ascii-char, ascii}
 use Rattle.references.specs.Escape.{escape}
 use Rattle.references.proofs.Formed.{escape-formed}
 use Rattle.items.specs.Written.{Pair, pairs, ending, tag, closingTag, concat, element, Annotation, Direction, no-direction, inward, outward, Arg, Member, Item, annotated, argument, method, signal, named, directions, argPairs, writtenAnnotation, writtenArg, writtenMember, written}
 use Rattle.roundtrip.specs.Items.{noteValues, nameValues, argValues, argsValues, memberValues, values}
 use Rattle.roundtrip.proofs.SoundRows.{Formed, AllFormed}
-
-pub ascii : (l : List ℕ) → all (λ b. ltb b 128) l ≡ true → Whole l
-ascii [] h = none-whole
-ascii (b ∷ l) h =
-    let t = both (ltb b 128) (all (λ b. ltb b 128) l) h in
-    whole-append (whole-char (ascii-char (ltb-true b 128 (t .0)))) (ascii l (t .1))
 
 -- a byte below 128, then a text
 first : (b : ℕ) (l : List ℕ) → ltb b 128 ≡ true → Whole l → Whole (b ∷ l)

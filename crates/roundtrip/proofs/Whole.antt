@@ -11,9 +11,9 @@ use lib.Dec.{ltb}
 use lib.ListN.{length, length-map}
 use Rattle.slices.specs.Bytes.{bytes}
 use Rattle.utf8.specs.WellFormed.{illFormed}
-use Rattle.utf8.proofs.Texts.{Whole, formed, whole-append}
+use Rattle.utf8.proofs.Texts.{ascii, Whole, formed, whole-append}
 use Rattle.names.specs.Names.{interfaceName}
-use Rattle.names.proofs.Plain.{interface-bytes, name-all}
+use Rattle.names.proofs.Bytes.{interface-bytes, name-all}
 use Rattle.scan.specs.Classes.{escapable}
 use Rattle.references.specs.Escape.{escape}
 use Rattle.references.proofs.Escapes.{escape-same}
@@ -35,7 +35,7 @@ use Rattle.roundtrip.proofs.Elements.{Reads, Element, entered, Opens, a
 use Rattle.roundtrip.proofs.Items.{Good, kind, item-element}
 use Rattle.roundtrip.proofs.Equal.{valueOf, unmarked}
 use Rattle.roundtrip.proofs.SoundRows.{AllFormed}
-use Rattle.roundtrip.proofs.Texts.{ascii, whole-written}
+use Rattle.roundtrip.proofs.Texts.{whole-written}
 use Rattle.roundtrip.proofs.Keeping.{view-run}
 use Rattle.roundtrip.proofs.Room.{sizes, texts-size, table-size}
 

@@ -3,7 +3,6 @@
 use Prim.Native.Nat.{ℕ, suc, _+_}
 use mathlib.Core.List.{List, [], _∷_, _++_, map}
 use mathlib.Core.Option.{Option, none, some}
-use mathlib.Core.Bool.{Bool, true, false}
 use lib.ListN.{length}
 use Rattle.slices.specs.Bytes.{if, same}
 use Rattle.references.specs.Escape.{escape}

@@ -50,11 +50,11 @@ ReadBack =
     × ((name : List ℕ) (room : Room) → interfaceName name ≡ true → Fits name c room → ReadsAs (around name (written c)) room name c)
 
 -- bytes are equal exactly when content is; where content differs, neither is the beginning of the other
-pub record Told (c c′ : Item) : Type 0 where
-  pub same : c ≡ c′ → written c ≡ written c′
-  pub tells : written c ≡ written c′ → c ≡ c′
-  pub first : (c ≡ c′ → ⊥) → (r : List ℕ) → written c ++ r ≡ written c′ → ⊥
-  pub second : (c ≡ c′ → ⊥) → (r : List ℕ) → written c′ ++ r ≡ written c → ⊥
+pub record Told (c c′ : Item) (b b′ : List ℕ) : Type 0 where
+  pub same : c ≡ c′ → b ≡ b′
+  pub tells : b ≡ b′ → c ≡ c′
+  pub first : (c ≡ c′ → ⊥) → (r : List ℕ) → b ++ r ≡ b′ → ⊥
+  pub second : (c ≡ c′ → ⊥) → (r : List ℕ) → b′ ++ r ≡ b → ⊥
 
 -- 2. for any two written items, an arg by itself included, from any two sound tables
 abbrev pub BytesTell : Type 0
@@ -64,4 +64,4 @@ BytesTell =
     soundness document′ text′ ws′ n′ ≡ sound →
     contentAt document text ws n i ≡ some c →
     contentAt document′ text′ ws′ n′ i′ ≡ some c′ →
-    Told c c′
+    Told c c′ (written c) (written c′)

@@ -3,4 +3,3 @@
 pub mod Values
 pub mod Words
 pub mod Tables
-pub mod Shown

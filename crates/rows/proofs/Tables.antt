@@ -8,14 +8,13 @@ use borrow.Author.Needs.{needs}
 use native.Mathlib.Nat.{mul-one}
 use native.Mathlib.Omega.{arith}
 use lib.ListN.{length, take, drop, length-append, take-append-drop, length-take}
-use lib.Seq.{length-take-le, take-append-le}
+use lib.Seq.{length-take-le}
 use Rattle.tables.specs.Table.{Put, Documented}
 use Rattle.tables.proofs.Tables.{given-back-to}
-use Rattle.references.specs.Outcome.{Puts}
-use Rattle.references.proofs.Putting.{puts-then}
+use Rattle.answers.specs.Puts.{Puts}
+use Rattle.answers.proofs.Putting.{puts-then}
 use Rattle.document.specs.Tags.{Shown}
 use Rattle.document.specs.Rows.{Row, Tables, documented, textOf, rowText, rowWords, wordsFrom, texts, warned}
-use Rattle.document.specs.Reading.{withRow}
 use Rattle.document.specs.Outcome.{ValueIs, Lent, lent, Stands}
 use Rattle.document.specs.declared.Value.{Value}
 use Rattle.document.specs.declared.Fill.{Fill}
@@ -112,7 +111,3 @@ cut-to {u} {v} {f = f} {g = g} y z e =
     let h : f .rows ≤ length (v .rows) = omega (arith, y .many, ap length e, length-take (f .rows) (v .rows)) in
     let t : length (texts (take (f .rows) (v .rows))) ≡ f .text = ap (λ (rs : List (Row Shown)). length (texts rs)) e ∙ text-counted y in
     rw t at (cut z (f .rows) (g .at) h)
-
--- a row more leaves the rows before it
-pub take-withRow : {A : Type 0} (i : ℕ) (r : Row A) (u : Tables A) → i ≤ length (u .rows) → take i (withRow r u .rows) ≡ take i (u .rows)
-take-withRow i r u h = take-append-le i (u .rows) (r ∷ []) h

@@ -1,51 +1,25 @@
 -- Values of attributes: the triple and the text of one that is shown as it stands, of a changed one and of one that is absent.
 -- Assumes nothing.
 use Prim.Native.Nat.{ℕ, _+_, _-_}
-use mathlib.Core.Path.{_≡_, refl, _∙_}
+use mathlib.Core.Path.{_≡_, refl}
 use mathlib.Core.List.{List, [], _∷_}
 use mathlib.Core.Option.{Option, none, some}
 use mathlib.Core.Bool.{Bool, true, false}
 use borrow.Author.Needs.{needs}
 use native.Mathlib.Omega.{arith}
-use lib.ListN.{length, take, drop, length-drop}
-use lib.Seq.{length-take-le}
+use lib.ListN.{length}
 use Rattle.slices.specs.Bytes.{if, all}
-use Rattle.references.specs.Unescape.{text, plain}
-use Rattle.references.specs.Outcome.{Puts, Shows}
-use Rattle.references.proofs.Putting.{puts-none}
+use Rattle.answers.specs.Text.{text}
+use Rattle.answers.specs.Puts.{Puts}
+use Rattle.answers.proofs.Putting.{puts-none}
+use Rattle.references.specs.Unescape.{plain}
+use Rattle.references.specs.Outcome.{Shows}
 use Rattle.document.specs.Tags.{Shown}
 use Rattle.document.specs.Rows.{triple, textOf}
-use Rattle.document.specs.Outcome.{Held, ValueIs}
+use Rattle.document.specs.Outcome.{Held, ValueIs, Raw}
 use Rattle.document.specs.declared.Value.{Value}
-use Rattle.rows.specs.Outcome.{Lies, Raw, Places}
-
--- ---- the kind of a value that is there
-
-by-kind : (b : Bool) (k : ℕ) → k ≡ if b 1 2 → (k ≡ 1 → b ≡ true) × (k ≡ 2 → b ≡ false)
-by-kind true k e = ((λ h. refl), λ h. absurd (omega arith))
-by-kind false k e = ((λ h. absurd (omega arith)), λ h. refl)
-
-module _ {doc : List ℕ} {v : Value} {s : Shown} (h : Held doc v s) where
-  pub held-plain : v .kind ≡ 1 → all plain (s .attr .raw) ≡ true
-  held-plain = by-kind (all plain (s .attr .raw)) (v .kind) (h .kind) .0
-
-  pub held-changed : v .kind ≡ 2 → all plain (s .attr .raw) ≡ false
-  held-changed = by-kind (all plain (s .attr .raw)) (v .kind) (h .kind) .1
-
-  pub held-raw : {r : List ℕ} → Raw doc v r → r ≡ s .attr .raw
-  held-raw w = w .is ∙ h .raw
-
-  -- the text of a changed value that is put
-  pub held-puts : {r t t′ : List ℕ} {n m : ℕ} → Raw doc v r → Shows r n t t′ m → Puts (s .value) n t t′ m
-  held-puts w g = g .puts (s .value) (rw (held-raw w) (h .shows))
-
--- a part of a document
-pub part-raw : {doc : List ℕ} {v : Value} → Lies doc v → Raw doc v (take (v .at + v .len - v .at) (drop (v .at) doc))
-part-raw {doc} {v} l =
-    let e : v .at + v .len - v .at ≡ v .len = omega arith in
-    rw e record { is = refl; many = length-take-le (v .len) (drop (v .at) doc) (rw length-drop (omega (arith, l .inside))) }
-
--- ---- placing a value
+use Rattle.document.proofs.Held.{held-plain, held-changed, held-puts}
+use Rattle.rows.specs.Outcome.{Places}
 
 module _ {doc : List ℕ} {v : Value} {n : ℕ} {t : List ℕ} where
   pub place-plain : v .kind ≡ 1 → Places doc v n t t (record { source = 1; start = v .at; len = v .len; text = n })
@@ -91,4 +65,4 @@ module _ {doc : List ℕ} {v : Value} {n : ℕ} {t : List ℕ} where
       puts (some s) h = rw (held-changed h k) (held-puts h w g)
 
 -- what answers every need of placing a value
-pub ruleset placing = (part-raw, place-plain, place-none, place-changed, needs)
+pub ruleset placing = (place-plain, place-none, place-changed, needs)

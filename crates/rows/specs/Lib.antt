@@ -1,3 +1,3 @@
--- What the functions say that fill the tables and test shown values.
+-- What the functions say that fill the tables.
 -- Assumes nothing.
 pub mod Outcome

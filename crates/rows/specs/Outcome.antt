@@ -1,30 +1,19 @@
--- What the functions say: a row or a warning more in the lent tables, and tests on the text that a value shows.
+-- What the functions say: a row or a warning more in the lent tables.
 -- Assumes nothing.
 use Prim.Native.Nat.{ℕ, suc, _+_, _*_, _≤_, _<_}
 use mathlib.Core.Path.{_≡_}
-use mathlib.Core.Logic.{_⊎_}
 use mathlib.Core.List.{List, [], _∷_}
 use mathlib.Core.Option.{Option, none}
-use lib.ListN.{length, take, drop}
-use Rattle.references.specs.Outcome.{Puts}
+use lib.ListN.{length}
+use Rattle.answers.specs.Puts.{Puts}
 use Rattle.document.specs.Tags.{Shown}
 use Rattle.document.specs.Rows.{Row, Tables, triple, textOf}
 use Rattle.document.specs.Reading.{withRow, withWarning}
-use Rattle.document.specs.Outcome.{Held, ValueIs, lent, Stands}
+use Rattle.document.specs.Outcome.{ValueIs, lent, Stands}
 use Rattle.document.specs.declared.Value.{Value}
 use Rattle.document.specs.declared.Fill.{Fill}
 use Rattle.rows.specs.declared.Head.{Head}
 use Rattle.rows.specs.declared.Placed.{Placed}
-
--- a value lies in a document that is within the limit
-pub record Lies (doc : List ℕ) (v : Value) : Type 0 where
-  pub small : length doc ≤ 1048576
-  pub inside : v .at + v .len ≤ length doc
-
--- the raw bytes of a value
-pub record Raw (doc : List ℕ) (v : Value) (r : List ℕ) : Type 0 where
-  pub is : r ≡ take (v .len) (drop (v .at) doc)
-  pub many : length r ≡ v .len
 
 -- what placing a value says, when n bytes of text stand before it: the words of its triple, and its bytes put
 pub record Places (doc : List ℕ) (v : Value) (n : ℕ) (before after : List ℕ) (r : Placed) : Type 0 where
@@ -86,16 +75,3 @@ pub record WarningPut (reason place len : ℕ) (f : Fill) (before after : List �
       → length name ≡ len
       → Stands u (lent rows before text) f
       → Stands (withWarning reason lt name u) (lent rows after text) r
-
--- what unescaping a value into a buffer of 256 bytes says: the beginning of the buffer is the text, or both have more than 255 bytes
-pub record Changed (doc : List ℕ) (v : Value) (buf : List ℕ) (r : ℕ) : Type 0 where
-  pub inside : r ≤ length buf
-  pub is : (s : Shown) → Held doc v s → (take r buf ≡ s .value) ⊎ ((255 < r) × (255 < length (s .value)))
-
--- the answer is that of a function of texts, at the text that a value shows
-pub record Tests {A : Type 0} (p : List ℕ → A) (doc : List ℕ) (v : Value) (r : A) : Type 0 where
-  pub is : (s : Shown) → Held doc v s → r ≡ p (s .value)
-
--- the function says d of every text of more than 255 bytes
-pub record Short {A : Type 0} (p : List ℕ → A) (d : A) : Type 0 where
-  pub long : (s : List ℕ) → 255 < length s → p s ≡ d

@@ -1,15 +1,8 @@
-// Rows and warnings in the tables that a caller lends, and tests on the text that a value shows.
-ghost use mathlib.Core.Path.{_≡_};
+// Rows and warnings in the tables that a caller lends.
 ghost use Prim.Native.Nat.{_*_, _<_, _≤_};
-ghost use lib.ListN.{length};
 ghost use Rattle.tables.specs.Table.{Put};
-ghost use Rattle.names.specs.Names.{interfaceName, memberName, propertyName};
-ghost use Rattle.names.specs.Signature.{basicSignature, signature};
-ghost use Rattle.document.specs.Elements.{accessOf, directionOf, someSignature};
-ghost use Rattle.rows.specs.Outcome.{Lies, Raw, Places, placed, RowFits, RowPut, WarningFits, WarningPut, Changed, Tests};
-
-pub mod texts;
-
+ghost use Rattle.document.specs.Outcome.{Lies};
+ghost use Rattle.rows.specs.Outcome.{Places, placed, RowFits, RowPut, WarningFits, WarningPut};
 use document::Fill;
 use document::Value;
 
@@ -28,16 +21,6 @@ pub struct Placed {
     pub text: usize,
 }
 
-// The raw bytes of a value.
-fn raw(doc: &[u8], v: Value) -> &[u8]
-    requires { ⌜ Lies (now doc) v ⌝ }
-    ensures { λ r. ⌜ Raw (now (doc .entry)) v (now r) ⌝ }
-{
-    let at = v.at as usize;
-    let end = at + v.len as usize;
-    &doc[at..end]
-}
-
 // The triple of a value; a changed one's shown bytes go into the text.
 fn place(doc: &[u8], text: &mut [u8], v: Value, n: usize) -> Placed
     requires { ⌜ Lies (now doc) v × (n ≤ 5 * 1048576) ⌝ }
@@ -52,7 +35,7 @@ fn place(doc: &[u8], text: &mut [u8], v: Value, n: usize) -> Placed
         };
     }
     if v.kind == 2 {
-        let m = references::put_shown(raw(doc, v), text, n);
+        let m = references::put_shown(document::raw(doc, v), text, n);
         return Placed {
             source: 2,
             start: n as u32,
@@ -133,120 +116,4 @@ pub fn put_warning(warnings: &mut [u32], reason: u32, at: usize, len: usize, f: 
         warnings: n,
         text: f.text,
     }
-}
-
-// Unescapes a changed value into a buffer of 256 bytes. The count of its bytes, or 256 where it has more than 255.
-fn changed(doc: &[u8], v: Value, own: &mut [u8]) -> usize
-    requires { ⌜ Lies (now doc) v × (length (now own) ≡ 256) ⌝ }
-    ensures { λ r. ⌜ Changed (now (doc .entry)) v (now (own .exit)) r ⌝ }
-{
-    let n = references::put_shown(raw(doc, v), own, 0);
-    if 255 < n {
-        return 256;
-    }
-    n
-}
-
-// Whether a value shows an interface name.
-pub fn shown_interface(doc: &[u8], v: Value) -> bool
-    requires { ⌜ Lies (now doc) v ⌝ }
-    ensures { λ r. ⌜ Tests interfaceName (now (doc .entry)) v r ⌝ }
-{
-    if v.kind == 1 {
-        return names::interface_name(raw(doc, v));
-    }
-    let mut own = [0u8; 256];
-    let n = changed(doc, v, &mut own);
-    names::interface_name(&own[..n])
-}
-
-// Whether a value shows a member name.
-pub fn shown_member(doc: &[u8], v: Value) -> bool
-    requires { ⌜ Lies (now doc) v ⌝ }
-    ensures { λ r. ⌜ Tests memberName (now (doc .entry)) v r ⌝ }
-{
-    if v.kind == 1 {
-        return names::member_name(raw(doc, v));
-    }
-    let mut own = [0u8; 256];
-    let n = changed(doc, v, &mut own);
-    names::member_name(&own[..n])
-}
-
-// Whether a value shows a property name.
-pub fn shown_property(doc: &[u8], v: Value) -> bool
-    requires { ⌜ Lies (now doc) v ⌝ }
-    ensures { λ r. ⌜ Tests propertyName (now (doc .entry)) v r ⌝ }
-{
-    if v.kind == 1 {
-        return names::property_name(raw(doc, v));
-    }
-    let mut own = [0u8; 256];
-    let n = changed(doc, v, &mut own);
-    names::property_name(&own[..n])
-}
-
-// Whether a value shows a signature.
-pub fn shown_signature(doc: &[u8], v: Value) -> bool
-    requires { ⌜ Lies (now doc) v ⌝ }
-    ensures { λ r. ⌜ Tests signature (now (doc .entry)) v r ⌝ }
-{
-    if v.kind == 1 {
-        return names::signature(raw(doc, v));
-    }
-    let mut own = [0u8; 256];
-    let n = changed(doc, v, &mut own);
-    names::signature(&own[..n])
-}
-
-// Whether a value shows a signature that is not empty.
-pub fn shown_some_signature(doc: &[u8], v: Value) -> bool
-    requires { ⌜ Lies (now doc) v ⌝ }
-    ensures { λ r. ⌜ Tests someSignature (now (doc .entry)) v r ⌝ }
-{
-    if v.kind == 1 {
-        return texts::some_signature(raw(doc, v));
-    }
-    let mut own = [0u8; 256];
-    let n = changed(doc, v, &mut own);
-    texts::some_signature(&own[..n])
-}
-
-// Whether a value shows the signature of a basic type.
-pub fn shown_basic(doc: &[u8], v: Value) -> bool
-    requires { ⌜ Lies (now doc) v ⌝ }
-    ensures { λ r. ⌜ Tests basicSignature (now (doc .entry)) v r ⌝ }
-{
-    if v.kind == 1 {
-        return names::basic_signature(raw(doc, v));
-    }
-    let mut own = [0u8; 256];
-    let n = changed(doc, v, &mut own);
-    names::basic_signature(&own[..n])
-}
-
-// The number of the access that a value shows, or 0.
-pub fn shown_access(doc: &[u8], v: Value) -> u32
-    requires { ⌜ Lies (now doc) v ⌝ }
-    ensures { λ r. ⌜ Tests accessOf (now (doc .entry)) v r ⌝ }
-{
-    if v.kind == 1 {
-        return texts::access(raw(doc, v));
-    }
-    let mut own = [0u8; 256];
-    let n = changed(doc, v, &mut own);
-    texts::access(&own[..n])
-}
-
-// The number of the direction that a value shows, or 0.
-pub fn shown_direction(doc: &[u8], v: Value) -> u32
-    requires { ⌜ Lies (now doc) v ⌝ }
-    ensures { λ r. ⌜ Tests directionOf (now (doc .entry)) v r ⌝ }
-{
-    if v.kind == 1 {
-        return texts::direction(raw(doc, v));
-    }
-    let mut own = [0u8; 256];
-    let n = changed(doc, v, &mut own);
-    texts::direction(&own[..n])
 }

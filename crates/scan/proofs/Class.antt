@@ -13,7 +13,7 @@ use Rattle.slices.specs.Bytes.{if}
 use Rattle.scan.specs.Classes.{Classes, classOf, white, nameByte, escapable}
 
 -- f at each of n numbers from i on
-abbrev pub tabulated : (ℕ → ℕ) → ℕ → ℕ → List ℕ
+abbrev tabulated : (ℕ → ℕ) → ℕ → ℕ → List ℕ
 tabulated f i zero = []
 tabulated f i (suc n) = f i ∷ tabulated f (suc i) n
 

@@ -3,7 +3,7 @@
 use Prim.Native.Nat.{ℕ, suc, pred, _+_, _-_, _≤_, _<_}
 use mathlib.Core.Path.{_≡_, refl, sym, _∙_, ap}
 use mathlib.Core.List.{List, [], _∷_}
-use mathlib.Core.Bool.{Bool, true, false, not, _&&_}
+use mathlib.Core.Bool.{Bool, true, false, not, _&&_, and-true, and-false}
 use borrow.Author.Needs.{needs}
 use borrow.Author.Tests.{eq-eqb, ne-eqb, not-true, not-false}
 use native.Mathlib.Numerals.{add-one, sub-one}
@@ -42,18 +42,10 @@ quote-62 : (b : ℕ) → quote b ≡ true → eqb b 62 ≡ false
 quote-62 b h = by-byte (λ x. quote x ≡ true → eqb x 62 ≡ false) b 62 (λ e. cc) (λ e g. e) h
 
 no-end : (d b : ℕ) → eqb b 62 ≡ false → ends (bare d) b ≡ false
-no-end d b e = rw e (go (eqb d 0))
-  where
-    go : (t : Bool) → t && false ≡ false
-    go true = refl
-    go false = refl
+no-end d b e = rw e (and-false (eqb d 0))
 
 pub end-here : (d b : ℕ) → b ≡ 62 → eqb d 0 ≡ ends (bare d) b
-end-here d b e = rw e (go (eqb d 0))
-  where
-    go : (t : Bool) → t ≡ t && true
-    go true = refl
-    go false = refl
+end-here d b e = rw e (sym (and-true (eqb d 0)))
 
 pub end-other : (d b : ℕ) → (b ≡ 62 → ⊥) → false ≡ ends (bare d) b
 end-other d b f = sym (no-end d b (ne-eqb b 62 f))

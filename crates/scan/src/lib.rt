@@ -29,14 +29,14 @@ pub fn classes() -> [u8; 256]
     table::CLASSES
 }
 
-pub fn is_white(classes: &[u8; 256], b: u8) -> bool
+fn is_white(classes: &[u8; 256], b: u8) -> bool
     requires { ⌜ Classes (now classes) ⌝ }
     ensures { λ r. ⌜ r ≡ white b ⌝ }
 {
     classes[b as usize] % 2 == 1
 }
 
-pub fn is_name(classes: &[u8; 256], b: u8) -> bool
+fn is_name(classes: &[u8; 256], b: u8) -> bool
     requires { ⌜ Classes (now classes) ⌝ }
     ensures { λ r. ⌜ r ≡ nameByte b ⌝ }
 {
@@ -83,7 +83,7 @@ pub fn name_end(s: &[u8], classes: &[u8; 256], from: usize) -> usize
 }
 
 // Past the first place of the key, or a fault where the search began.
-pub fn until(s: &[u8], from: usize, key: &[u8], number: u32) -> Scan
+fn until(s: &[u8], from: usize, key: &[u8], number: u32) -> Scan
     requires { ⌜ (from ≤ length (now s)) × (0 < length (now key)) × (length (now key) < 256) ⌝ }
     ensures { λ r. ⌜ Scans (seek number (now (key .entry)) from) (now (s .entry)) from r ⌝ }
 {
@@ -135,7 +135,7 @@ fn is_end(depth: usize, b: u8) -> bool
 }
 
 // From past `<!` to past the `>` outside of quotes and brackets.
-pub fn declaration(s: &[u8], from: usize) -> Scan
+fn declaration(s: &[u8], from: usize) -> Scan
     requires { ⌜ from ≤ length (now s) ⌝ }
     ensures { λ r. ⌜ Scans (declarationIn (Mode.bare 0)) (now (s .entry)) from r ⌝ }
 {

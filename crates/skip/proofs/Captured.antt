@@ -23,17 +23,17 @@ use Rattle.document.specs.Tokens.{Tag}
 use Rattle.slices.specs.Bytes.{if}
 use Rattle.document.specs.Rows.{Tables, documented}
 use Rattle.document.specs.Reading.{Frame, State, reading, refused, closed, passing, captures, captured, docstringIn}
-use Rattle.document.specs.Outcome.{lent, Stands, Bounded, Ready, TagIs, Passes, Captures, runs, whole}
+use Rattle.document.specs.Outcome.{lent, Stands, Bounded, Ready, TagIs, Passes, Captures, runs, whole, moved}
 use Rattle.document.specs.declared.Refusal.{Refusal}
 use Rattle.document.specs.declared.StartTag.{StartTag}
 use Rattle.document.specs.declared.Fill.{Fill}
 use Rattle.document.specs.declared.Answer.{Answer}
 use Rattle.document.specs.declared.Passed.{Passed}
-use Rattle.document.proofs.Loops.{moved, moved-stands}
+use Rattle.document.proofs.Loops.{moved-stands, name-inside}
 use Rattle.rows.proofs.Tables.{docstring-put}
 use Rattle.rows.proofs.Words.{take-documented}
 use Rattle.skip.specs.Outcome.{Puts}
-use Rattle.skip.proofs.Skipped.{skip-within, skip-named, skip-small}
+use Rattle.skip.proofs.Skipped.{skip-within, skip-small}
 
 -- the content between two places, and the trimmed part of it
 module _ (doc : List ℕ) (from lt : ℕ) (h : from ≤ lt) (l : lt ≤ length doc) (m : length doc ≤ 1048576) where
@@ -128,8 +128,8 @@ module _ {doc : List ℕ} {c : StartTag} {f : Fill} (r : Ready doc c f) where
       pub captured-formed : illFormed (take (lt - c .end) (drop (c .end) doc)) ≡ length (take (lt - c .end) (drop (c .end) doc))
       captured-formed = content-formed (closes .onward .0) (omega (arith, closes .onward)) (closes .onward .3)
 
-      pub captured-closed : {i : ℕ} {rows rows′ : List ℕ} → i < f .rows → Puts doc (c .end) lt i rows rows′ → Captures doc c i f rows rows′ (Answer.Done (moved f end))
-      captured-closed {i} o p = record {
+      pub captured-closed : {i : ℕ} {m : Fill} {rows rows′ : List ℕ} → i < f .rows → Puts doc (c .end) lt i rows rows′ → m ≡ moved f end → Captures doc c i f rows rows′ (Answer.Done m)
+      captured-closed {i} o p q = rw q record {
         onward = (omega (arith, r .at, closes .onward), omega arith, bounded end (omega (arith, closes .onward)) (closes .onward .2));
         ends = λ t fs u w bytes z s. (
           captured (take (lt - c .end) (drop (c .end) doc)) (c .end) i u,
@@ -142,4 +142,4 @@ module _ {doc : List ℕ} {c : StartTag} {f : Fill} (r : Ready doc c f) where
 pub owner-small : {doc : List ℕ} {c : StartTag} {f : Fill} → Ready doc c f → (i : ℕ) → i < f .rows → i < 1048576
 owner-small r i h = omega (arith, r .few, r .sound .small, r .fits .inside, r .fits .within)
 
-pub ruleset documents = (skip-within, skip-named, skip-small, captured-self, captured-fault, captured-from, captured-inside, captured-formed, captured-closed, owner-small, needs)
+pub ruleset documents = (skip-within, name-inside, skip-small, captured-self, captured-fault, captured-from, captured-inside, captured-formed, captured-closed, owner-small, needs)

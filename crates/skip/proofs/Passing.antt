@@ -54,7 +54,7 @@ module _ {doc : List ℕ} {from at len depth here : ℕ} (g : Sofar doc from at 
         let i = d .leads (passing p (take len (drop at doc) ∷ ns)) fs u refl in
         (i .0, i .1, g .leads p ns fs u e ∙ i .2)
 
-    pub pass-fits : (here < c .at) × TagFits doc c
+    pass-fits : (here < c .at) × TagFits doc c
     pass-fits = let d : Steps doc here at len (Next.Start c) = rw q at s in d .onward
 
     pub pass-self : c .closes ≡ true → Sofar doc from at len depth (c .end)

@@ -12,13 +12,13 @@ use Rattle.document.specs.Tags.{Shown}
 use Rattle.document.specs.Tokens.{Tag}
 use Rattle.document.specs.Rows.{Tables}
 use Rattle.document.specs.Reading.{Frame, State, reading, refused, closed, passing, ignored, withWarning, unsupported}
-use Rattle.document.specs.Outcome.{lent, Stands, Bounded, Ready, TagIs, Passes, Ignores, runs, whole}
+use Rattle.document.specs.Outcome.{lent, Stands, Bounded, Ready, TagIs, Passes, Ignores, runs, whole, moved}
 use Rattle.document.specs.declared.Refusal.{Refusal}
 use Rattle.document.specs.declared.StartTag.{StartTag}
 use Rattle.document.specs.declared.Fill.{Fill}
 use Rattle.document.specs.declared.Answer.{Answer}
 use Rattle.document.specs.declared.Passed.{Passed}
-use Rattle.document.proofs.Loops.{moved, moved-stands}
+use Rattle.document.proofs.Loops.{moved-stands, name-inside}
 use Rattle.rows.specs.Outcome.{WarningPut, WarningFits}
 
 -- the counts after a start tag are small enough for its warning
@@ -32,9 +32,6 @@ warning-fits r = record {
 
 pub skip-within : {doc : List ℕ} {c : StartTag} {f : Fill} → Ready doc c f → c .end ≤ length doc
 skip-within r = r .fits .within
-
-pub skip-named : {doc : List ℕ} {c : StartTag} {f : Fill} → Ready doc c f → c .at + c .len ≤ length doc
-skip-named r = omega (arith, r .fits .inside, r .fits .within)
 
 pub skip-small : {doc : List ℕ} {c : StartTag} {f : Fill} → Ready doc c f → length doc ≤ 1048576
 skip-small r = r .sound .small
@@ -80,9 +77,10 @@ module _ {doc : List ℕ} {c : StartTag} {f g : Fill} {w w′ : List ℕ} (r : R
       ends = λ t fs u rows bytes z s. opens t fs u z ∙ (rw e at l) .leads ignored [] fs (withWarning 1 (t .at) (t .name) u) refl;
     }
 
-    pub skipped-closed : {lt end : ℕ} → d ≡ Passed.Closed lt end → Ignores doc c f w w′ (Answer.Done (moved g end))
-    skipped-closed {lt} {end} e =
+    pub skipped-closed : {lt end : ℕ} {m : Fill} → d ≡ Passed.Closed lt end → m ≡ moved g end → Ignores doc c f w w′ (Answer.Done m)
+    skipped-closed {lt} {end} e q =
         let y : Passes doc (c .end) (c .at) (c .len) 1 (Passed.Closed lt end) = rw e at l in
+        rw q
         record {
           onward = (
             omega (arith, r .at, y .onward),
@@ -97,4 +95,4 @@ module _ {doc : List ℕ} {c : StartTag} {f g : Fill} {w w′ : List ℕ} (r : R
           );
         }
 
-pub ruleset skips = (warning-fits, skip-within, skip-named, skip-small, skipped-self, skipped-fault, skipped-closed, needs)
+pub ruleset skips = (warning-fits, skip-within, name-inside, skip-small, skipped-self, skipped-fault, skipped-closed, needs)

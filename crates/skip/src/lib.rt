@@ -5,6 +5,7 @@ use document::Next;
 use document::Passed;
 use document::Refusal;
 use document::StartTag;
+use document::kinds;
 use tags::step;
 ghost use mathlib.Core.Path.{_≡_};
 ghost use Prim.Native.Nat.{_+_, _-_, _≤_, _<_};
@@ -15,7 +16,7 @@ ghost use Rattle.document.specs.Outcome.{Passes, Ready, Ignores, Captures, Othe
 ghost use Rattle.skip.specs.Outcome.{Puts};
 
 // Passes over the rest of an element whose name stands at a place, when so many elements are open in what is passed over.
-pub fn skip(
+pub fn skip_element(
     doc: &[u8],
     classes: &[u8; 256],
     from: usize,
@@ -45,7 +46,7 @@ pub fn skip(
                             place: t.end,
                         });
                     }
-                    match skip(doc, classes, t.end, t.at, t.len, depth + 1) {
+                    match skip_element(doc, classes, t.end, t.at, t.len, depth + 1) {
                         Passed::Fault(refusal) => {
                             return Passed::Fault(refusal);
                         }
@@ -60,7 +61,7 @@ pub fn skip(
 }
 
 // An element that nobody asked for: its warning, then its content.
-pub fn unsupported(
+pub fn skip_unsupported(
     doc: &[u8],
     classes: &[u8; 256],
     warnings: &mut [u32],
@@ -74,14 +75,9 @@ pub fn unsupported(
     if c.closes {
         return Answer::Done(g);
     }
-    match skip(doc, classes, c.end, c.at, c.len, 1) {
+    match skip_element(doc, classes, c.end, c.at, c.len, 1) {
         Passed::Fault(refusal) => Answer::Fault(refusal),
-        Passed::Closed(_, end) => Answer::Done(Fill {
-            at: end,
-            rows: g.rows,
-            warnings: g.warnings,
-            text: g.text,
-        }),
+        Passed::Closed(_, end) => Answer::Done(g.moved(end)),
     }
 }
 
@@ -115,16 +111,11 @@ pub fn docstring(
         return Answer::Done(f);
     }
     let from = c.end;
-    match skip(doc, classes, from, c.at, c.len, 1) {
+    match skip_element(doc, classes, from, c.at, c.len, 1) {
         Passed::Fault(refusal) => Answer::Fault(refusal),
         Passed::Closed(lt, end) => {
             capture(doc, rows, from, lt, i);
-            Answer::Done(Fill {
-                at: end,
-                rows: f.rows,
-                warnings: f.warnings,
-                text: f.text,
-            })
+            Answer::Done(f.moved(end))
         }
     }
 }
@@ -142,8 +133,8 @@ pub fn docstring_or_skip(
     requires { ⌜ Ready (now doc) c f ⌝ ∗ ⌜ i < f .rows ⌝ ∗ ⌜ Classes (now classes) ⌝ }
     ensures { λ r. ⌜ Others (now (doc .entry)) c i f (now (rows .entry)) (now (rows .exit)) (now (warnings .entry)) (now (warnings .exit)) r ⌝ }
 {
-    if c.kind == 14 {
+    if c.kind == kinds::DOCSTRING {
         return docstring(doc, classes, rows, c, i, f);
     }
-    unsupported(doc, classes, warnings, c, f)
+    skip_unsupported(doc, classes, warnings, c, f)
 }

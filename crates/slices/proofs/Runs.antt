@@ -3,7 +3,7 @@
 use Prim.Native.Nat.{ℕ, zero, suc, _+_, _-_, _≤_, _<_}
 use mathlib.Core.Path.{_≡_, refl, ap, sym, subst, _∙_}
 use mathlib.Core.List.{List, [], _∷_, _++_}
-use mathlib.Core.Bool.{Bool, true, false}
+use mathlib.Core.Bool.{Bool, true, false, _&&_, false≢true, and-eq-true-iff}
 use borrow.Author.Needs.{needs}
 use borrow.Author.Tests.{eq-eqb, ne-eqb, eqb-true, eqb-false}
 use native.Mathlib.Nat.{add-zero}
@@ -20,6 +20,20 @@ pub both : (a b : Bool) → if a b false ≡ true → (a ≡ true) × (b ≡ tru
 both true b e = (refl, e)
 both false b e = (cc, cc)
 
+pub and-both : (a b : Bool) → a && b ≡ true → (a ≡ true) × (b ≡ true)
+and-both a b = and-eq-true-iff a b .0
+
+pub if-false : (t : Bool) → if t false false ≡ false
+if-false true = refl
+if-false false = refl
+
+pub eqb-swap : (m n : ℕ) → eqb m n ≡ eqb n m
+eqb-swap m n = go (eqb m n) refl
+  where
+    go : (t : Bool) → eqb m n ≡ t → eqb m n ≡ eqb n m
+    go true e = e ∙ sym (eq-eqb n m (sym (eqb-true m n e)))
+    go false e = e ∙ sym (ne-eqb n m (λ q. eqb-false m n e (sym q)))
+
 -- a byte is one of a kind, or it is not
 pub by-byte : (P : ℕ → Type 0) (b k : ℕ) → P k → (eqb b k ≡ false → P b) → P b
 by-byte P b k yes-it no-it = go (eqb b k) refl
@@ -33,11 +47,11 @@ abbrev pub Stops : (ℕ → Bool) → List ℕ → Type 0
 Stops p [] = Unit {0}
 Stops p (b ∷ l) = p b ≡ false
 
-pub span-none : (p : ℕ → Bool) (r : List ℕ) → Stops p r → span p r ≡ []
+span-none : (p : ℕ → Bool) (r : List ℕ) → Stops p r → span p r ≡ []
 span-none p [] e = refl
 span-none p (b ∷ r) e = rw e
 
-pub past-none : (p : ℕ → Bool) (r : List ℕ) → Stops p r → past p r ≡ r
+past-none : (p : ℕ → Bool) (r : List ℕ) → Stops p r → past p r ≡ r
 past-none p [] e = refl
 past-none p (b ∷ r) e = rw e
 
@@ -66,7 +80,7 @@ pub past-at : (p : ℕ → Bool) (doc : List ℕ) (at : ℕ) → past p (drop at
 past-at p doc at = past-drop p (drop at doc) ∙ drop-drop (length (span p (drop at doc))) at doc
 
 -- what is the same past a byte of a class, whichever bytes follow, is the same past a run of them
-pub run-skips : {A : Type 0} (f : List ℕ → ℕ → A) (p : ℕ → Bool) → ((b : ℕ) (l : List ℕ) (at : ℕ) → p b ≡ true → f (b ∷ l) at ≡ f l (suc at)) → (l : List ℕ) (at : ℕ) → f l at ≡ f (past p l) (at + length (span p l))
+run-skips : {A : Type 0} (f : List ℕ → ℕ → A) (p : ℕ → Bool) → ((b : ℕ) (l : List ℕ) (at : ℕ) → p b ≡ true → f (b ∷ l) at ≡ f l (suc at)) → (l : List ℕ) (at : ℕ) → f l at ≡ f (past p l) (at + length (span p l))
 run-skips f p one [] at = rw add-zero
 run-skips f p one (b ∷ l) at = go (p b) refl (run-skips f p one l (suc at))
   where
@@ -80,7 +94,7 @@ pub run-past : {A : Type 0} (f : List ℕ → ℕ → A) (p : ℕ → Bool) → 
 run-past f p one s at n = run-skips f p one (drop at s) at ∙ rw (past-at p s at, ← n .ends)
 
 -- the byte at the end of a run is of another class
-span-end : (p : ℕ → Bool) (l : List ℕ) → length (span p l) < length l → p (getD l (length (span p l)) 0) ≡ false
+pub span-end : (p : ℕ → Bool) (l : List ℕ) → length (span p l) < length l → p (getD l (length (span p l)) 0) ≡ false
 span-end p [] h = absurd (omega arith)
 span-end p (b ∷ l) h = go (p b) refl h (span-end p l)
   where
@@ -150,11 +164,7 @@ pub record Matching (s : List ℕ) (from : ℕ) (key : List ℕ) (i : ℕ) : Typ
 starts-short : (key l : List ℕ) → length l < length key → starts key l ≡ false
 starts-short [] l h = absurd (omega arith)
 starts-short (a ∷ k) [] h = refl
-starts-short (a ∷ k) (b ∷ l) h = rw (starts-short k l (omega arith)) (either (eqb a b))
-  where
-    either : (t : Bool) → if t false false ≡ false
-    either true = refl
-    either false = refl
+starts-short (a ∷ k) (b ∷ l) h = rw (starts-short k l (omega arith)) (if-false (eqb a b))
 
 -- one that stands there fits
 pub starts-fits : (key l : List ℕ) → starts key l ≡ true → length key ≤ length l
@@ -196,13 +206,6 @@ same-starts [] (x ∷ b) h = absurd (omega arith)
 same-starts (x ∷ a) [] h = absurd (omega arith)
 same-starts (x ∷ a) (y ∷ b) h = rw (same-starts a b (omega arith)) (swap (eqb x y) (eqb y x) (eqb-swap x y))
   where
-    eqb-swap : (m n : ℕ) → eqb m n ≡ eqb n m
-    eqb-swap m n = by (eqb m n) refl
-      where
-        by : (t : Bool) → eqb m n ≡ t → eqb m n ≡ eqb n m
-        by true e = e ∙ sym (eq-eqb n m (sym (eqb-true m n e)))
-        by false e = e ∙ sym (ne-eqb n m (λ q. eqb-false m n e (sym q)))
-
     swap : (s t : Bool) → s ≡ t → if s (starts b a) false ≡ if t (starts b a) false
     swap s t e = rw e
 
@@ -210,11 +213,15 @@ pub same-short : (a b : List ℕ) → (length a ≡ length b → ⊥) → false 
 same-short [] [] h = absurd (h refl)
 same-short [] (x ∷ b) h = refl
 same-short (x ∷ a) [] h = refl
-same-short (x ∷ a) (y ∷ b) h = rw (← same-short a b (λ e. h (ap suc e))) (either (eqb x y))
-  where
-    either : (t : Bool) → false ≡ if t false false
-    either true = refl
-    either false = refl
+same-short (x ∷ a) (y ∷ b) h = rw (← same-short a b (λ e. h (ap suc e))) (sym (if-false (eqb x y)))
+
+pub same-equal : (a b : List ℕ) → same a b ≡ true → a ≡ b
+same-equal [] [] e = refl
+same-equal [] (y ∷ b) e = absurd (false≢true e)
+same-equal (x ∷ a) [] e = absurd (false≢true e)
+same-equal (x ∷ a) (y ∷ b) e =
+    let t = both (eqb x y) (same a b) e in
+    rw (eqb-true x y (t .0)) (ap (_∷_ y) (same-equal a b (t .1)))
 
 -- what answers every need of a comparison
 pub ruleset matches = (match-short, match-begins, match-more, match-fails, match-ends, needs)

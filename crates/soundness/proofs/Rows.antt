@@ -6,40 +6,42 @@ use mathlib.Core.List.{List}
 use mathlib.Core.Bool.{Bool, true, false, not, _&&_, and-false}
 use borrow.Author.Needs.{needs}
 use borrow.Author.Tests.{ne-eqb, lt-ltb, le-ltb, le-leb, lt-leb, not-true, not-false}
-use native.Mathlib.Nat.{div-mul-le-self}
-use native.Mathlib.Numerals.{add-one, add-two}
+use native.Mathlib.Nat.{add-zero, div-mul-le-self}
+use native.Mathlib.Numerals.{add-one}
 use native.Mathlib.Omega.{arith}
 use lib.Dec.{eqb, leb, ltb}
 use lib.ListN.{length, drop, getD}
 use Rattle.tables.specs.declared.Triple.{Triple}
+use Rattle.document.specs.Kinds as kinds
 use Rattle.document.specs.Elements.{mayHold}
-use Rattle.items.specs.Words.{RowWords, tripleAt, rowOf, rowsOf}
+use Rattle.items.specs.Words.{RowWords, wordAt, Word, tripleAt, TripleIs, rowOf, rowsOf}
 use Rattle.items.specs.Sound.{kindAt, placed, goodTriple, nameUse, valueUse, tpUse, docUse, validName, validValue, anyText, inDocument, validWord, soundRow, firstBad, sound, unsound, soundness}
-use Rattle.items.proofs.Rows.{row-at, rows-past, row-word, row-kind, row-triple, kind-at}
+use Rattle.items.proofs.Rows.{row-at, rows-past, kind-at}
+use Rattle.items.proofs.Words.{word-in}
 use Rattle.soundness.specs.declared.Soundness.{Soundness}
 use Rattle.soundness.specs.Outcome.{goodDoc, goodFront, goodBack, Placed, Front, Back, RowSound, Judges}
 
-pub ruleset words = (add-one, add-two, needs)
-
 -- ---- the place of a row
 
-module _ (ws : List ℕ) (i p : ℕ) (g : p ≡ getD ws (i * 16 + 1) 0) where
-  root : (r : Bool) → i ≡ 0 → r ≡ eqb (getD ws (i * 16) 0) 1 && eqb (getD ws (i * 16 + 1) 0) 0 → Placed ws i r
-  root r e h = record { is = λ n l. rw e (rw e at h) }
+module _ {ws : List ℕ} {i k p : ℕ} (a : Word ws i 0 k) (g : Word ws i 1 p) where
+  root : (r : Bool) → i ≡ 0 → r ≡ eqb k kinds.node && eqb p 0 → Placed ws i r
+  root r e h =
+      let q : r ≡ eqb (wordAt ws i 0) kinds.node && eqb (wordAt ws i 1) 0 = rw (← a .is, ← g .is) h in
+      record { is = λ n l. rw e (rw e at q) }
 
-  pub root-kind : i ≡ 0 → (getD ws (i * 16) 0 ≡ 1 → ⊥) → Placed ws i false
-  root-kind e h = root false e (rw (ne-eqb (getD ws (i * 16) 0) 1 h))
+  pub root-kind : i ≡ 0 → (k ≡ kinds.node → ⊥) → Placed ws i false
+  root-kind e h = root false e (rw (ne-eqb k kinds.node h))
 
-  pub root-parent : i ≡ 0 → getD ws (i * 16) 0 ≡ 1 → Placed ws i (eqb p 0)
-  root-parent e h = root (eqb p 0) e (rw (h, g))
+  pub root-parent : i ≡ 0 → k ≡ kinds.node → Placed ws i (eqb p 0)
+  root-parent e h = root (eqb p 0) e (rw h)
 
   -- any other row
-  inner : (i ≡ 0 → ⊥) → (n : ℕ) → placed (rowsOf n ws) i (rowOf (drop (i * 16) ws)) ≡ ltb 0 p && leb p i && mayHold (kindAt (rowsOf n ws) (p - 1)) (getD ws (i * 16) 0)
+  inner : (i ≡ 0 → ⊥) → (n : ℕ) → placed (rowsOf n ws) i (rowOf (drop (i * 16) ws)) ≡ ltb 0 p && leb p i && mayHold (kindAt (rowsOf n ws) (p - 1)) k
   inner h n = go i h
     where
-      go : (j : ℕ) → (j ≡ 0 → ⊥) → placed (rowsOf n ws) j (rowOf (drop (i * 16) ws)) ≡ ltb 0 p && leb p j && mayHold (kindAt (rowsOf n ws) (p - 1)) (getD ws (i * 16) 0)
+      go : (j : ℕ) → (j ≡ 0 → ⊥) → placed (rowsOf n ws) j (rowOf (drop (i * 16) ws)) ≡ ltb 0 p && leb p j && mayHold (kindAt (rowsOf n ws) (p - 1)) k
       go zero h = absurd (h refl)
-      go (suc j) h = rw (row-word i 1 ws, row-kind i ws, g)
+      go (suc j) h = rw (word-in a, word-in g)
 
   module _ (h : i ≡ 0 → ⊥) where
     pub no-parent : p ≡ 0 → Placed ws i false
@@ -49,39 +51,41 @@ module _ (ws : List ℕ) (i p : ℕ) (g : p ≡ getD ws (i * 16 + 1) 0) where
       pub late-parent : i ≤ p - 1 → Placed ws i false
       late-parent e = record { is = λ n l. sym (inner h n ∙ rw (lt-ltb 0 p (omega arith), lt-leb p i (omega arith))) }
 
-      pub parent-holds : {r : Bool} → p - 1 < i → r ≡ mayHold (getD ws ((p - 1) * 16) 0) (getD ws (i * 16) 0) → Placed ws i r
-      parent-holds e q = record {
-        is = λ n l. q ∙ sym (inner h n ∙ rw (lt-ltb 0 p (omega arith), le-leb p i (omega arith), kind-at n (p - 1) ws (omega arith)));
-      }
+      pub parent-holds : {r : Bool} {m : ℕ} → p - 1 < i → Word ws (p - 1) 0 m → r ≡ mayHold m k → Placed ws i r
+      parent-holds {m = m} e w q =
+          let f : m ≡ getD ws ((p - 1) * 16) 0 = w .is ∙ rw add-zero in
+          record {
+            is = λ n l. q ∙ sym (inner h n ∙ rw (lt-ltb 0 p (omega arith), le-leb p i (omega arith), kind-at n (p - 1) ws (omega arith), ← f));
+          }
 
 pub ruleset places = (root-kind, root-parent, no-parent, late-parent, parent-holds, needs)
 
 -- ---- its texts
 
-module _ (d x ws : List ℕ) (i : ℕ) where
-  module _ {t : Triple} {b : Bool} (e : t ≡ tripleAt (i * 16 + 2) ws) (h : b ≡ goodTriple d x (nameUse (getD ws (i * 16) 0)) (validName (getD ws (i * 16) 0)) t) where
+module _ (d x : List ℕ) {ws : List ℕ} {i k : ℕ} (a : Word ws i 0 k) where
+  module _ {t : Triple} {b : Bool} (e : TripleIs ws i 2 t) (h : b ≡ goodTriple d x (nameUse k) (validName k) t) where
     named : goodTriple d x (nameUse (getD (drop (i * 16) ws) 0 0)) (validName (getD (drop (i * 16) ws) 0 0)) (tripleAt 2 (drop (i * 16) ws)) ≡ b
-    named = sym (rw (row-kind i ws, row-triple i 2 ws, ← e) h)
+    named = sym (rw (← word-in a, ← e .is) h)
 
     pub no-name : not b ≡ true → Front d x ws i false
     unfolding goodFront
     no-name q = record { is = rw (named ∙ not-true b q) }
 
-    pub name-and-value : {s : Triple} {r : Bool} → not b ≡ false → s ≡ tripleAt (i * 16 + 5) ws → r ≡ goodTriple d x (valueUse (getD ws (i * 16) 0)) (validValue (getD ws (i * 16) 0)) s → Front d x ws i r
+    pub name-and-value : {s : Triple} {r : Bool} → not b ≡ false → TripleIs ws i 5 s → r ≡ goodTriple d x (valueUse k) (validValue k) s → Front d x ws i r
     unfolding goodFront
-    name-and-value q f v = record { is = rw (named ∙ not-false b q, row-kind i ws, row-triple i 5 ws, ← f) v }
+    name-and-value q f v = record { is = rw (named ∙ not-false b q, ← word-in a, ← f .is) v }
 
-  module _ {t : Triple} {b : Bool} (e : t ≡ tripleAt (i * 16 + 8) ws) (h : b ≡ goodTriple d x (tpUse (getD ws (i * 16) 0)) anyText t) where
+  module _ {t : Triple} {b : Bool} (e : TripleIs ws i 8 t) (h : b ≡ goodTriple d x (tpUse k) anyText t) where
     typed : goodTriple d x (tpUse (getD (drop (i * 16) ws) 0 0)) anyText (tripleAt 8 (drop (i * 16) ws)) ≡ b
-    typed = sym (rw (row-kind i ws, row-triple i 8 ws, ← e) h)
+    typed = sym (rw (← word-in a, ← e .is) h)
 
     pub no-tp : not b ≡ true → Back d x ws i false
     unfolding goodBack
     no-tp q = record { is = rw (typed ∙ not-true b q) }
 
-    pub tp-and-doc : {s : Triple} {r : Bool} → not b ≡ false → s ≡ tripleAt (i * 16 + 11) ws → r ≡ goodDoc d x (getD ws (i * 16) 0) s → Back d x ws i r
+    pub tp-and-doc : {s : Triple} {r : Bool} → not b ≡ false → TripleIs ws i 11 s → r ≡ goodDoc d x k s → Back d x ws i r
     unfolding goodBack
-    tp-and-doc q f v = record { is = rw (typed ∙ not-false b q, row-kind i ws, row-triple i 11 ws, ← f) v }
+    tp-and-doc q f v = record { is = rw (typed ∙ not-false b q, ← word-in a, ← f .is) v }
 
 pub ruleset texts = (no-name, name-and-value, no-tp, tp-and-doc, needs)
 
@@ -119,19 +123,19 @@ module _ (d x ws : List ℕ) (i : ℕ) where
   pub bad-back : {b : Bool} → Back d x ws i b → not b ≡ true → RowSound d x ws i false
   bad-back {b} p q = record { is = λ n l. sym (grouped d x (rowsOf n ws) i (rowOf (drop (i * 16) ws)) ∙ rw (sym (p .is) ∙ not-true b q, and-false)) }
 
-  module _ {w : Bool} (e : w ≡ validWord (getD ws (i * 16) 0) (getD ws (i * 16 + 14) 0)) where
+  module _ {k v : ℕ} {w : Bool} (a : Word ws i 0 k) (c : Word ws i 14 v) (e : w ≡ validWord k v) where
     word : validWord (getD (drop (i * 16) ws) 0 0) (getD (drop (i * 16) ws) 14 0) ≡ w
-    word = sym (rw (row-kind i ws, row-word i 14 ws) e)
+    word = sym (rw (← word-in a, ← word-in c) e)
 
     pub bad-word : not w ≡ true → RowSound d x ws i false
     bad-word q = record { is = λ n l. sym (grouped d x (rowsOf n ws) i (rowOf (drop (i * 16) ws)) ∙ rw (word ∙ not-true w q, and-false)) }
 
-    pub last-word : {a f b : Bool} → Placed ws i a → not a ≡ false → Front d x ws i f → not f ≡ false → Back d x ws i b → not b ≡ false → not w ≡ false → RowSound d x ws i (eqb (getD ws (i * 16 + 15) 0) 0)
-    last-word {a} {f} {b} p o g h k q u = record {
+    pub last-word : {m f b : Bool} {z : ℕ} → Placed ws i m → not m ≡ false → Front d x ws i f → not f ≡ false → Back d x ws i b → not b ≡ false → not w ≡ false → Word ws i 15 z → RowSound d x ws i (eqb z 0)
+    last-word {m} {f} {b} p o g h j q u y = record {
       is = λ n l.
           sym
           (grouped d x (rowsOf n ws) i (rowOf (drop (i * 16) ws))
-          ∙ rw (sym (p .is n l) ∙ not-false a o, sym (g .is) ∙ not-false f h, sym (k .is) ∙ not-false b q, word ∙ not-false w u, row-word i 15 ws));
+          ∙ rw (sym (p .is n l) ∙ not-false m o, sym (g .is) ∙ not-false f h, sym (j .is) ∙ not-false b q, word ∙ not-false w u, ← word-in y));
     }
 
 pub ruleset whole = (not-placed, bad-front, bad-back, bad-word, last-word, needs)

@@ -15,20 +15,10 @@ use Rattle.tables.specs.declared.Triple.{Triple}
 use Rattle.names.proofs.Codes.{flag-on, flag-off}
 use Rattle.document.specs.Elements.{among}
 use Rattle.items.specs.Words.{absent}
-use Rattle.items.specs.Sound.{Use, unused, optional, required, nameUse, valueUse, tpUse, docUse, validName, validValue, anyText, goodTriple, inDocument}
+use Rattle.items.specs.Sound.{Use, nameless, tpTyped, unused, optional, required, nameUse, valueUse, tpUse, docUse, validName, validValue, anyText, goodTriple, inDocument}
 use Rattle.soundness.specs.Outcome.{mayLackName, usesValue, usesTp, isText, goodDoc}
 
--- ---- absent, and a text
-
-module _ (t : Triple) where
-  pub absent-source : (t .source ≡ 0 → ⊥) → false ≡ absent t
-  absent-source e = rw (ne-eqb (t .source) 0 e)
-
-  pub absent-start : t .source ≡ 0 → (t .start ≡ 0 → ⊥) → false ≡ absent t
-  absent-start s e = rw (s, ne-eqb (t .start) 0 e)
-
-  pub absent-len : t .source ≡ 0 → t .start ≡ 0 → eqb (t .len) 0 ≡ absent t
-  absent-len s e = rw (s, e)
+-- ---- a text
 
 pub text-outside : (d x : List ℕ) (t : Triple) {b : Bool} → b ≡ inside d x t → not b ≡ true → false ≡ isText d x t
 unfolding isText
@@ -38,7 +28,7 @@ pub text-inside : (d x : List ℕ) (t : Triple) {b : Bool} {s : List ℕ} (n : �
 unfolding isText
 text-inside d x t n e f h g = rw (flag-on e f, g, h)
 
-pub ruleset parts = (absent-source, absent-start, absent-len, text-outside, text-inside, needs)
+pub ruleset parts = (text-outside, text-inside, needs)
 
 -- ---- a triple where a kind may or must have one
 
@@ -85,7 +75,7 @@ either-named false = refl
 module _ (d x : List ℕ) (k : ℕ) (t : Triple) {a : Bool} (e : a ≡ absent t) where
   pub name-absent : {r : Bool} → a ≡ true → r ≡ mayLackName k → r ≡ goodTriple d x (nameUse k) (validName k) t
   unfolding mayLackName
-  name-absent h q = q ∙ sym (good-absent d x (nameUse k) (validName k) t (sym e ∙ h) ∙ either-not (among k (1 ∷ 7 ∷ [])))
+  name-absent h q = q ∙ sym (good-absent d x (nameUse k) (validName k) t (sym e ∙ h) ∙ either-not (among k nameless))
 
   module _ {b : Bool} (h : a ≡ false) (f : b ≡ isText d x t) where
     pub name-no-text : not b ≡ true → false ≡ goodTriple d x (nameUse k) (validName k) t
@@ -95,7 +85,7 @@ module _ (d x : List ℕ) (k : ℕ) (t : Triple) {a : Bool} (e : a ≡ absent t)
     name-text q g v =
         v
         ∙ ap (validName k) g
-        ∙ sym (good-text d x (nameUse k) (validName k) t (sym e ∙ h) (either-named (among k (1 ∷ 7 ∷ []))) (flag-on f q))
+        ∙ sym (good-text d x (nameUse k) (validName k) t (sym e ∙ h) (either-named (among k nameless)) (flag-on f q))
 
 pub ruleset named = (name-absent, name-no-text, name-text, needs)
 
@@ -150,7 +140,7 @@ either-typed false = refl
 
 module _ (d x : List ℕ) (k : ℕ) (t : Triple) {a : Bool} (e : a ≡ absent t) where
   pub tp-absent : a ≡ true → true ≡ goodTriple d x (tpUse k) anyText t
-  tp-absent h = sym (good-absent d x (tpUse k) anyText t (sym e ∙ h) ∙ either-optional (among k (4 ∷ 7 ∷ 12 ∷ [])))
+  tp-absent h = sym (good-absent d x (tpUse k) anyText t (sym e ∙ h) ∙ either-optional (among k tpTyped))
 
   module _ {u : Bool} (h : a ≡ false) (n : u ≡ usesTp k) where
     typed : {b : Bool} → usesTp k ≡ b → tpUse k .may ≡ b

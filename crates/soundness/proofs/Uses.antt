@@ -11,9 +11,10 @@ use lib.Dec.{eqb, leb}
 use Rattle.slices.specs.Bytes.{if}
 use Rattle.names.specs.Names.{interfaceName, memberName, propertyName}
 use Rattle.names.specs.Signature.{signature}
+use Rattle.document.specs.Kinds as kinds
 use Rattle.document.specs.Elements.{among, heldBy, mayHold, someSignature}
-use Rattle.items.specs.Sound.{validName, validValue, validWord}
-use Rattle.rows.proofs.Shown.{some-empty, some-there}
+use Rattle.items.specs.Sound.{nameless, valued, tpTyped, signed, validName, validValue, validWord}
+use Rattle.shown.proofs.Tests.{some-empty, some-there}
 use Rattle.soundness.specs.Outcome.{mayLackName, usesValue, usesTp}
 
 -- ---- what may stand in what
@@ -23,24 +24,24 @@ unfolding mayHold
 held-one k c j e t = rw (e, t)
 
 module _ (c : ℕ) where
-  pub node-none : (c ≡ 1 → ⊥) → (c ≡ 2 → ⊥) → (c ≡ 8 → ⊥) → (c ≡ 9 → ⊥) → (c ≡ 11 → ⊥) → (c ≡ 13 → ⊥) → false ≡ mayHold 1 c
+  pub node-none : (c ≡ kinds.node → ⊥) → (c ≡ kinds.interface → ⊥) → (c ≡ kinds.simpleType → ⊥) → (c ≡ kinds.enum → ⊥) → (c ≡ kinds.struct → ⊥) → (c ≡ kinds.mapping → ⊥) → false ≡ mayHold kinds.node c
   unfolding mayHold
-  node-none a b d e f g = rw (ne-eqb c 1 a, ne-eqb c 2 b, ne-eqb c 8 d, ne-eqb c 9 e, ne-eqb c 11 f, ne-eqb c 13 g)
+  node-none a b d e f g = rw (ne-eqb c kinds.node a, ne-eqb c kinds.interface b, ne-eqb c kinds.simpleType d, ne-eqb c kinds.enum e, ne-eqb c kinds.struct f, ne-eqb c kinds.mapping g)
 
-  pub interface-none : (c ≡ 3 → ⊥) → (c ≡ 4 → ⊥) → (c ≡ 5 → ⊥) → (c ≡ 6 → ⊥) → (c ≡ 8 → ⊥) → (c ≡ 9 → ⊥) → (c ≡ 11 → ⊥) → (c ≡ 13 → ⊥) → false ≡ mayHold 2 c
+  pub interface-none : (c ≡ kinds.method → ⊥) → (c ≡ kinds.property → ⊥) → (c ≡ kinds.signal → ⊥) → (c ≡ kinds.annotation → ⊥) → (c ≡ kinds.simpleType → ⊥) → (c ≡ kinds.enum → ⊥) → (c ≡ kinds.struct → ⊥) → (c ≡ kinds.mapping → ⊥) → false ≡ mayHold kinds.interface c
   unfolding mayHold
   interface-none a b d e f g h i =
-      rw (ne-eqb c 3 a, ne-eqb c 4 b, ne-eqb c 5 d, ne-eqb c 6 e, ne-eqb c 8 f, ne-eqb c 9 g, ne-eqb c 11 h, ne-eqb c 13 i)
+      rw (ne-eqb c kinds.method a, ne-eqb c kinds.property b, ne-eqb c kinds.signal d, ne-eqb c kinds.annotation e, ne-eqb c kinds.simpleType f, ne-eqb c kinds.enum g, ne-eqb c kinds.struct h, ne-eqb c kinds.mapping i)
 
-  pub method-none : (c ≡ 6 → ⊥) → (c ≡ 7 → ⊥) → false ≡ mayHold 3 c
+  pub method-none : (c ≡ kinds.annotation → ⊥) → (c ≡ kinds.arg → ⊥) → false ≡ mayHold kinds.method c
   unfolding mayHold
-  method-none a b = rw (ne-eqb c 6 a, ne-eqb c 7 b)
+  method-none a b = rw (ne-eqb c kinds.annotation a, ne-eqb c kinds.arg b)
 
 pub held-by : (k j c : ℕ) {r : Bool} → k ≡ j → r ≡ mayHold j c → r ≡ mayHold k c
 held-by k j c e h = rw e h
 
 -- a signal holds what a method does
-pub held-signal : (k c : ℕ) {r : Bool} → k ≡ 5 → r ≡ mayHold 3 c → r ≡ mayHold k c
+pub held-signal : (k c : ℕ) {r : Bool} → k ≡ kinds.signal → r ≡ mayHold kinds.method c → r ≡ mayHold k c
 unfolding mayHold
 held-signal k c e h = rw e h
 
@@ -54,81 +55,81 @@ unfolding mayHold
 held-only k j m c e h = rw (e, h) (if-self (eqb c m))
 
 module _ (k c : ℕ) where
-  pub holds-none : (k ≡ 1 → ⊥) → (k ≡ 2 → ⊥) → (k ≡ 3 → ⊥) → (k ≡ 4 → ⊥) → (k ≡ 5 → ⊥) → (k ≡ 7 → ⊥) → (k ≡ 9 → ⊥) → (k ≡ 11 → ⊥) → (k ≡ 13 → ⊥) → false ≡ mayHold k c
+  pub holds-none : (k ≡ kinds.node → ⊥) → (k ≡ kinds.interface → ⊥) → (k ≡ kinds.method → ⊥) → (k ≡ kinds.property → ⊥) → (k ≡ kinds.signal → ⊥) → (k ≡ kinds.arg → ⊥) → (k ≡ kinds.enum → ⊥) → (k ≡ kinds.struct → ⊥) → (k ≡ kinds.mapping → ⊥) → false ≡ mayHold k c
   unfolding mayHold
   holds-none a b d e f g h i j =
-      rw (ne-eqb k 1 a, ne-eqb k 2 b, ne-eqb k 3 d, ne-eqb k 4 e, ne-eqb k 5 f, ne-eqb k 7 g, ne-eqb k 9 h, ne-eqb k 11 i, ne-eqb k 13 j)
+      rw (ne-eqb k kinds.node a, ne-eqb k kinds.interface b, ne-eqb k kinds.method d, ne-eqb k kinds.property e, ne-eqb k kinds.signal f, ne-eqb k kinds.arg g, ne-eqb k kinds.enum h, ne-eqb k kinds.struct i, ne-eqb k kinds.mapping j)
 
 pub ruleset held = (held-one, node-none, interface-none, method-none, held-by, held-signal, held-only, holds-none, needs)
 
 -- ---- which words a kind uses
 
-pub lacks-one : (k j : ℕ) → k ≡ j → among j (1 ∷ 7 ∷ []) ≡ true → true ≡ mayLackName k
+pub lacks-one : (k j : ℕ) → k ≡ j → among j nameless ≡ true → true ≡ mayLackName k
 unfolding mayLackName
 lacks-one k j e t = rw (e, t)
 
-pub value-one : (k j : ℕ) → k ≡ j → among j (4 ∷ 6 ∷ 7 ∷ 8 ∷ 9 ∷ 10 ∷ 12 ∷ []) ≡ true → true ≡ usesValue k
+pub value-one : (k j : ℕ) → k ≡ j → among j valued ≡ true → true ≡ usesValue k
 unfolding usesValue
 value-one k j e t = rw (e, t)
 
-pub tp-one : (k j : ℕ) → k ≡ j → among j (4 ∷ 7 ∷ 12 ∷ []) ≡ true → true ≡ usesTp k
+pub tp-one : (k j : ℕ) → k ≡ j → among j tpTyped ≡ true → true ≡ usesTp k
 unfolding usesTp
 tp-one k j e t = rw (e, t)
 
 module _ (k : ℕ) where
-  pub lacks-none : (k ≡ 1 → ⊥) → (k ≡ 7 → ⊥) → false ≡ mayLackName k
+  pub lacks-none : (k ≡ kinds.node → ⊥) → (k ≡ kinds.arg → ⊥) → false ≡ mayLackName k
   unfolding mayLackName
-  lacks-none a b = rw (ne-eqb k 1 a, ne-eqb k 7 b)
+  lacks-none a b = rw (ne-eqb k kinds.node a, ne-eqb k kinds.arg b)
 
-  pub value-none : (k ≡ 4 → ⊥) → (k ≡ 6 → ⊥) → (k ≡ 7 → ⊥) → (k ≡ 8 → ⊥) → (k ≡ 9 → ⊥) → (k ≡ 10 → ⊥) → (k ≡ 12 → ⊥) → false ≡ usesValue k
+  pub value-none : (k ≡ kinds.property → ⊥) → (k ≡ kinds.annotation → ⊥) → (k ≡ kinds.arg → ⊥) → (k ≡ kinds.simpleType → ⊥) → (k ≡ kinds.enum → ⊥) → (k ≡ kinds.enumvalue → ⊥) → (k ≡ kinds.member → ⊥) → false ≡ usesValue k
   unfolding usesValue
   value-none a b c d e f g =
-      rw (ne-eqb k 4 a, ne-eqb k 6 b, ne-eqb k 7 c, ne-eqb k 8 d, ne-eqb k 9 e, ne-eqb k 10 f, ne-eqb k 12 g)
+      rw (ne-eqb k kinds.property a, ne-eqb k kinds.annotation b, ne-eqb k kinds.arg c, ne-eqb k kinds.simpleType d, ne-eqb k kinds.enum e, ne-eqb k kinds.enumvalue f, ne-eqb k kinds.member g)
 
-  pub tp-none : (k ≡ 4 → ⊥) → (k ≡ 7 → ⊥) → (k ≡ 12 → ⊥) → false ≡ usesTp k
+  pub tp-none : (k ≡ kinds.property → ⊥) → (k ≡ kinds.arg → ⊥) → (k ≡ kinds.member → ⊥) → false ≡ usesTp k
   unfolding usesTp
-  tp-none a b c = rw (ne-eqb k 4 a, ne-eqb k 7 b, ne-eqb k 12 c)
+  tp-none a b c = rw (ne-eqb k kinds.property a, ne-eqb k kinds.arg b, ne-eqb k kinds.member c)
 
 pub ruleset uses = (lacks-one, value-one, tp-one, lacks-none, value-none, tp-none, needs)
 
 -- ---- names, values and words by kind
 
 module _ (k : ℕ) (s : List ℕ) {r : Bool} where
-  pub name-interface : k ≡ 2 → r ≡ interfaceName s → r ≡ validName k s
+  pub name-interface : k ≡ kinds.interface → r ≡ interfaceName s → r ≡ validName k s
   name-interface e h = rw e h
 
-  pub name-method : k ≡ 3 → r ≡ memberName s → r ≡ validName k s
+  pub name-method : k ≡ kinds.method → r ≡ memberName s → r ≡ validName k s
   name-method e h = rw e h
 
-  pub name-property : k ≡ 4 → r ≡ propertyName s → r ≡ validName k s
+  pub name-property : k ≡ kinds.property → r ≡ propertyName s → r ≡ validName k s
   name-property e h = rw e h
 
-  pub name-signal : k ≡ 5 → r ≡ memberName s → r ≡ validName k s
+  pub name-signal : k ≡ kinds.signal → r ≡ memberName s → r ≡ validName k s
   name-signal e h = rw e h
 
-  pub value-signature : (j : ℕ) → k ≡ j → among j (4 ∷ 7 ∷ []) ≡ true → r ≡ signature s → r ≡ validValue k s
+  pub value-signature : (j : ℕ) → k ≡ j → among j kinds.values ≡ true → r ≡ signature s → r ≡ validValue k s
   value-signature j e t h = rw (e, t) h
 
-  pub value-some : (j : ℕ) → k ≡ j → among j (4 ∷ 7 ∷ []) ≡ false → among j (8 ∷ 9 ∷ 12 ∷ []) ≡ true → r ≡ someSignature s → r ≡ validValue k s
+  pub value-some : (j : ℕ) → k ≡ j → among j kinds.values ≡ false → among j signed ≡ true → r ≡ someSignature s → r ≡ validValue k s
   value-some j e f t h = rw (e, f, t) h
 
-pub name-any : (k : ℕ) (s : List ℕ) → (k ≡ 2 → ⊥) → (k ≡ 3 → ⊥) → (k ≡ 4 → ⊥) → (k ≡ 5 → ⊥) → true ≡ validName k s
-name-any k s a b c d = rw (ne-eqb k 2 a, ne-eqb k 3 b, ne-eqb k 4 c, ne-eqb k 5 d)
+pub name-any : (k : ℕ) (s : List ℕ) → (k ≡ kinds.interface → ⊥) → (k ≡ kinds.method → ⊥) → (k ≡ kinds.property → ⊥) → (k ≡ kinds.signal → ⊥) → true ≡ validName k s
+name-any k s a b c d = rw (ne-eqb k kinds.interface a, ne-eqb k kinds.method b, ne-eqb k kinds.property c, ne-eqb k kinds.signal d)
 
-pub value-any : (k : ℕ) (s : List ℕ) → (k ≡ 4 → ⊥) → (k ≡ 7 → ⊥) → (k ≡ 8 → ⊥) → (k ≡ 9 → ⊥) → (k ≡ 12 → ⊥) → true ≡ validValue k s
-value-any k s a b c d e = rw (ne-eqb k 4 a, ne-eqb k 7 b, ne-eqb k 8 c, ne-eqb k 9 d, ne-eqb k 12 e)
+pub value-any : (k : ℕ) (s : List ℕ) → (k ≡ kinds.property → ⊥) → (k ≡ kinds.arg → ⊥) → (k ≡ kinds.simpleType → ⊥) → (k ≡ kinds.enum → ⊥) → (k ≡ kinds.member → ⊥) → true ≡ validValue k s
+value-any k s a b c d e = rw (ne-eqb k kinds.property a, ne-eqb k kinds.arg b, ne-eqb k kinds.simpleType c, ne-eqb k kinds.enum d, ne-eqb k kinds.member e)
 
 module _ (k w : ℕ) where
-  pub word-no-access : k ≡ 4 → w ≡ 0 → false ≡ validWord k w
+  pub word-no-access : k ≡ kinds.property → w ≡ 0 → false ≡ validWord k w
   word-no-access e h = rw (e, h)
 
-  pub word-access : k ≡ 4 → (w ≡ 0 → ⊥) → leb w 3 ≡ validWord k w
+  pub word-access : k ≡ kinds.property → (w ≡ 0 → ⊥) → leb w 3 ≡ validWord k w
   word-access e h = rw (e, lt-ltb 0 w (omega arith))
 
-  pub word-direction : k ≡ 7 → leb w 2 ≡ validWord k w
+  pub word-direction : k ≡ kinds.arg → leb w 2 ≡ validWord k w
   word-direction e = rw e
 
-  pub word-none : (k ≡ 4 → ⊥) → (k ≡ 7 → ⊥) → eqb w 0 ≡ validWord k w
-  word-none a b = rw (ne-eqb k 4 a, ne-eqb k 7 b)
+  pub word-none : (k ≡ kinds.property → ⊥) → (k ≡ kinds.arg → ⊥) → eqb w 0 ≡ validWord k w
+  word-none a b = rw (ne-eqb k kinds.property a, ne-eqb k kinds.arg b)
 
 pub ruleset valids = (name-interface, name-method, name-property, name-signal, name-any, value-signature, value-some, value-any, word-no-access, word-access, word-direction, word-none, some-empty, some-there, needs)

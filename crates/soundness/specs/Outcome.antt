@@ -3,7 +3,7 @@
 use Prim.Native.Nat.{ℕ, _*_, _<_}
 use mathlib.Core.Path.{_≡_}
 use mathlib.Core.Bool.{Bool, _&&_}
-use mathlib.Core.List.{List, [], _∷_}
+use mathlib.Core.List.{List}
 use lib.ListN.{drop}
 use Rattle.utf8.specs.WellFormed.{wellFormed}
 use Rattle.tables.specs.Triple.{inside, shown}
@@ -11,19 +11,19 @@ use Rattle.tables.specs.declared.Triple.{Triple}
 use Rattle.document.specs.Elements.{among}
 use Rattle.items.specs.Words.{RowWords, rowOf, rowsOf}
 use Rattle.items.specs.Sound as definition
-use Rattle.items.specs.Sound.{placed, goodTriple, nameUse, valueUse, tpUse, docUse, validName, validValue, anyText, inDocument, soundRow, sound, unsound, soundness}
+use Rattle.items.specs.Sound.{placed, nameless, valued, tpTyped, goodTriple, nameUse, valueUse, tpUse, docUse, validName, validValue, anyText, inDocument, soundRow, sound, unsound, soundness}
 use Rattle.soundness.specs.declared.Soundness.{Soundness}
 use Rattle.soundness.specs.declared.Soundness.the-variants.{Sound, Unsound}
 
 -- by kind: the name may be missing; words 5-7 are used; there may be a tp type
 unfoldable pub mayLackName : ℕ → Bool
-mayLackName k = among k (1 ∷ 7 ∷ [])
+mayLackName k = among k nameless
 
 unfoldable pub usesValue : ℕ → Bool
-usesValue k = among k (4 ∷ 6 ∷ 7 ∷ 8 ∷ 9 ∷ 10 ∷ 12 ∷ [])
+usesValue k = among k valued
 
 unfoldable pub usesTp : ℕ → Bool
-usesTp k = among k (4 ∷ 7 ∷ 12 ∷ [])
+usesTp k = among k tpTyped
 
 -- a triple leads to a part of its buffer that is UTF-8
 unfoldable pub isText : List ℕ → List ℕ → Triple → Bool

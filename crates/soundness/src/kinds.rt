@@ -1,48 +1,50 @@
 // Kinds of rows: what may stand in what, and which words a kind uses.
+use document::kinds;
 ghost use mathlib.Core.Path.{_≡_};
+ghost use Rattle.document.specs.Kinds as kinds;
 ghost use Rattle.document.specs.Elements.{mayHold};
 ghost use Rattle.items.specs.Sound.{validName, validValue, validWord};
 ghost use Rattle.soundness.specs.Outcome.{mayLackName, usesValue, usesTp};
 
 // Whether a row of kind `c` may stand in a node.
 fn node_holds(c: u32) -> bool
-    ensures { λ r. ⌜ r ≡ mayHold 1 c ⌝ }
+    ensures { λ r. ⌜ r ≡ mayHold kinds.node c ⌝ }
 {
     match c {
-        1 => true,
-        2 => true,
-        8 => true,
-        9 => true,
-        11 => true,
-        13 => true,
+        kinds::NODE => true,
+        kinds::INTERFACE => true,
+        kinds::SIMPLE_TYPE => true,
+        kinds::ENUM => true,
+        kinds::STRUCT => true,
+        kinds::MAPPING => true,
         _ => false,
     }
 }
 
 // The same in an interface.
 fn interface_holds(c: u32) -> bool
-    ensures { λ r. ⌜ r ≡ mayHold 2 c ⌝ }
+    ensures { λ r. ⌜ r ≡ mayHold kinds.interface c ⌝ }
 {
     match c {
-        3 => true,
-        4 => true,
-        5 => true,
-        6 => true,
-        8 => true,
-        9 => true,
-        11 => true,
-        13 => true,
+        kinds::METHOD => true,
+        kinds::PROPERTY => true,
+        kinds::SIGNAL => true,
+        kinds::ANNOTATION => true,
+        kinds::SIMPLE_TYPE => true,
+        kinds::ENUM => true,
+        kinds::STRUCT => true,
+        kinds::MAPPING => true,
         _ => false,
     }
 }
 
 // The same in a method or a signal.
 fn method_holds(c: u32) -> bool
-    ensures { λ r. ⌜ r ≡ mayHold 3 c ⌝ }
+    ensures { λ r. ⌜ r ≡ mayHold kinds.method c ⌝ }
 {
     match c {
-        6 => true,
-        7 => true,
+        kinds::ANNOTATION => true,
+        kinds::ARG => true,
         _ => false,
     }
 }
@@ -52,15 +54,15 @@ pub fn may_hold(k: u32, c: u32) -> bool
     ensures { λ r. ⌜ r ≡ mayHold k c ⌝ }
 {
     match k {
-        1 => node_holds(c),
-        2 => interface_holds(c),
-        3 => method_holds(c),
-        4 => c == 6,
-        5 => method_holds(c),
-        7 => c == 6,
-        9 => c == 10,
-        11 => c == 12,
-        13 => c == 12,
+        kinds::NODE => node_holds(c),
+        kinds::INTERFACE => interface_holds(c),
+        kinds::METHOD => method_holds(c),
+        kinds::PROPERTY => c == kinds::ANNOTATION,
+        kinds::SIGNAL => method_holds(c),
+        kinds::ARG => c == kinds::ANNOTATION,
+        kinds::ENUM => c == kinds::ENUMVALUE,
+        kinds::STRUCT => c == kinds::MEMBER,
+        kinds::MAPPING => c == kinds::MEMBER,
         _ => false,
     }
 }
@@ -70,8 +72,8 @@ pub fn may_lack_name(kind: u32) -> bool
     ensures { λ r. ⌜ r ≡ mayLackName kind ⌝ }
 {
     match kind {
-        1 => true,
-        7 => true,
+        kinds::NODE => true,
+        kinds::ARG => true,
         _ => false,
     }
 }
@@ -81,13 +83,13 @@ pub fn uses_value(kind: u32) -> bool
     ensures { λ r. ⌜ r ≡ usesValue kind ⌝ }
 {
     match kind {
-        4 => true,
-        6 => true,
-        7 => true,
-        8 => true,
-        9 => true,
-        10 => true,
-        12 => true,
+        kinds::PROPERTY => true,
+        kinds::ANNOTATION => true,
+        kinds::ARG => true,
+        kinds::SIMPLE_TYPE => true,
+        kinds::ENUM => true,
+        kinds::ENUMVALUE => true,
+        kinds::MEMBER => true,
         _ => false,
     }
 }
@@ -97,9 +99,9 @@ pub fn uses_tp(kind: u32) -> bool
     ensures { λ r. ⌜ r ≡ usesTp kind ⌝ }
 {
     match kind {
-        4 => true,
-        7 => true,
-        12 => true,
+        kinds::PROPERTY => true,
+        kinds::ARG => true,
+        kinds::MEMBER => true,
         _ => false,
     }
 }
@@ -109,10 +111,10 @@ pub fn valid_name(kind: u32, s: &[u8]) -> bool
     ensures { λ r. ⌜ r ≡ validName kind (now (s .entry)) ⌝ }
 {
     match kind {
-        2 => names::interface_name(s),
-        3 => names::member_name(s),
-        4 => names::property_name(s),
-        5 => names::member_name(s),
+        kinds::INTERFACE => names::interface_name(s),
+        kinds::METHOD => names::member_name(s),
+        kinds::PROPERTY => names::property_name(s),
+        kinds::SIGNAL => names::member_name(s),
         _ => true,
     }
 }
@@ -122,11 +124,11 @@ pub fn valid_value(kind: u32, s: &[u8]) -> bool
     ensures { λ r. ⌜ r ≡ validValue kind (now (s .entry)) ⌝ }
 {
     match kind {
-        4 => names::signature(s),
-        7 => names::signature(s),
-        8 => rows::texts::some_signature(s),
-        9 => rows::texts::some_signature(s),
-        12 => rows::texts::some_signature(s),
+        kinds::PROPERTY => names::signature(s),
+        kinds::ARG => names::signature(s),
+        kinds::SIMPLE_TYPE => shown::texts::some_signature(s),
+        kinds::ENUM => shown::texts::some_signature(s),
+        kinds::MEMBER => shown::texts::some_signature(s),
         _ => true,
     }
 }
@@ -136,13 +138,13 @@ pub fn valid_word(kind: u32, w: u32) -> bool
     ensures { λ r. ⌜ r ≡ validWord kind w ⌝ }
 {
     match kind {
-        4 => {
+        kinds::PROPERTY => {
             if w == 0 {
                 return false;
             }
             w <= 3
         }
-        7 => w <= 2,
+        kinds::ARG => w <= 2,
         _ => w == 0,
     }
 }

@@ -1,9 +1,8 @@
 // Whether the rows of a lent table are sound (docs/FORMAT.md, Sound rows).
-use tables::Triple;
 ghost use mathlib.Core.Path.{_≡_};
 ghost use Prim.Native.Nat.{_+_, _*_, _≤_};
 ghost use lib.ListN.{length};
-ghost use Rattle.items.specs.Words.{tripleAt, rowsOf};
+ghost use Rattle.items.specs.Words.{rowsOf};
 ghost use Rattle.items.specs.Sound.{firstBad};
 ghost use Rattle.soundness.specs.Outcome.{Placed, Front, Back, RowSound, Judges};
 
@@ -16,35 +15,15 @@ pub enum Soundness {
     Unsound(usize),
 }
 
-// The triple from a word on.
-fn triple_at(rows: &[u32], at: usize) -> Triple
-    requires { ⌜ «at» + 3 ≤ length (now rows) ⌝ }
-    ensures { λ r. ⌜ r ≡ tripleAt «at» (now (rows .entry)) ⌝ }
-{
-    Triple {
-        source: rows[at],
-        start: rows[at + 1],
-        len: rows[at + 2],
-    }
-}
-
-// A word as a place.
-fn wide(x: u32) -> usize
-    ensures { λ r. ⌜ r ≡ x ⌝ }
-{
-    x as usize
-}
-
 // Row 0 is a node with parent 0; any other row's parent comes before it and may hold its kind.
 fn is_placed(rows: &[u32], i: usize) -> bool
     requires { ⌜ i * 16 + 16 ≤ length (now rows) ⌝ }
     ensures { λ r. ⌜ Placed (now (rows .entry)) i r ⌝ }
 {
-    let base = i * 16;
-    let kind = rows[base];
-    let parent = wide(rows[base + 1]);
+    let kind = items::word(rows, i, 0);
+    let parent = items::word(rows, i, 1) as usize;
     if i == 0 {
-        if kind != 1 {
+        if kind != document::kinds::NODE {
             return false;
         }
         return parent == 0;
@@ -56,7 +35,7 @@ fn is_placed(rows: &[u32], i: usize) -> bool
     if i <= above {
         return false;
     }
-    kinds::may_hold(rows[above * 16], kind)
+    kinds::may_hold(items::word(rows, above, 0), kind)
 }
 
 // Words 2-7 of row i: the name and the value that its kind wants.
@@ -64,12 +43,11 @@ fn good_front<'a>(document: &'a [u8], text: &'a [u8], rows: &[u32], i: usize) ->
     requires { ⌜ i * 16 + 16 ≤ length (now rows) ⌝ }
     ensures { λ r. ⌜ Front (now (document .entry)) (now (text .entry)) (now (rows .entry)) i r ⌝ }
 {
-    let base = i * 16;
-    let kind = rows[base];
-    if !texts::good_name(document, text, kind, triple_at(rows, base + 2)) {
+    let kind = items::word(rows, i, 0);
+    if !texts::good_name(document, text, kind, items::triple(rows, i, 2)) {
         return false;
     }
-    texts::good_value(document, text, kind, triple_at(rows, base + 5))
+    texts::good_value(document, text, kind, items::triple(rows, i, 5))
 }
 
 // Words 8-13 of row i: the tp type and the docstring that its kind may have.
@@ -77,12 +55,11 @@ fn good_back<'a>(document: &'a [u8], text: &'a [u8], rows: &[u32], i: usize) -> 
     requires { ⌜ i * 16 + 16 ≤ length (now rows) ⌝ }
     ensures { λ r. ⌜ Back (now (document .entry)) (now (text .entry)) (now (rows .entry)) i r ⌝ }
 {
-    let base = i * 16;
-    let kind = rows[base];
-    if !texts::good_tp(document, text, kind, triple_at(rows, base + 8)) {
+    let kind = items::word(rows, i, 0);
+    if !texts::good_tp(document, text, kind, items::triple(rows, i, 8)) {
         return false;
     }
-    texts::good_doc(document, text, kind, triple_at(rows, base + 11))
+    texts::good_doc(document, text, kind, items::triple(rows, i, 11))
 }
 
 // Whether row i is sound.
@@ -99,11 +76,10 @@ fn sound_row<'a>(document: &'a [u8], text: &'a [u8], rows: &[u32], i: usize) -> 
     if !good_back(document, text, rows, i) {
         return false;
     }
-    let base = i * 16;
-    if !kinds::valid_word(rows[base], rows[base + 14]) {
+    if !kinds::valid_word(items::word(rows, i, 0), items::word(rows, i, 14)) {
         return false;
     }
-    rows[base + 15] == 0
+    items::word(rows, i, 15) == 0
 }
 
 // The first bad row, or n.

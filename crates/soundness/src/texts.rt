@@ -2,22 +2,8 @@
 use super::kinds;
 use tables::Triple;
 ghost use mathlib.Core.Path.{_≡_};
-ghost use Rattle.items.specs.Words.{absent};
 ghost use Rattle.items.specs.Sound.{goodTriple, nameUse, valueUse, tpUse, validName, validValue, anyText};
 ghost use Rattle.soundness.specs.Outcome.{isText, goodDoc};
-
-// Three zeros.
-fn is_absent(t: Triple) -> bool
-    ensures { λ r. ⌜ r ≡ absent t ⌝ }
-{
-    if t.source != 0 {
-        return false;
-    }
-    if t.start != 0 {
-        return false;
-    }
-    t.len == 0
-}
 
 // Whether a triple leads to a part of its buffer that is UTF-8.
 fn is_text<'a>(document: &'a [u8], text: &'a [u8], t: Triple) -> bool
@@ -34,7 +20,7 @@ fn is_text<'a>(document: &'a [u8], text: &'a [u8], t: Triple) -> bool
 pub fn good_name<'a>(document: &'a [u8], text: &'a [u8], kind: u32, t: Triple) -> bool
     ensures { λ r. ⌜ r ≡ goodTriple (now (document .entry)) (now (text .entry)) (nameUse kind) (validName kind) t ⌝ }
 {
-    if is_absent(t) {
+    if items::is_absent(t) {
         return kinds::may_lack_name(kind);
     }
     if !is_text(document, text, t) {
@@ -48,9 +34,9 @@ pub fn good_value<'a>(document: &'a [u8], text: &'a [u8], kind: u32, t: Triple) 
     ensures { λ r. ⌜ r ≡ goodTriple (now (document .entry)) (now (text .entry)) (valueUse kind) (validValue kind) t ⌝ }
 {
     if !kinds::uses_value(kind) {
-        return is_absent(t);
+        return items::is_absent(t);
     }
-    if is_absent(t) {
+    if items::is_absent(t) {
         return false;
     }
     if !is_text(document, text, t) {
@@ -63,7 +49,7 @@ pub fn good_value<'a>(document: &'a [u8], text: &'a [u8], kind: u32, t: Triple) 
 pub fn good_tp<'a>(document: &'a [u8], text: &'a [u8], kind: u32, t: Triple) -> bool
     ensures { λ r. ⌜ r ≡ goodTriple (now (document .entry)) (now (text .entry)) (tpUse kind) anyText t ⌝ }
 {
-    if is_absent(t) {
+    if items::is_absent(t) {
         return true;
     }
     if !kinds::uses_tp(kind) {
@@ -76,10 +62,10 @@ pub fn good_tp<'a>(document: &'a [u8], text: &'a [u8], kind: u32, t: Triple) -> 
 pub fn good_doc<'a>(document: &'a [u8], text: &'a [u8], kind: u32, t: Triple) -> bool
     ensures { λ r. ⌜ r ≡ goodDoc (now (document .entry)) (now (text .entry)) kind t ⌝ }
 {
-    if is_absent(t) {
+    if items::is_absent(t) {
         return true;
     }
-    if kind == 6 {
+    if kind == document::kinds::ANNOTATION {
         return false;
     }
     if t.source != 1 {

@@ -10,8 +10,8 @@ use native.Mathlib.Nat.{sub-zero, add-zero, mul-one, zero-mul, add-mul, one-mul,
 use native.Mathlib.Decide.{decLt}
 use mir.Syntax.{w64}
 use mir.Val.{Fits}
-use lib.ListN.{length, getD, set, take, drop, length-set, length-append, List·getD-append, drop-of-length-le, replicate}
-use lib.Seq.{getD-set-same, getD-set-other, getD-append-add, getD-take, length-take-le, drop-cons, sets, length-sets}
+use lib.ListN.{length, getD, set, drop, length-set, length-append, List·getD-append, drop-of-length-le, replicate}
+use lib.Seq.{getD-set-same, getD-set-other, getD-append-add, drop-cons, sets, length-sets}
 use Rattle.tables.specs.Table.{whole, Rep, Put, withDocstring, Documented, cleared, Wiped}
 use Rattle.tables.specs.Copied.{Copied}
 
@@ -23,18 +23,18 @@ whole-one n = mul-one (n / 1) ∙ div-one n
 pub rows-fit : (w n room : ℕ) → 0 < w → n ≤ room / w → n * w ≤ room
 rows-fit w n room p h = le-div-iff-mul-le p .0 h
 
-pub fit-rows : (w n room : ℕ) → 0 < w → n * w ≤ room → n ≤ room / w
+fit-rows : (w n room : ℕ) → 0 < w → n * w ≤ room → n ≤ room / w
 fit-rows w n room p h = le-div-iff-mul-le p .1 h
 
 -- rows that fit are among the whole ones
-pub fit-whole : (w n room : ℕ) → 0 < w → n * w ≤ room → n * w ≤ whole w room
+fit-whole : (w n room : ℕ) → 0 < w → n * w ≤ room → n * w ≤ whole w room
 fit-whole w n room p h = mul-le-mul-right w (fit-rows w n room p h)
 
 pub row-more : (w n : ℕ) → (n + 1) * w ≡ n * w + w
 row-more w n = add-mul n 1 w ∙ ap (λ (k : ℕ). n * w + k) (one-mul w)
 
 -- where a row does not fit, the whole ones end before it
-pub whole-before : (w n room : ℕ) → 0 < w → room < n * w + w → whole w room ≤ n * w
+whole-before : (w n room : ℕ) → 0 < w → room < n * w + w → whole w room ≤ n * w
 whole-before w n room p h =
     let e : room < (n + 1) * w = rw row-more h in
     let l : room / w < n + 1 = div-lt-iff-lt-mul p .1 e in
@@ -44,15 +44,6 @@ whole-before w n room p h =
 
 pub empty-stands : (w : ℕ) (t : List ℕ) → Rep w t 0 []
 empty-stands w t = record { many = sym (zero-mul w); holds = λ k h b. absurd (omega arith) }
-
-pub given-back : {w n m : ℕ} {t xs : List ℕ} → Rep w t n xs → m ≤ n → Rep w t m (take (m * w) xs)
-given-back {w} {n} {m} {t} {xs} r h =
-    let l : m * w ≤ length xs = rw (r .many) (mul-le-mul-right w h) in
-    let e : length (take (m * w) xs) ≡ m * w = length-take-le (m * w) xs l in
-    record {
-      many = e;
-      holds = λ k a b. r .holds k (omega arith) b ∙ sym (getD-take (m * w) xs k 0 (omega arith));
-    }
 
 -- the first rows of those that a table stands for
 pub given-back-to : {w n m : ℕ} {t xs : List ℕ} (ys : List ℕ) → Rep w t m (xs ++ ys) → length xs ≡ n * w → Rep w t n xs
@@ -66,10 +57,6 @@ given-back-to {w} {n} {m} {t} {xs} ys r e = record {
 getD-sets-below : (vs t : List ℕ) (b k : ℕ) → k < b → getD (sets t b vs) k 0 ≡ getD t k 0
 getD-sets-below [] t b k h = refl
 getD-sets-below (a ∷ vs) t b k h = getD-sets-below vs (set t b a) (suc b) k (omega arith) ∙ getD-set-other t b k a 0 (omega arith)
-
-getD-sets-past : (vs t : List ℕ) (b k : ℕ) → b + length vs ≤ k → getD (sets t b vs) k 0 ≡ getD t k 0
-getD-sets-past [] t b k h = refl
-getD-sets-past (a ∷ vs) t b k h = getD-sets-past vs (set t b a) (suc b) k (omega arith) ∙ getD-set-other t b k a 0 (omega arith)
 
 getD-sets-in : (vs t : List ℕ) (b j k : ℕ) → b + j ≡ k → j < length vs → k < length t → getD (sets t b vs) k 0 ≡ getD vs j 0
 getD-sets-in [] t b j k e h l = absurd (omega arith)
@@ -163,19 +150,12 @@ one-full h = put-full (omega arith) refl (omega arith)
 
 -- ---- a docstring
 
-pub length-docstring : (i start len : ℕ) (xs : List ℕ) → length (withDocstring i start len xs) ≡ length xs
+length-docstring : (i start len : ℕ) (xs : List ℕ) → length (withDocstring i start len xs) ≡ length xs
 length-docstring i start len xs = length-sets xs (i * 16 + 11) (1 ∷ start ∷ len ∷ [])
 
--- word 11 + j of row i, for a j below 3
-pub docstring-word : (i start len : ℕ) (xs : List ℕ) (j k : ℕ) → i * 16 + 11 + j ≡ k → j < 3 → k < length xs → getD (withDocstring i start len xs) k 0 ≡ getD (1 ∷ start ∷ len ∷ []) j 0
-docstring-word i start len xs j k e h l = getD-sets-in (1 ∷ start ∷ len ∷ []) xs (i * 16 + 11) j k e h l
-
--- the words of the table before those three, and after them
-pub docstring-before : (i start len : ℕ) (xs : List ℕ) (k : ℕ) → k < i * 16 + 11 → getD (withDocstring i start len xs) k 0 ≡ getD xs k 0
+-- the words of the table before those three
+docstring-before : (i start len : ℕ) (xs : List ℕ) (k : ℕ) → k < i * 16 + 11 → getD (withDocstring i start len xs) k 0 ≡ getD xs k 0
 docstring-before i start len xs k h = getD-sets-below (1 ∷ start ∷ len ∷ []) xs (i * 16 + 11) k h
-
-pub docstring-after : (i start len : ℕ) (xs : List ℕ) (k : ℕ) → i * 16 + 14 ≤ k → getD (withDocstring i start len xs) k 0 ≡ getD xs k 0
-docstring-after i start len xs k h = getD-sets-past (1 ∷ start ∷ len ∷ []) xs (i * 16 + 11) k (omega arith)
 
 module _ {i start len : ℕ} {t : List ℕ} where
   pub docstring-room : Documented i start len t (set (set (set t (i * 16 + 11) 1) (i * 16 + 12) start) (i * 16 + 13) len)

@@ -4,22 +4,15 @@ use Prim.Native.Nat.{ℕ, _+_, _-_, _≤_}
 use native.Mathlib.Nat.{add-comm, add-zero, add-sub-cancel-left}
 use mathlib.Core.Path.{_≡_, refl, sym, _∙_}
 use mathlib.Core.List.{List, []}
-use mathlib.Core.Bool.{Bool, true, false, _&&_, _||_}
+use mathlib.Core.Bool.{Bool, true, false, or-false}
 use borrow.Author.Needs.{needs}
 use borrow.Author.Tests.{ne-eqb, leb-true}
 use lib.Dec.{eqb, leb}
 use lib.ListN.{length, take, drop}
+use Rattle.slices.proofs.Runs.{and-both}
 use Rattle.tables.specs.Triple.{inside, beginning, resolved, shown}
 use Rattle.tables.specs.Place.{Inside, place}
 use Rattle.tables.specs.declared.Triple.{Triple}
-
-or-false : (b : Bool) → b || false ≡ b
-or-false true = refl
-or-false false = refl
-
-and-right : (a b : Bool) → a && b ≡ true → b ≡ true
-and-right true b e = e
-and-right false b e = cc
 
 module _ (document text : List ℕ) (t : Triple) where
   pub inside-document : t .source ≡ 1 → leb (t .start + t .len) (length document) ≡ inside document text t
@@ -54,7 +47,7 @@ module _ {document text : List ℕ} {t : Triple} (g : Inside document text t) wh
   document-end s = leb-true _ _ (inside-document document text t s ∙ g .holds)
 
   pub text-end : (t .source ≡ 1 → ⊥) → t .start + t .len ≤ length text
-  text-end s = leb-true _ _ (and-right (eqb (t .source) 2) _ (rw (ne-eqb (t .source) 1 s) at (g .holds)))
+  text-end s = leb-true _ _ (and-both (eqb (t .source) 2) (leb (t .start + t .len) (length text)) (rw (ne-eqb (t .source) 1 s) at (g .holds)) .1)
 
   pub shown-document : t .source ≡ 1 → take (t .start + t .len - t .start) (drop (t .start) document) ≡ shown document text t
   unfolding shown

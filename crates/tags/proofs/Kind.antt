@@ -11,7 +11,7 @@ use lib.Dec.{eqb}
 use lib.ListN.{length, take, drop, getD, length-drop, drop-of-length-le}
 use lib.Seq.{drop-cons, take-all}
 use Rattle.slices.specs.Bytes.{if, other, all, same}
-use Rattle.slices.proofs.Runs.{same-short}
+use Rattle.slices.proofs.Runs.{if-false, same-short}
 use Rattle.document.specs.Elements.{localName, localKind, kindOf}
 use Rattle.tags.specs.Kinds.{numbered, exactKinds, localKinds, exactKind, Local}
 
@@ -114,11 +114,7 @@ whole (b ∷ n) h = rw h
 with-colon : (n : List ℕ) (i : ℕ) → i < length n → getD n i 0 ≡ 58 → all (other 58) n ≡ false
 with-colon [] i h e = absurd (omega arith)
 with-colon (b ∷ n) zero h e = rw e
-with-colon (b ∷ n) (suc i) h e = rw (with-colon n i (omega arith) e) (go (other 58 b))
-  where
-    go : (t : Bool) → if t false false ≡ false
-    go true = refl
-    go false = refl
+with-colon (b ∷ n) (suc i) h e = rw (with-colon n i (omega arith) e) (if-false (other 58 b))
 
 after-colon : (n : List ℕ) (i : ℕ) → i < length n → getD n i 0 ≡ 58 → localName n ≡ localName (drop (suc i) n)
 after-colon [] i h e = absurd (omega arith)

@@ -5,6 +5,7 @@ use mathlib.Core.Path.{_≡_}
 use mathlib.Core.List.{List, [], _∷_}
 use lib.ListN.{length, drop}
 use Rattle.slices.specs.Bytes.{if, bytes, same}
+use Rattle.document.specs.Kinds as kinds
 use Rattle.document.specs.Elements.{localName}
 
 -- the number beside the name in a list, or d
@@ -15,25 +16,25 @@ numbered (k ∷ ks) d n = let r = numbered ks d n in if (same n (k .0)) (k .1) r
 -- the names that are taken whole
 abbrev pub exactKinds : List (List ℕ × ℕ)
 exactKinds =
-    (bytes "node", 1)
-    ∷ (bytes "interface", 2)
-    ∷ (bytes "method", 3)
-    ∷ (bytes "property", 4)
-    ∷ (bytes "signal", 5)
-    ∷ (bytes "annotation", 6)
-    ∷ (bytes "arg", 7)
+    (bytes "node", kinds.node)
+    ∷ (bytes "interface", kinds.interface)
+    ∷ (bytes "method", kinds.method)
+    ∷ (bytes "property", kinds.property)
+    ∷ (bytes "signal", kinds.signal)
+    ∷ (bytes "annotation", kinds.annotation)
+    ∷ (bytes "arg", kinds.arg)
     ∷ []
 
 -- the local names
 abbrev pub localKinds : List (List ℕ × ℕ)
 localKinds =
-    (bytes "simple-type", 8)
-    ∷ (bytes "enum", 9)
-    ∷ (bytes "enumvalue", 10)
-    ∷ (bytes "struct", 11)
-    ∷ (bytes "member", 12)
-    ∷ (bytes "mapping", 13)
-    ∷ (bytes "docstring", 14)
+    (bytes "simple-type", kinds.simpleType)
+    ∷ (bytes "enum", kinds.enum)
+    ∷ (bytes "enumvalue", kinds.enumvalue)
+    ∷ (bytes "struct", kinds.struct)
+    ∷ (bytes "member", kinds.member)
+    ∷ (bytes "mapping", kinds.mapping)
+    ∷ (bytes "docstring", kinds.docstring)
     ∷ []
 
 abbrev pub exactKind : List ℕ → ℕ

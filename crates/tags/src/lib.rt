@@ -15,6 +15,7 @@ use document::Next;
 use document::Refusal;
 use document::StartTag;
 use document::Token;
+use document::kinds;
 use scan::Scan;
 
 // Where a start tag's end was wanted, or whether it is `/>` and the place after it.
@@ -48,12 +49,12 @@ fn exact_kind(name: &[u8]) -> u32
     ensures { λ r. ⌜ r ≡ exactKind (now (name .entry)) ⌝ }
 {
     match name.len() {
-        3 => one(name, b"arg", 7),
-        4 => one(name, b"node", 1),
-        6 => either(name, b"method", 3, b"signal", 5),
-        8 => one(name, b"property", 4),
-        9 => one(name, b"interface", 2),
-        10 => one(name, b"annotation", 6),
+        3 => one(name, b"arg", kinds::ARG),
+        4 => one(name, b"node", kinds::NODE),
+        6 => either(name, b"method", kinds::METHOD, b"signal", kinds::SIGNAL),
+        8 => one(name, b"property", kinds::PROPERTY),
+        9 => one(name, b"interface", kinds::INTERFACE),
+        10 => one(name, b"annotation", kinds::ANNOTATION),
         _ => 0,
     }
 }
@@ -63,17 +64,23 @@ fn local_kind(name: &[u8]) -> u32
     ensures { λ r. ⌜ r ≡ localKind (now (name .entry)) ⌝ }
 {
     match name.len() {
-        4 => one(name, b"enum", 9),
-        6 => either(name, b"struct", 11, b"member", 12),
-        7 => one(name, b"mapping", 13),
-        9 => either(name, b"enumvalue", 10, b"docstring", 14),
-        11 => one(name, b"simple-type", 8),
+        4 => one(name, b"enum", kinds::ENUM),
+        6 => either(name, b"struct", kinds::STRUCT, b"member", kinds::MEMBER),
+        7 => one(name, b"mapping", kinds::MAPPING),
+        9 => either(
+            name,
+            b"enumvalue",
+            kinds::ENUMVALUE,
+            b"docstring",
+            kinds::DOCSTRING,
+        ),
+        11 => one(name, b"simple-type", kinds::SIMPLE_TYPE),
         _ => 0,
     }
 }
 
-// Past the last colon of a name.
-fn local(name: &[u8]) -> usize
+// Where the local name begins: past the last colon.
+fn local_name(name: &[u8]) -> usize
     ensures { λ r. ⌜ Local (now (name .entry)) r ⌝ }
 {
     let mut i = name.len();
@@ -95,7 +102,7 @@ pub fn kind_of(name: &[u8]) -> u32
     if kind != 0 {
         return kind;
     }
-    let from = local(name);
+    let from = local_name(name);
     local_kind(&name[from..])
 }
 

@@ -9,8 +9,8 @@ use native.Mathlib.Numerals.{add-one}
 use native.Mathlib.Omega.{arith}
 use lib.Dec.{eqb}
 use lib.ListN.{length, take, drop}
-use lib.Seq.{take-take}
 use Rattle.slices.specs.Bytes.{if}
+use Rattle.document.specs.Kinds as kinds
 use Rattle.document.specs.Tags.{Shown}
 use Rattle.document.specs.Tokens.{Tag}
 use Rattle.document.specs.Rows.{Row, Tables}
@@ -18,13 +18,13 @@ use Rattle.document.specs.Elements.{kindOf, among, heldBy, mayHold}
 use Rattle.document.specs.Reading as reading
 use Rattle.document.specs.Reading.{Frame, definition, State, reading, closed, child, begins, noted, oneMore}
 use Rattle.document.specs.Outcome as outcome
-use Rattle.document.specs.Outcome.{Lent, lent, Stands, Bounded, Ready, Steps, Begins, Others, runs, whole}
+use Rattle.document.specs.Outcome.{Lent, lent, Stands, Bounded, Ready, Steps, Begins, Others, runs, whole, moved}
 use Rattle.document.specs.declared.Refusal.{Refusal}
 use Rattle.document.specs.declared.StartTag.{StartTag}
 use Rattle.document.specs.declared.Fill.{Fill}
 use Rattle.document.specs.declared.Answer.{Answer}
 use Rattle.document.specs.declared.Next.{Next}
-use Rattle.document.proofs.Loops.{moved, moved-stands}
+use Rattle.document.proofs.Loops.{moved-stands, rows-kept}
 use Rattle.telepathy.specs.Outcome.{DefinitionKind, PartKind, Holds, Unseen, More, Noted, Child, Body, Content, Ends, seen, openAs, noParts}
 use Rattle.telepathy.specs.declared.Parts.{Parts}
 use Rattle.telepathy.specs.declared.Inner.{Inner}
@@ -39,21 +39,18 @@ only c x = go (eqb c x)
     go true = refl
     go false = refl
 
-pub holds-none : {k c : ℕ} → k ≡ 8 → Holds k c false
+pub holds-none : {k c : ℕ} → k ≡ kinds.simpleType → Holds k c false
 holds-none e = record { is = rw e }
 
-pub holds-enumvalue : {k c : ℕ} → k ≡ 9 → Holds k c (eqb c 10)
-holds-enumvalue {c = c} e = record { is = rw e (only c 10) }
+pub holds-enumvalue : {k c : ℕ} → k ≡ kinds.enum → Holds k c (eqb c kinds.enumvalue)
+holds-enumvalue {c = c} e = record { is = rw e (only c kinds.enumvalue) }
 
-pub holds-member : {k c : ℕ} → DefinitionKind k → (k ≡ 8 → ⊥) → (k ≡ 9 → ⊥) → Holds k c (eqb c 12)
-holds-member {k} {c} h n m = by-definition (λ j. (j ≡ 8 → ⊥) → (j ≡ 9 → ⊥) → Holds j c (eqb c 12)) (λ x y. absurd (x refl)) (λ x y. absurd (y refl)) (λ x y. record { is = only c 12 }) (λ x y. record { is = only c 12 }) h n m
+pub holds-member : {k c : ℕ} → DefinitionKind k → (k ≡ kinds.simpleType → ⊥) → (k ≡ kinds.enum → ⊥) → Holds k c (eqb c kinds.member)
+holds-member {k} {c} h n m = by-definition (λ j. (j ≡ kinds.simpleType → ⊥) → (j ≡ kinds.enum → ⊥) → Holds j c (eqb c kinds.member)) (λ x y. absurd (x refl)) (λ x y. absurd (y refl)) (λ x y. record { is = only c kinds.member }) (λ x y. record { is = only c kinds.member }) h n m
 
 pub ruleset holding = (holds-none, holds-enumvalue, holds-member, needs)
 
 -- ---- a part
-
-rows-kept : (i n : ℕ) (v u : List (Row Shown)) → i ≤ n → take n v ≡ u → take i v ≡ take i u
-rows-kept i n v u h e = rw (← e) (sym (take-take i n v h))
 
 -- the part is noted in its definition
 noted-is : {m : ℕ} (k i lt why : ℕ) (n : List ℕ) (t : Tag) (fs : List Frame) (p q : Parts) → PartKind m → seen q ≡ oneMore m t (seen p) → noted m t (definition (openAs k i lt n why p) ∷ fs) ≡ definition (openAs k i lt n why q) ∷ fs
@@ -82,7 +79,7 @@ pub ruleset noting = (noted-fault, noted-done, needs)
 
 -- what a definition holds is an enumvalue or a member
 pub held-part : {k m : ℕ} {o : Bool} → DefinitionKind k → Holds k m o → o ≡ true → PartKind m
-held-part {k} {m} d y e = by-definition (λ j. among m (heldBy j) ≡ true → PartKind m) (λ x. let q : _≡_ {A = ℕ} 0 1 = cc in absurd (omega arith)) (λ x. record { is = first (eqb m 10) (eqb m 12) x }) (λ x. record { is = second (eqb m 10) (eqb m 12) x }) (λ x. record { is = second (eqb m 10) (eqb m 12) x }) d (sym (y .is) ∙ e)
+held-part {k} {m} d y e = by-definition (λ j. among m (heldBy j) ≡ true → PartKind m) (λ x. let q : _≡_ {A = ℕ} 0 1 = cc in absurd (omega arith)) (λ x. record { is = first (eqb m kinds.enumvalue) (eqb m kinds.member) x }) (λ x. record { is = second (eqb m kinds.enumvalue) (eqb m kinds.member) x }) (λ x. record { is = second (eqb m kinds.enumvalue) (eqb m kinds.member) x }) d (sym (y .is) ∙ e)
   where
     first : (a b : Bool) → if a true false ≡ true → if a true (if b true false) ≡ true
     first true b e = refl
@@ -105,7 +102,7 @@ module _ {k : ℕ} (d : DefinitionKind k) {c : StartTag} {o : Bool} (y : Holds k
     }
       where
         begun : (t : Tag) (fs : List Frame) (u : Tables Shown) → c .kind ≡ kindOf (t .name) → runs doc (c .end) (child whole doc k i t fs u) ≡ runs doc (c .end) (begins whole doc (c .kind) t fs u)
-        begun t fs u q = rw (← q, by-part (λ m. eqb m 14 ≡ false) refl refl (held-part d y e), sym (y .is) ∙ e)
+        begun t fs u q = rw (← q, by-part (λ m. eqb m kinds.docstring ≡ false) refl refl (held-part d y e), sym (y .is) ∙ e)
 
         kept : {s s′ : State Shown} (after : Parts → Tables Shown → State Shown) (u : List (Row Shown)) (r : Inner) → s ≡ s′ → Ends doc s′ after (f .rows) u b′ r → Ends doc s after i (take i u) b′ r
         kept after u (Inner.Fault y) e x = e ∙ x
@@ -115,7 +112,7 @@ module _ {k : ℕ} (d : DefinitionKind k) {c : StartTag} {o : Bool} (y : Holds k
       pub child-other-fault : {x : Refusal} → a ≡ Answer.Fault x → Child doc k i c p f (lent rows w bytes) (lent rows′ w′ bytes) (Inner.Fault x)
       child-other-fault x = record {
         onward = tt;
-        ends = λ lt why n t fs u z s. (rw x at h) .ends k t (definition (openAs k i lt n why p) ∷ fs) u bytes (sym (y .is) ∙ e) (by-definition (λ m. not (eqb m 6) ≡ true) refl refl refl refl d) z s;
+        ends = λ lt why n t fs u z s. (rw x at h) .ends k t (definition (openAs k i lt n why p) ∷ fs) u bytes (sym (y .is) ∙ e) (by-definition (λ m. not (eqb m kinds.annotation) ≡ true) refl refl refl refl d) z s;
       }
 
       pub child-other-done : {g : Fill} → p .count < f .at → a ≡ Answer.Done g → Child doc k i c p f (lent rows w bytes) (lent rows′ w′ bytes) (Inner.Done g p)
@@ -123,7 +120,7 @@ module _ {k : ℕ} (d : DefinitionKind k) {c : StartTag} {o : Bool} (y : Holds k
           let j : Others doc c i f rows rows′ w w′ (Answer.Done g) = rw x at h in
           record {
             onward = (j .onward .0, j .onward .1, omega (arith, j .onward .0), j .onward .2);
-            ends = λ lt why n t fs u z s. j .ends k t (definition (openAs k i lt n why p) ∷ fs) u bytes (sym (y .is) ∙ e) (by-definition (λ m. not (eqb m 6) ≡ true) refl refl refl refl d) z s;
+            ends = λ lt why n t fs u z s. j .ends k t (definition (openAs k i lt n why p) ∷ fs) u bytes (sym (y .is) ∙ e) (by-definition (λ m. not (eqb m kinds.annotation) ≡ true) refl refl refl refl d) z s;
           }
 
 pub ruleset children = (held-part, child-part, child-other-fault, child-other-done, needs)

@@ -14,6 +14,7 @@ use mir.Val.{Fits}
 use lib.Dec.{eqb}
 use Rattle.slices.specs.Bytes.{bytes}
 use Rattle.names.specs.Signature.{basicSignature}
+use Rattle.document.specs.Kinds as kinds
 use Rattle.document.specs.Tags.{Shown}
 use Rattle.document.specs.Tokens.{Tag}
 use Rattle.document.specs.Elements.{attr, someSignature}
@@ -24,7 +25,7 @@ use Rattle.document.specs.declared.Value.{Value}
 use Rattle.document.specs.declared.StartTag.{StartTag}
 use Rattle.document.specs.declared.Fill.{Fill}
 use Rattle.document.proofs.Presence.{value-absent, value-there}
-use Rattle.rows.specs.Outcome.{Tests}
+use Rattle.shown.specs.Outcome.{Tests}
 use Rattle.elements.proofs.Rows.{lies-ty}
 use Rattle.telepathy.specs.Outcome.{PartKind, Completes, Breaks, Keyed, More}
 use Rattle.telepathy.specs.declared.Parts.{Parts}
@@ -55,15 +56,15 @@ and-false : (b : Bool) → (b && false) ≡ false
 and-false true = refl
 and-false false = refl
 
-enumvalue : (k : ℕ) (t : Tag) → k ≡ 10 → complete k t ≡ (isThere (attr (bytes "suffix") t) && isThere (attr (bytes "value") t))
+enumvalue : (k : ℕ) (t : Tag) → k ≡ kinds.enumvalue → complete k t ≡ (isThere (attr (bytes "suffix") t) && isThere (attr (bytes "value") t))
 enumvalue k t e = rw e
 
-member : {k : ℕ} (t : Tag) → PartKind k → (k ≡ 10 → ⊥) → complete k t ≡ (isThere (attr (bytes "name") t) && isSome someSignature (attr (bytes "type") t))
-member t h n = by-part (λ m. (m ≡ 10 → ⊥) → complete m t ≡ (isThere (attr (bytes "name") t) && isSome someSignature (attr (bytes "type") t))) (λ x. absurd (x refl)) (λ x. refl) h n
+member : {k : ℕ} (t : Tag) → PartKind k → (k ≡ kinds.enumvalue → ⊥) → complete k t ≡ (isThere (attr (bytes "name") t) && isSome someSignature (attr (bytes "type") t))
+member t h n = by-part (λ m. (m ≡ kinds.enumvalue → ⊥) → complete m t ≡ (isThere (attr (bytes "name") t) && isSome someSignature (attr (bytes "type") t))) (λ x. absurd (x refl)) (λ x. refl) h n
 
 module _ {doc : List ℕ} {c : StartTag} where
   -- an enumvalue
-  module _ (k : c .kind ≡ 10) where
+  module _ (k : c .kind ≡ kinds.enumvalue) where
     pub complete-unsuffixed : c .values .suffix .kind ≡ 0 → Completes doc c false
     complete-unsuffixed e = record { is = λ t z. sym (enumvalue (c .kind) t k ∙ rw (there-not doc (c .values .suffix) (attr (bytes "suffix") t) (z .values .suffix) e)) }
 
@@ -71,7 +72,7 @@ module _ {doc : List ℕ} {c : StartTag} where
     complete-valued n q = record { is = λ t z. q ∙ sym (enumvalue (c .kind) t k ∙ rw (there-is doc (c .values .suffix) (attr (bytes "suffix") t) (z .values .suffix) n) (there-by doc (c .values .value) (attr (bytes "value") t) (z .values .value))) }
 
   -- a member
-  module _ (h : PartKind (c .kind)) (k : c .kind ≡ 10 → ⊥) where
+  module _ (h : PartKind (c .kind)) (k : c .kind ≡ kinds.enumvalue → ⊥) where
     pub complete-unnamed : c .values .name .kind ≡ 0 → Completes doc c false
     complete-unnamed e = record { is = λ t z. sym (member t h k ∙ rw (there-not doc (c .values .name) (attr (bytes "name") t) (z .values .name) e)) }
 

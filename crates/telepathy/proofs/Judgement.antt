@@ -11,6 +11,7 @@ use lib.Dec.{eqb}
 use lib.ListN.{length, take}
 use lib.Seq.{take-take, take-at}
 use Rattle.slices.specs.Bytes.{if, bytes}
+use Rattle.document.specs.Kinds as kinds
 use Rattle.document.specs.Tags.{Shown}
 use Rattle.document.specs.Tokens.{Tag}
 use Rattle.document.specs.Rows.{Row, Tables}
@@ -21,6 +22,7 @@ use Rattle.document.specs.declared.StartTag.{StartTag}
 use Rattle.document.specs.declared.Fill.{Fill}
 use Rattle.document.specs.declared.Answer.{Answer}
 use Rattle.document.proofs.Openings.{opening-fault}
+use Rattle.document.proofs.Loops.{name-inside}
 use Rattle.rows.specs.Outcome.{WarningPut, WarningFits}
 use Rattle.rows.proofs.Tables.{cut-to}
 use Rattle.elements.specs.Outcome.{TypedKind, UntypedKind}
@@ -95,11 +97,11 @@ pub ruleset judgements = (back-fits, judging-ready, judged-kept, judged-dropped,
 -- ---- the row
 
 module _ {k : ℕ} (d : DefinitionKind k) where
-  pub row-typed : k ≤ 9 → TypedKind k
-  row-typed l = by-definition (λ m. m ≤ 9 → TypedKind m) (λ x. simple-type-kind) (λ x. enum-kind) (λ x. absurd (omega arith)) (λ x. absurd (omega arith)) d l
+  pub row-typed : k ≤ kinds.enum → TypedKind k
+  row-typed l = by-definition (λ m. m ≤ kinds.enum → TypedKind m) (λ x. simple-type-kind) (λ x. enum-kind) (λ x. absurd (omega arith)) (λ x. absurd (omega arith)) d l
 
-  pub row-untyped : 9 < k → UntypedKind k
-  row-untyped l = by-definition (λ m. 9 < m → UntypedKind m) (λ x. absurd (omega arith)) (λ x. absurd (omega arith)) (λ x. struct-kind) (λ x. mapping-kind) d l
+  pub row-untyped : kinds.enum < k → UntypedKind k
+  row-untyped l = by-definition (λ m. kinds.enum < m → UntypedKind m) (λ x. absurd (omega arith)) (λ x. absurd (omega arith)) (λ x. struct-kind) (λ x. mapping-kind) d l
 
 pub ruleset definition-rows = (row-typed, row-untyped, needs)
 
@@ -139,7 +141,7 @@ pub judging-owner : {doc : List ℕ} {c : StartTag} {f g : Fill} → Judging doc
 judging-owner j = j .owner
 
 pub judging-named : {doc : List ℕ} {c : StartTag} {f g : Fill} → Judging doc c f g → c .at + c .len ≤ length doc
-judging-named j = omega (arith, j .ready .fits .inside, j .ready .fits .within)
+judging-named j = name-inside (j .ready)
 
 pub ruleset rests = (judging-bounds, judging-owner, judging-named, rest-fault, rest-judging, rest-done, needs)
 

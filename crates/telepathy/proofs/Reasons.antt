@@ -2,20 +2,21 @@
 -- Assumes nothing.
 use Prim.Native.Nat.{ℕ, _≤_, _<_}
 use mathlib.Core.Path.{_≡_, refl, sym, _∙_, ap}
-use mathlib.Core.List.{List, [], _∷_}
+use mathlib.Core.List.{List}
 use mathlib.Core.Bool.{Bool, true, false}
 use borrow.Author.Needs.{needs}
 use borrow.Author.Tests.{ne-eqb}
 use native.Mathlib.Omega.{arith}
 use lib.Dec.{eqb}
 use Rattle.slices.specs.Bytes.{if, bytes}
+use Rattle.document.specs.Kinds as kinds
 use Rattle.document.specs.Tokens.{Tag}
 use Rattle.document.specs.Elements.{among, attr, someSignature}
 use Rattle.document.specs.Reading.{tagReason, typeReason, partsReason}
 use Rattle.document.specs.Outcome.{TagIs}
 use Rattle.document.specs.declared.StartTag.{StartTag}
 use Rattle.document.proofs.Presence.{value-absent, value-there}
-use Rattle.rows.specs.Outcome.{Tests}
+use Rattle.shown.specs.Outcome.{Tests}
 use Rattle.elements.proofs.Rows.{lies-ty}
 use Rattle.telepathy.specs.Outcome.{DefinitionKind, TagTold, PartsTold, Told, seen}
 use Rattle.telepathy.specs.declared.Parts.{Parts}
@@ -23,21 +24,21 @@ use Rattle.telepathy.proofs.Sorts.{by-definition}
 
 -- ---- the tag
 
-typed : {k : ℕ} → DefinitionKind k → k ≤ 9 → among k (8 ∷ 9 ∷ []) ≡ true
-typed h l = by-definition (λ m. m ≤ 9 → among m (8 ∷ 9 ∷ []) ≡ true) (λ x. refl) (λ x. refl) (λ x. absurd (omega arith)) (λ x. absurd (omega arith)) h l
+typed : {k : ℕ} → DefinitionKind k → k ≤ kinds.enum → among k kinds.typed ≡ true
+typed h l = by-definition (λ m. m ≤ kinds.enum → among m kinds.typed ≡ true) (λ x. refl) (λ x. refl) (λ x. absurd (omega arith)) (λ x. absurd (omega arith)) h l
 
-untyped : {k : ℕ} → DefinitionKind k → 9 < k → among k (8 ∷ 9 ∷ []) ≡ false
-untyped h l = by-definition (λ m. 9 < m → among m (8 ∷ 9 ∷ []) ≡ false) (λ x. absurd (omega arith)) (λ x. absurd (omega arith)) (λ x. refl) (λ x. refl) h l
+untyped : {k : ℕ} → DefinitionKind k → kinds.enum < k → among k kinds.typed ≡ false
+untyped h l = by-definition (λ m. kinds.enum < m → among m kinds.typed ≡ false) (λ x. absurd (omega arith)) (λ x. absurd (omega arith)) (λ x. refl) (λ x. refl) h l
 
 module _ {doc : List ℕ} {c : StartTag} where
   pub told-unnamed : c .values .name .kind ≡ 0 → TagTold doc c 2
   told-unnamed e = record { is = λ t z. rw (value-absent doc (c .values .name) (attr (bytes "name") t) (z .values .name) e) }
 
   module _ (d : DefinitionKind (c .kind)) (n : c .values .name .kind ≡ 0 → ⊥) where
-    pub told-named : 9 < c .kind → TagTold doc c 0
+    pub told-named : kinds.enum < c .kind → TagTold doc c 0
     told-named l = record { is = λ t z. rw (value-there doc (c .values .name) (attr (bytes "name") t) (z .values .name) n .1, untyped d l) }
 
-    module _ (l : c .kind ≤ 9) where
+    module _ (l : c .kind ≤ kinds.enum) where
       by-type : (t : Tag) → TagIs doc c t → tagReason (c .kind) (attr (bytes "name") t) (attr (bytes "type") t) ≡ typeReason (attr (bytes "type") t)
       by-type t z = rw (value-there doc (c .values .name) (attr (bytes "name") t) (z .values .name) n .1, typed d l)
 
@@ -61,30 +62,30 @@ pub ruleset tag-reasons = (lies-ty, told-unnamed, told-named, told-untyped, told
 -- ---- the parts
 
 module _ {k : ℕ} {p : Parts} where
-  pub told-value : p .broken ≡ true → k ≡ 9 → PartsTold k p 5
+  pub told-value : p .broken ≡ true → k ≡ kinds.enum → PartsTold k p 5
   told-value b e = record { is = rw (b, e) }
 
-  pub told-member : p .broken ≡ true → (k ≡ 9 → ⊥) → PartsTold k p 6
-  told-member b n = record { is = rw (b, ne-eqb k 9 n) }
+  pub told-member : p .broken ≡ true → (k ≡ kinds.enum → ⊥) → PartsTold k p 6
+  told-member b n = record { is = rw (b, ne-eqb k kinds.enum n) }
 
   module _ (b : p .broken ≡ false) where
-    pub told-empty : k ≡ 11 → p .count ≡ 0 → PartsTold k p 7
+    pub told-empty : k ≡ kinds.struct → p .count ≡ 0 → PartsTold k p 7
     told-empty e z = record { is = rw (b, e, z) }
 
-    pub told-struct : k ≡ 11 → (p .count ≡ 0 → ⊥) → PartsTold k p 0
+    pub told-struct : k ≡ kinds.struct → (p .count ≡ 0 → ⊥) → PartsTold k p 0
     told-struct e n = record { is = rw (b, e, ne-eqb (p .count) 0 n) }
 
-    pub told-count : k ≡ 13 → (p .count ≡ 2 → ⊥) → PartsTold k p 8
+    pub told-count : k ≡ kinds.mapping → (p .count ≡ 2 → ⊥) → PartsTold k p 8
     told-count e n = record { is = rw (b, e, ne-eqb (p .count) 2 n) }
 
-    pub told-mapping : k ≡ 13 → p .count ≡ 2 → p .basic ≡ true → PartsTold k p 0
+    pub told-mapping : k ≡ kinds.mapping → p .count ≡ 2 → p .basic ≡ true → PartsTold k p 0
     told-mapping e n y = record { is = rw (b, e, n, y) }
 
-    pub told-key : k ≡ 13 → p .count ≡ 2 → p .basic ≡ false → PartsTold k p 9
+    pub told-key : k ≡ kinds.mapping → p .count ≡ 2 → p .basic ≡ false → PartsTold k p 9
     told-key e n y = record { is = rw (b, e, n, y) }
 
-    pub told-other : (k ≡ 11 → ⊥) → (k ≡ 13 → ⊥) → PartsTold k p 0
-    told-other n m = record { is = rw (b, ne-eqb k 11 n, ne-eqb k 13 m) }
+    pub told-other : (k ≡ kinds.struct → ⊥) → (k ≡ kinds.mapping → ⊥) → PartsTold k p 0
+    told-other n m = record { is = rw (b, ne-eqb k kinds.struct n, ne-eqb k kinds.mapping m) }
 
 pub ruleset parts-reasons = (told-value, told-member, told-empty, told-struct, told-count, told-mapping, told-key, told-other, needs)
 

@@ -11,51 +11,40 @@ use lib.Dec.{eqb}
 use lib.ListN.{length, take}
 use lib.Seq.{take-at}
 use Rattle.slices.specs.Bytes.{if}
+use Rattle.document.specs.Kinds as kinds
 use Rattle.document.specs.Tags.{Shown}
 use Rattle.document.specs.Tokens.{Tag}
 use Rattle.document.specs.Rows.{Row, Tables}
 use Rattle.document.specs.Elements.{among, heldBy}
 use Rattle.document.specs.Reading.{Frame, element, State, reading, closed, parentOf, withRow, noted, entered, begins}
-use Rattle.document.specs.Outcome.{Lent, lent, Stands, Ready, Bounded, TagIs, Opening, Begins, Others, Child, Children, Steps, Onward, Ends, runs, whole}
+use Rattle.document.specs.Outcome.{Lent, lent, Stands, Ready, Bounded, TagIs, Opening, Begins, Others, Child, Children, Steps, Onward, Ends, runs, whole, moved}
 use Rattle.document.specs.declared.StartTag.{StartTag}
 use Rattle.document.specs.declared.Fill.{Fill}
 use Rattle.document.specs.declared.Answer.{Answer}
 use Rattle.document.specs.declared.Next.{Next}
-use Rattle.document.proofs.Openings.{definitions, opening-fault, opening-bounds, opening-owner}
-use Rattle.document.proofs.Loops.{Sofar, moved, loop-begins, loop-fault, loop-close, loop-ready, loop-child-fault, loop-child, loop-less, child-other}
+use Rattle.document.proofs.Openings.{opening-fault, opening-bounds, opening-owner}
+use Rattle.document.proofs.Loops.{Sofar, loop-begins, loop-fault, loop-close, loop-ready, loop-child-fault, loop-child, loop-less, child-other, name-inside, moved-owner}
 use Rattle.telepathy.specs.Outcome.{DefinitionKind, PartKind, PartContent}
 
--- what holds of 10 and 12 holds of the kind of a part
-pub by-part : (P : ℕ → Type 0) → P 10 → P 12 → {k : ℕ} → PartKind k → P k
-by-part P a b {k} h = go (eqb k 10) (eqb k 12) refl refl (h .is)
+-- what holds of enumvalue and of member holds of the kind of a part
+pub by-part : (P : ℕ → Type 0) → P kinds.enumvalue → P kinds.member → {k : ℕ} → PartKind k → P k
+by-part P a b {k} h = go (eqb k kinds.enumvalue) (eqb k kinds.member) refl refl (h .is)
   where
-    go : (x y : Bool) → eqb k 10 ≡ x → eqb k 12 ≡ y → if x true (if y true false) ≡ true → P k
-    go true y e f i = rw (eqb-true k 10 e) a
-    go false true e f i = rw (eqb-true k 12 f) b
+    go : (x y : Bool) → eqb k kinds.enumvalue ≡ x → eqb k kinds.member ≡ y → if x true (if y true false) ≡ true → P k
+    go true y e f i = rw (eqb-true k kinds.enumvalue e) a
+    go false true e f i = rw (eqb-true k kinds.member f) b
     go false false e f i = let q : _≡_ {A = ℕ} 0 1 = cc in absurd (omega arith)
 
--- what holds of the four numbers holds of the kind of a definition
-pub by-definition : (P : ℕ → Type 0) → P 8 → P 9 → P 11 → P 13 → {k : ℕ} → DefinitionKind k → P k
-by-definition P a b c d {k} h = go (eqb k 8) (eqb k 9) (eqb k 11) (eqb k 13) refl refl refl refl (h .is)
+-- what holds of the four kinds of definitions holds of the kind of a definition
+pub by-definition : (P : ℕ → Type 0) → P kinds.simpleType → P kinds.enum → P kinds.struct → P kinds.mapping → {k : ℕ} → DefinitionKind k → P k
+by-definition P a b c d {k} h = go (eqb k kinds.simpleType) (eqb k kinds.enum) (eqb k kinds.struct) (eqb k kinds.mapping) refl refl refl refl (h .is)
   where
-    go : (w x y z : Bool) → eqb k 8 ≡ w → eqb k 9 ≡ x → eqb k 11 ≡ y → eqb k 13 ≡ z → if w true (if x true (if y true (if z true false))) ≡ true → P k
-    go true x y z e f g h i = rw (eqb-true k 8 e) a
-    go false true y z e f g h i = rw (eqb-true k 9 f) b
-    go false false true z e f g h i = rw (eqb-true k 11 g) c
-    go false false false true e f g h i = rw (eqb-true k 13 h) d
+    go : (w x y z : Bool) → eqb k kinds.simpleType ≡ w → eqb k kinds.enum ≡ x → eqb k kinds.struct ≡ y → eqb k kinds.mapping ≡ z → if w true (if x true (if y true (if z true false))) ≡ true → P k
+    go true x y z e f g h i = rw (eqb-true k kinds.simpleType e) a
+    go false true y z e f g h i = rw (eqb-true k kinds.enum f) b
+    go false false true z e f g h i = rw (eqb-true k kinds.struct g) c
+    go false false false true e f g h i = rw (eqb-true k kinds.mapping h) d
     go false false false false e f g h i = let q : _≡_ {A = ℕ} 0 1 = cc in absurd (omega arith)
-
-pub simple-type-definition : {k : ℕ} → k ≡ 8 → DefinitionKind k
-simple-type-definition e = record { is = rw e }
-
-pub enum-definition : {k : ℕ} → k ≡ 9 → DefinitionKind k
-enum-definition e = record { is = rw e }
-
-pub struct-definition : {k : ℕ} → k ≡ 11 → DefinitionKind k
-struct-definition e = record { is = rw e }
-
-pub mapping-definition : {k : ℕ} → k ≡ 13 → DefinitionKind k
-mapping-definition e = record { is = rw e }
 
 -- ---- the children of a part
 
@@ -63,21 +52,21 @@ mapping-definition e = record { is = rw e }
 pub child-none : {doc : List ℕ} {c : StartTag} {i : ℕ} {f : Fill} {rows rows′ w w′ bytes : List ℕ} {r : Answer} → Others doc c i f rows rows′ w w′ r → Child doc [] true c i f (lent rows w bytes) (lent rows′ w′ bytes) r
 child-none h = child-other refl h
 
-pub leaf-less : {doc : List ℕ} {at len i : ℕ} {f₀ f : Fill} {b₀ : Lent} {rows rows′ w w′ bytes : List ℕ} {r : Next} {c : StartTag} {a : Answer} {g : Fill} → Sofar doc [] true at len i f₀ b₀ f (lent rows w bytes) → Steps doc (f .at) at len r → r ≡ Next.Start c → Others doc c i (moved f (c .end)) rows rows′ w w′ a → a ≡ Answer.Done g → length doc - g .at < length doc - f .at
-leaf-less {bytes = bytes} s n q h e = loop-less s n q (child-none {bytes = bytes} h) e
+pub part-less : {doc : List ℕ} {at len i : ℕ} {f₀ f m : Fill} {b₀ : Lent} {rows rows′ w w′ bytes : List ℕ} {r : Next} {c : StartTag} {a : Answer} {g : Fill} → Sofar doc [] true at len i f₀ b₀ f (lent rows w bytes) → Steps doc (f .at) at len r → r ≡ Next.Start c → Others doc c i m rows rows′ w w′ a → m ≡ moved f (c .end) → a ≡ Answer.Done g → length doc - g .at < length doc - f .at
+part-less {bytes = bytes} s n q h y e = loop-less s n q (child-none {bytes = bytes} h) y e
 
-pub ruleset leaves = (child-none, leaf-less, loop-begins, loop-fault, loop-close, loop-ready, loop-child-fault, loop-child, needs)
+pub ruleset part-loop = (moved-owner, child-none, part-less, loop-begins, loop-fault, loop-close, loop-ready, loop-child-fault, loop-child, needs)
 
 -- ---- the row of a part
 
 module _ {doc : List ℕ} {k : ℕ} {c : StartTag} {p : ℕ} {f : Fill} {rows rows′ bytes bytes′ : List ℕ} {r : Answer} where
-  pub row-enumvalue : k ≡ 10 → Opening doc 10 c p f rows rows′ bytes bytes′ r → Opening doc k c p f rows rows′ bytes bytes′ r
+  pub row-enumvalue : k ≡ kinds.enumvalue → Opening doc kinds.enumvalue c p f rows rows′ bytes bytes′ r → Opening doc k c p f rows rows′ bytes bytes′ r
   row-enumvalue e o = rw e o
 
-  pub row-member : PartKind k → (k ≡ 10 → ⊥) → Opening doc 12 c p f rows rows′ bytes bytes′ r → Opening doc k c p f rows rows′ bytes bytes′ r
-  row-member h n o = by-part (λ m. (m ≡ 10 → ⊥) → Opening doc m c p f rows rows′ bytes bytes′ r) (λ x. absurd (x refl)) (λ x. o) h n
+  pub row-member : PartKind k → (k ≡ kinds.enumvalue → ⊥) → Opening doc kinds.member c p f rows rows′ bytes bytes′ r → Opening doc k c p f rows rows′ bytes bytes′ r
+  row-member h n o = by-part (λ m. (m ≡ kinds.enumvalue → ⊥) → Opening doc m c p f rows rows′ bytes bytes′ r) (λ x. absurd (x refl)) (λ x. o) h n
 
-pub ruleset leaf-rows = (row-enumvalue, row-member, needs)
+pub ruleset part-rows = (row-enumvalue, row-member, needs)
 
 -- ---- a part
 
@@ -95,7 +84,7 @@ module _ {doc : List ℕ} {c : StartTag} {i : ℕ} {f : Fill} {b : Lent} where
     onward = l .onward;
     ends = λ t fs u z s.
         rw (sym (z .closes) ∙ x, z .named .is)
-        (l .ends (c .kind) fs u (by-part (λ m. heldBy m ≡ []) refl refl j) (by-part (λ m. not (eqb m 6) ≡ true) refl refl j) s);
+        (l .ends (c .kind) fs u (by-part (λ m. heldBy m ≡ []) refl refl j) (by-part (λ m. not (eqb m kinds.annotation) ≡ true) refl refl j) s);
   }
 
 pub ruleset contents = (content-none, content-children, needs)
@@ -141,12 +130,9 @@ part-done {doc} {c} {f = f} {g = g} {b} {r} o e l =
     (l .ends t (noted (c .kind) t fs) (withRow row u) z j))
   where
     inside : (t : Tag) (fs : List Frame) (u : Tables Shown) → length (u .rows) ≡ f .rows → (row : Row Shown) → runs doc (c .end) (entered whole doc (c .kind) t row fs u) ≡ runs doc (g .at) (if (t .self) (closed (noted (c .kind) t fs) (withRow row u)) (reading (element (c .kind) (t .name) (f .rows) ∷ noted (c .kind) t fs) (withRow row u)))
-    inside t fs u n row = rw (opening-end o e, by-part (λ m. among m definitions ≡ false) refl refl (l .kind), by-part (λ m. eqb m 1 ≡ false) refl refl (l .kind), n)
+    inside t fs u n row = rw (opening-end o e, by-part (λ m. among m kinds.definitions ≡ false) refl refl (l .kind), by-part (λ m. eqb m 1 ≡ false) refl refl (l .kind), n)
 
 pub part-parent : {doc : List ℕ} {c : StartTag} {f : Fill} {i : ℕ} → Ready doc c f → i < f .rows → i + 1 ≤ 1048576
 part-parent r h = omega (arith, r .few, r .sound .small, r .fits .inside, r .fits .within)
 
-pub part-named : {doc : List ℕ} {c : StartTag} {f : Fill} → Ready doc c f → c .at + c .len ≤ length doc
-part-named r = omega (arith, r .fits .inside, r .fits .within)
-
-pub ruleset openings = (part-parent, part-named, opening-fault, opening-bounds, opening-owner, part-done, needs)
+pub ruleset openings = (part-parent, name-inside, opening-fault, opening-bounds, opening-owner, part-done, needs)

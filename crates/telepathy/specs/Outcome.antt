@@ -2,12 +2,13 @@
 -- Assumes nothing.
 use Prim.Native.Nat.{ℕ, _≤_, _<_}
 use mathlib.Core.Path.{_≡_}
-use mathlib.Core.List.{List, [], _∷_}
+use mathlib.Core.List.{List, _∷_}
 use mathlib.Core.Bool.{Bool, true, false, not, _||_}
 use lib.Dec.{eqb}
 use lib.ListN.{take, drop}
 use Rattle.slices.specs.Bytes.{if, bytes}
 use Rattle.names.specs.Signature.{basicSignature}
+use Rattle.document.specs.Kinds as kinds
 use Rattle.document.specs.Tags.{Shown}
 use Rattle.document.specs.Tokens.{Tag}
 use Rattle.document.specs.Rows.{Row, Tables}
@@ -24,11 +25,11 @@ use Rattle.telepathy.specs.declared.Inner.{Inner}
 
 -- simple-type, enum, struct, mapping
 pub record DefinitionKind (k : ℕ) : Type 0 where
-  pub is : among k (8 ∷ 9 ∷ 11 ∷ 13 ∷ []) ≡ true
+  pub is : among k kinds.definitions ≡ true
 
 -- enumvalue, member
 pub record PartKind (k : ℕ) : Type 0 where
-  pub is : among k (10 ∷ 12 ∷ []) ≡ true
+  pub is : among k kinds.parts ≡ true
 
 -- what reading a part with row i says, from after its row on
 pub record PartContent (doc : List ℕ) (c : StartTag) (i : ℕ) (f : Fill) (b b′ : Lent) (r : Answer) : Type 0 where

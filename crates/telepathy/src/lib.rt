@@ -5,6 +5,7 @@ use document::Fill;
 use document::Next;
 use document::Refusal;
 use document::StartTag;
+use document::kinds;
 use tags::step;
 ghost use Prim.Native.Nat.{_+_, _≤_, _<_};
 ghost use mathlib.Core.Bool.{true};
@@ -28,7 +29,7 @@ pub enum Inner {
 }
 
 // The children of an enumvalue or a member with row i: docstrings, and elements that nobody asked for.
-fn leaf(
+fn part_children(
     doc: &[u8],
     classes: &[u8; 256],
     rows: &mut [u32],
@@ -49,20 +50,10 @@ fn leaf(
                 return Answer::Fault(refusal);
             }
             Next::Close(_, end) => {
-                return Answer::Done(Fill {
-                    at: end,
-                    rows: g.rows,
-                    warnings: g.warnings,
-                    text: g.text,
-                });
+                return Answer::Done(g.moved(end));
             }
             Next::Start(c) => {
-                let h = Fill {
-                    at: c.end,
-                    rows: g.rows,
-                    warnings: g.warnings,
-                    text: g.text,
-                };
+                let h = g.moved(c.end);
                 match skip::docstring_or_skip(doc, classes, rows, warnings, c, i, h) {
                     Answer::Fault(refusal) => {
                         return Answer::Fault(refusal);
@@ -77,7 +68,7 @@ fn leaf(
 }
 
 // The row of an enumvalue or a member.
-fn leaf_row(
+fn part_row(
     doc: &[u8],
     rows: &mut [u32],
     text: &mut [u8],
@@ -88,10 +79,10 @@ fn leaf_row(
     requires { ⌜ Ready (now doc) c f ⌝ ∗ ⌜ parent ≤ 1048576 ⌝ ∗ ⌜ PartKind (c .kind) ⌝ }
     ensures { λ r. ⌜ Opening (now (doc .entry)) (c .kind) c parent f (now (rows .entry)) (now (rows .exit)) (now (text .entry)) (now (text .exit)) r ⌝ }
 {
-    if c.kind == 10 {
+    if c.kind == kinds::ENUMVALUE {
         return elements::enumvalue_row(doc, rows, text, c, parent, f);
     }
-    elements::part_row(doc, rows, text, c, parent, f)
+    elements::member_row(doc, rows, text, c, parent, f)
 }
 
 // The content of an enumvalue or a member with row i, from after its start tag on.
@@ -111,7 +102,7 @@ fn part_content(
     if c.closes {
         return Answer::Done(f);
     }
-    leaf(doc, classes, rows, warnings, text, c.at, c.len, i, f)
+    part_children(doc, classes, rows, warnings, text, c.at, c.len, i, f)
 }
 
 // An enumvalue or a member of the definition with row i.
@@ -128,7 +119,7 @@ fn part(
     requires { ⌜ Ready (now doc) c f ⌝ ∗ ⌜ i < f .rows ⌝ ∗ ⌜ PartKind (c .kind) ⌝ ∗ ⌜ Classes (now classes) ⌝ }
     ensures { λ r. ⌜ Begins (now (doc .entry)) (c .kind) c (i + 1) f (lent (now (rows .entry)) (now (warnings .entry)) (now (text .entry))) (lent (now (rows .exit)) (now (warnings .exit)) (now (text .exit))) r ⌝ }
 {
-    match leaf_row(doc, rows, text, c, i + 1, f) {
+    match part_row(doc, rows, text, c, i + 1, f) {
         Answer::Fault(refusal) => Answer::Fault(refusal),
         Answer::Done(g) => part_content(doc, classes, rows, warnings, text, c, f.rows, g),
     }
@@ -140,7 +131,7 @@ fn complete(doc: &[u8], c: StartTag, f: Fill) -> bool
     ensures { λ r. ⌜ Completes (now (doc .entry)) c r ⌝ }
 {
     let v = c.values;
-    if c.kind == 10 {
+    if c.kind == kinds::ENUMVALUE {
         if v.suffix.kind == 0 {
             return false;
         }
@@ -152,7 +143,7 @@ fn complete(doc: &[u8], c: StartTag, f: Fill) -> bool
     if v.ty.kind == 0 {
         return false;
     }
-    rows::shown_some_signature(doc, v.ty)
+    shown::some_signature(doc, v.ty)
 }
 
 // Whether a part was incomplete, with this one.
@@ -177,7 +168,7 @@ fn keyed(doc: &[u8], c: StartTag, p: Parts, f: Fill) -> bool
     if c.values.ty.kind == 0 {
         return false;
     }
-    rows::shown_basic(doc, c.values.ty)
+    shown::basic_signature(doc, c.values.ty)
 }
 
 // The parts with one more.
@@ -210,13 +201,13 @@ fn holds(kind: u32, part: u32) -> bool
     requires { ⌜ DefinitionKind kind ⌝ }
     ensures { λ r. ⌜ Holds kind part r ⌝ }
 {
-    if kind == 8 {
+    if kind == kinds::SIMPLE_TYPE {
         return false;
     }
-    if kind == 9 {
-        return part == 10;
+    if kind == kinds::ENUM {
+        return part == kinds::ENUMVALUE;
     }
-    part == 12
+    part == kinds::MEMBER
 }
 
 // A part of the definition with row i, when these parts were seen before.
@@ -242,7 +233,7 @@ fn noted_part(
 }
 
 // A child of the definition with row i, when these parts were seen before.
-fn child(
+fn definition_child(
     doc: &[u8],
     classes: &[u8; 256],
     rows: &mut [u32],
@@ -267,7 +258,7 @@ fn child(
 }
 
 // The children of the definition with row i, whose name stands at a place.
-fn body(
+fn definition_children(
     doc: &[u8],
     classes: &[u8; 256],
     rows: &mut [u32],
@@ -305,7 +296,7 @@ fn body(
                     warnings: g.warnings,
                     text: g.text,
                 };
-                match child(doc, classes, rows, warnings, text, kind, c, i, p, h) {
+                match definition_child(doc, classes, rows, warnings, text, kind, c, i, p, h) {
                     Inner::Fault(refusal) => {
                         return Inner::Fault(refusal);
                     }
@@ -336,7 +327,7 @@ fn content(
     if c.closes {
         return Inner::Done(f, no_parts());
     }
-    body(
+    definition_children(
         doc,
         classes,
         rows,
@@ -359,13 +350,13 @@ fn tag_reason(doc: &[u8], c: StartTag, f: Fill) -> u32
     if v.name.kind == 0 {
         return 2;
     }
-    if 9 < c.kind {
+    if kinds::ENUM < c.kind {
         return 0;
     }
     if v.ty.kind == 0 {
         return 3;
     }
-    if rows::shown_some_signature(doc, v.ty) {
+    if shown::some_signature(doc, v.ty) {
         return 0;
     }
     4
@@ -376,18 +367,18 @@ fn parts_reason(kind: u32, p: Parts) -> u32
     ensures { λ r. ⌜ PartsTold kind p r ⌝ }
 {
     if p.broken {
-        if kind == 9 {
+        if kind == kinds::ENUM {
             return 5;
         }
         return 6;
     }
-    if kind == 11 {
+    if kind == kinds::STRUCT {
         if p.count == 0 {
             return 7;
         }
         return 0;
     }
-    if kind == 13 {
+    if kind == kinds::MAPPING {
         if p.count != 2 {
             return 8;
         }
@@ -441,7 +432,7 @@ fn definition_row(
     requires { ⌜ Ready (now doc) c f ⌝ ∗ ⌜ parent ≤ 1048576 ⌝ ∗ ⌜ DefinitionKind (c .kind) ⌝ }
     ensures { λ r. ⌜ Opening (now (doc .entry)) (c .kind) c parent f (now (rows .entry)) (now (rows .exit)) (now (text .entry)) (now (text .exit)) r ⌝ }
 {
-    if 9 < c.kind {
+    if kinds::ENUM < c.kind {
         return elements::untyped_row(doc, rows, text, c, c.kind, parent, f);
     }
     elements::typed_row(doc, rows, text, c, c.kind, parent, f)

@@ -10,7 +10,7 @@ use lib.Seq.{take-append-add, drop-append-add, take-append-le, take-all}
 use Rattle.slices.specs.Bytes.{if}
 use Rattle.utf8.specs.WellFormed.{illFormed}
 use Rattle.utf8.specs.WhiteSpace.{characters, codePoint, whiteSpace, leading, trimStart, trimEnd}
-use Rattle.utf8.specs.Trim.{Boundary, trailing}
+use Rattle.utf8.specs.Trim.{trailing}
 use Rattle.utf8.proofs.Texts.{All, joined, joined-append, all-append, Whole, whole, formed, none-whole, whole-append, whole-char, characters-whole}
 
 -- the first characters that are White_Space, and those after them
@@ -70,12 +70,6 @@ trails s w =
     rw (reverse-reverse (characters s), k .1) at (trail-cut (reverse (characters s)) (all-reverse (characters s) (k .0)))
 
 module _ (s : List ℕ) (h : illFormed s ≡ length s) where
-  -- a text may be cut where it begins once it is trimmed
-  pub start-cut : Boundary s (trimStart s)
-  start-cut =
-      let l = leads s (whole s h) in
-      record { inside = l .room; before = formed (l .before); after = formed (l .after) }
-
   rest : Trailing (drop (trimStart s) s) (trailing (drop (trimStart s) s))
   rest = trails (drop (trimStart s) s) (leads s (whole s h) .after)
 

@@ -6,13 +6,13 @@ use mathlib.Core.List.{List, [], _∷_, _++_}
 use native.Mathlib.Omega.{arith}
 use lib.ListN.{length, take, drop, getD, length-append, length-drop, take-append-drop, List·getD-append}
 use lib.Seq.{take-append-add, drop-append-add, getD-append-add, getD-drop, take-length, drop-length, take-all, take-add, drop-drop, drop-cons}
-use Rattle.utf8.specs.WellFormed.{sequence, illFormed}
+use Rattle.utf8.specs.WellFormed.{illFormed}
 use Rattle.utf8.specs.Trim.{Boundary}
 use Rattle.utf8.proofs.Sequences.{Followed, Char, char-shape, below}
-use Rattle.utf8.proofs.Texts.{All, joined, Whole, none-whole, whole, formed, whole-append, whole-char, after-whole, append-formed, sequence-char, ascii-char}
+use Rattle.utf8.proofs.Texts.{All, joined, Whole, none-whole, whole, formed, whole-append, whole-char, after-whole, append-formed, ascii-char}
 
 -- a byte that continues no character
-abbrev pub Lead : ℕ → Type 0
+abbrev Lead : ℕ → Type 0
 Lead b = 0x80 ≤ b → b ≤ 0xbf → ⊥
 
 pub followed-byte : (n : ℕ) (l : List ℕ) (i : ℕ) → Followed n l → i < n → (0x80 ≤ getD l i 0) × (getD l i 0 ≤ 0xbf)
@@ -22,7 +22,7 @@ followed-byte (suc n) (b ∷ l) zero f h = (f .0, f .1)
 followed-byte (suc n) (b ∷ l) (suc i) f h = followed-byte n l i (f .2) (omega arith)
 
 -- the first byte of a character continues none, and the others do
-pub char-lead : (c : List ℕ) → Char c → Lead (getD c 0 0)
+char-lead : (c : List ℕ) → Char c → Lead (getD c 0 0)
 char-lead [] h = absurd (omega (arith, h .some))
 char-lead (a ∷ c) h = char-shape a c h .leads .0
 
@@ -43,7 +43,7 @@ split (c ∷ cs) (suc k) h l g =
     rw (e, take-append-add c (joined cs) (suc k - length c), drop-append-add c (joined cs) (suc k - length c)) (whole-append (whole-char (h .0)) (r .0), r .1))
 
 -- a well-formed text may be cut before a byte that continues no character
-pub cut-lead : (s : List ℕ) (k : ℕ) → illFormed s ≡ length s → k < length s → Lead (getD s k 0) → Boundary s k
+cut-lead : (s : List ℕ) (k : ℕ) → illFormed s ≡ length s → k < length s → Lead (getD s k 0) → Boundary s k
 cut-lead s k h l g =
     let w = whole s h in
     let r = split (w .parts) k (w .all) (rw (w .is) l) (rw (w .is) g) in
@@ -64,11 +64,11 @@ module _ (s : List ℕ) (h : illFormed s ≡ length s) where
   cut-ascii k l g = cut-lead s k h l (omega arith)
 
 -- what follows characters in a well-formed text is well-formed
-pub rest-formed : (p x : List ℕ) → illFormed p ≡ length p → illFormed (p ++ x) ≡ length (p ++ x) → illFormed x ≡ length x
+rest-formed : (p x : List ℕ) → illFormed p ≡ length p → illFormed (p ++ x) ≡ length (p ++ x) → illFormed x ≡ length x
 rest-formed p x h k = omega (arith, after-whole x (whole p h), k, length-append p x)
 
 -- from one place where a text may be cut to a further one
-pub cut-add : (s : List ℕ) (a n : ℕ) → Boundary s a → Boundary (drop a s) n → Boundary s (a + n)
+cut-add : (s : List ℕ) (a n : ℕ) → Boundary s a → Boundary (drop a s) n → Boundary s (a + n)
 cut-add s a n b c = record {
   inside = omega (arith, b .inside, rw (length-drop a s) at (c .inside));
   before = rw (take-add a n s) (append-formed (take a s) (take n (drop a s)) (b .before) (c .before));
@@ -83,10 +83,6 @@ cut-past s a n b h w = cut-add s a n b record {
   after =
       rest-formed (take n (drop a s)) (drop n (drop a s)) (formed w) (rw (take-append-drop n (drop a s)) (b .after));
 }
-
-pub cut-sequence : (s : List ℕ) (a n : ℕ) → Boundary s a → n ≡ sequence (drop a s) → (n ≡ 0 → ⊥) → Boundary s (a + n)
-cut-sequence s a n b e z =
-    let c = sequence-char (drop a s) n e z in cut-past s a n b (rw (length-drop a s) at (c .1)) (whole-char (c .0))
 
 -- after a byte below 128
 pub cut-after-ascii : (s : List ℕ) (k : ℕ) → illFormed s ≡ length s → k < length s → getD s k 0 < 128 → Boundary s (k + 1)
@@ -109,10 +105,3 @@ part-formed s a n b c =
     below n (length (drop a s))
     (λ h. cut-lead (drop a s) n (b .after) h (rw (getD-drop a s n 0) (cut-is-lead s (a + n) c (omega (arith, length-drop a s)))) .before)
     (λ h. rw (take-all n (drop a s) h) (b .after))
-
--- a byte below 128 before a text, and after it
-pub cons-formed : (b : ℕ) (s : List ℕ) → b < 128 → illFormed s ≡ length s → illFormed (b ∷ s) ≡ length (b ∷ s)
-cons-formed b s h k = append-formed (b ∷ []) s (formed (whole-char (ascii-char h))) k
-
-pub snoc-formed : (s : List ℕ) (b : ℕ) → b < 128 → illFormed s ≡ length s → illFormed (s ++ b ∷ []) ≡ length (s ++ b ∷ [])
-snoc-formed s b h k = append-formed s (b ∷ []) k (formed (whole-char (ascii-char h)))

@@ -3,10 +3,15 @@
 use Prim.Native.Nat.{ℕ, zero, suc, _+_, _≤_, _<_}
 use mathlib.Core.Path.{_≡_, refl, ap, sym, _∙_}
 use mathlib.Core.List.{List, [], _∷_, _++_, append-nil, append-assoc}
+use mathlib.Core.Bool.{true}
+use borrow.Author.Tests.{ltb-true}
 use native.Mathlib.Nat.{add-zero}
 use native.Mathlib.Omega.{arith}
+use lib.Dec.{ltb}
 use lib.ListN.{length, take, drop, getD, length-append, length-drop, take-append-drop}
 use lib.Seq.{take-append-seam}
+use Rattle.slices.specs.Bytes.{all}
+use Rattle.slices.proofs.Runs.{both}
 use Rattle.utf8.specs.WellFormed.{sequence, onward, illFormedFrom, illFormed}
 use Rattle.utf8.specs.WhiteSpace.{charactersFrom, characters}
 use Rattle.utf8.proofs.Sequences.{Char, ascii-first, shape, shape-char, char-first}
@@ -91,7 +96,7 @@ parse zero s h = parse-first zero s (omega arith) (λ t g. record { parts = []; 
     nil (a ∷ t) g = absurd (omega arith)
 parse (suc n) s h = parse-first n s h (λ t g. parse n t g)
 
-pub parts-formed : (cs : List (List ℕ)) (x : List ℕ) → All cs → illFormed (joined cs ++ x) ≡ length (joined cs) + illFormed x
+parts-formed : (cs : List (List ℕ)) (x : List ℕ) → All cs → illFormed (joined cs ++ x) ≡ length (joined cs) + illFormed x
 unfolding illFormed
 parts-formed cs x h = past-chars cs x 0 h ∙ shifted x 0 (0 + length (joined cs)) ∙ omega arith
 
@@ -183,6 +188,9 @@ ascii-whole [] h = none-whole
 ascii-whole (b ∷ l) h =
     whole-append (whole-char (ascii-char (h 0 (omega arith)))) (ascii-whole l (λ i g. h (suc i) (omega arith)))
 
--- a text of bytes below 128
-pub ascii-formed : (s : List ℕ) → ((i : ℕ) → i < length s → getD s i 0 < 128) → illFormed s ≡ length s
-ascii-formed s h = formed (ascii-whole s h)
+-- the same by a test
+pub ascii : (l : List ℕ) → all (λ b. ltb b 128) l ≡ true → Whole l
+ascii [] h = none-whole
+ascii (b ∷ l) h =
+    let t = both (ltb b 128) (all (λ b. ltb b 128) l) h in
+    whole-append (whole-char (ascii-char (ltb-true b 128 (t .0)))) (ascii l (t .1))

@@ -6,3 +6,4 @@ pub mod Sequence
 pub mod Ascii
 pub mod Trim
 pub mod Cases
+pub mod Encoding

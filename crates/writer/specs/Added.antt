@@ -5,7 +5,7 @@ use mathlib.Core.Path.{_≡_}
 use mathlib.Core.List.{List}
 use lib.ListN.{length}
 use denote.Ref.{now, at-last}
-use Rattle.references.specs.Outcome.{Puts}
+use Rattle.answers.specs.Puts.{Puts}
 use Rattle.writer.specs.declared.Writer.{Writer}
 
 -- the same borrow, its pointer and its ghost name with it, of as many bytes; and the bytes are put at the count

@@ -5,8 +5,8 @@ ghost use mathlib.Core.List.{_++_};
 ghost use Prim.Native.Nat.{_+_, _*_, _<_, _^_};
 ghost use lib.ListN.{length};
 ghost use Rattle.scan.specs.Classes.{Classes};
+ghost use Rattle.answers.specs.Puts.{Puts};
 ghost use Rattle.references.specs.Escape.{escape};
-ghost use Rattle.references.specs.Outcome.{Puts};
 ghost use Rattle.writer.specs.Added.{Adds};
 
 pub struct Writer<'a> {
@@ -27,7 +27,7 @@ pub fn put<'a>(w: Writer<'a>, s: &[u8]) -> Writer<'a>
     ensures { λ r. ⌜ Adds (now (s .entry)) (w .entry) r ⌝ }
 {
     let n = w.len;
-    let len = references::put::put_bytes(&mut *w.buf, n, s);
+    let len = answers::put::put_bytes(&mut *w.buf, n, s);
     Writer { buf: w.buf, len }
 }
 

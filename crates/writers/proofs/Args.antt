@@ -14,18 +14,19 @@ use lib.Seq.{getD-drop}
 use Rattle.slices.specs.Bytes.{if, bytes, empty}
 use Rattle.tables.specs.Triple.{shown}
 use Rattle.scan.specs.Classes.{Classes}
-use Rattle.references.specs.Outcome.{Puts}
-use Rattle.references.proofs.Putting.{puts-then}
-use Rattle.items.specs.Words.{RowWords, rowOf, rowsOf, tripleAt, viewed, rowsShown}
+use Rattle.document.specs.Kinds as kinds
+use Rattle.answers.specs.Puts.{Puts}
+use Rattle.answers.proofs.Putting.{puts-then}
+use Rattle.items.specs.Words.{RowWords, rowOf, rowsOf, tripleAt, viewed, rowsShown, wordAt, isChild}
 use Rattle.items.specs.Written.{Annotation, Arg, Pair, pairs, optional, tag, closingTag, concat, element, writtenAnnotation, writtenArg}
-use Rattle.items.specs.Content.{Row, direction, childOf, annotationOf, annotations, argOf}
-use Rattle.writers.specs.Rows.{wordAt, wordsIn, rowAt, rowsIn, isChild, anyChild, SomeChild, Held, RowHeld, Last}
-use Rattle.writers.specs.Writes.{Scannable, annotationsIn, AnnotationsPut, nameAt, typeAt, directionAt, Room, ArgTagPut, ArgPut}
+use Rattle.items.specs.Content.{Row, direction, annotationOf, annotations, argOf}
+use Rattle.writers.specs.Rows.{wordsIn, rowAt, rowsIn, anyChild, SomeChild, Held, RowHeld, Last}
+use Rattle.writers.specs.Writes.{Scannable, annotationsIn, AnnotationsPut, nameAt, typeAt, directionAt, ArgTagPut, ArgPut, CountFits}
 use Rattle.writers.proofs.Scans.{rows-one}
 use Rattle.writers.proofs.Texts.{puts-as, present-shown, shown-one}
 
 -- the rows from row i on, in two parts
-pub shown-split : (d x ws : List ℕ) (i a b : ℕ) → rowsIn d x ws i (a + b) ≡ rowsIn d x ws i a ++ rowsIn d x ws (i + a) b
+shown-split : (d x ws : List ℕ) (i a b : ℕ) → rowsIn d x ws i (a + b) ≡ rowsIn d x ws i a ++ rowsIn d x ws (i + a) b
 shown-split d x ws i zero b = rw (zero-add b, add-zero i)
 shown-split d x ws i (suc a) b =
     let e : suc i + a ≡ i + suc a = omega arith in
@@ -39,9 +40,9 @@ pub shown-parts : (d x ws : List ℕ) (i a b j n : ℕ) → i + a ≡ j → n �
 shown-parts d x ws i a b j n e f =
     ap (λ m. rowsIn d x ws i m) f ∙ shown-split d x ws i a b ∙ ap (λ k. rowsIn d x ws i a ++ rowsIn d x ws k b) e
 
-pub annotations-append : (p : ℕ) (l m : List Row) → annotations p (l ++ m) ≡ annotations p l ++ annotations p m
+annotations-append : (p : ℕ) (l m : List Row) → annotations p (l ++ m) ≡ annotations p l ++ annotations p m
 annotations-append p [] m = refl
-annotations-append p (r ∷ l) m = go (childOf 6 p r) (annotations-append p l m)
+annotations-append p (r ∷ l) m = go (isChild kinds.annotation p (r .kind) (r .parent)) (annotations-append p l m)
   where
     go : (b : Bool) → annotations p (l ++ m) ≡ annotations p l ++ annotations p m → if b (annotationOf r ∷ annotations p (l ++ m)) (annotations p (l ++ m)) ≡ if b (annotationOf r ∷ annotations p l) (annotations p l) ++ annotations p m
     go true e = ap (_∷_ (annotationOf r)) e
@@ -54,7 +55,7 @@ pub record Clear (ws : List ℕ) (p i a : ℕ) : Type 0 where
 pub later-clear : {ws : List ℕ} {p i a : ℕ} → Clear ws p i (suc a) → Clear ws p (suc i) a
 later-clear h = record { none = λ k l m. h .none k (omega (arith, l)) (omega (arith, m)) }
 
-pub no-child : (d x ws : List ℕ) (kind p i : ℕ) {a : ℕ} → Clear ws p i (suc a) → childOf kind p (rowAt d x ws i) ≡ false
+pub no-child : (d x ws : List ℕ) (kind p i : ℕ) {a : ℕ} → Clear ws p i (suc a) → isChild kind p (rowAt d x ws i .kind) (rowAt d x ws i .parent) ≡ false
 no-child d x ws kind p i h =
     rw (getD-drop (i * 16) ws 1 0, ne-eqb (wordAt ws i 1) p (h .none i (omega arith) (omega arith)))
     (and-false (eqb (getD (drop (i * 16) ws) 0 0) kind))
@@ -89,7 +90,7 @@ own-annotations d x ws m i to h l =
 -- whether there are annotations
 pub any-annotation : (d x : List ℕ) (p : ℕ) (rs : List RowWords) → anyChild 6 p rs ≡ not (empty (annotations p (map (viewed d x) rs)))
 any-annotation d x p [] = refl
-any-annotation d x p (r ∷ rs) = go (isChild 6 p r) (any-annotation d x p rs)
+any-annotation d x p (r ∷ rs) = go (isChild kinds.annotation p (r .kind) (r .parent)) (any-annotation d x p rs)
   where
     go : (b : Bool) → anyChild 6 p rs ≡ not (empty (annotations p (map (viewed d x) rs))) → if b true (anyChild 6 p rs) ≡ not (empty (if b (annotationOf (viewed d x r) ∷ annotations p (map (viewed d x) rs)) (annotations p (map (viewed d x) rs))))
     go true e = refl
@@ -170,7 +171,7 @@ module _ {d x ws cl : List ℕ} {i to n : ℕ} (h : Scannable d x ws i to cl n) 
   pub arg-classes : Classes cl
   arg-classes = h .classes
 
-  pub arg-room : Room n 16777216
+  pub arg-room : CountFits n 16777216
   arg-room = record { fits = omega (arith, o, h .room) }
 
   module _ {t t₁ : List ℕ} {m : ℕ} (q : ArgTagPut d x ws i n t t₁ m) where

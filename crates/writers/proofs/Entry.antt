@@ -14,24 +14,23 @@ use lib.Seq.{getD-drop}
 use Rattle.slices.specs.Bytes.{if, bytes}
 use Rattle.tables.proofs.Tables.{empty-stands}
 use Rattle.scan.specs.Classes.{Classes}
-use Rattle.references.specs.Unescape.{Text, text, wrong}
-use Rattle.references.specs.Outcome.{Puts}
-use Rattle.references.specs.Entries.{Says, answerOf, leftOf}
-use Rattle.references.specs.Admission.{Finishes}
-use Rattle.references.specs.declared.Answer.{Answer}
+use Rattle.answers.specs.Text.{Text, text, wrong, Says, Finishes}
+use Rattle.answers.specs.Puts.{Puts}
+use Rattle.answers.specs.declared.TextAnswer.{TextAnswer}
 use Rattle.document.specs.Elements.{among}
 use Rattle.soundness.specs.Outcome.{Judges}
 use Rattle.soundness.specs.declared.Soundness.{Soundness}
 use Rattle.soundness.proofs.Rows.{judged-sound, judged-unsound}
-use Rattle.items.specs.Words.{rowOf, rowsOf, viewed, rowsShown}
+use Rattle.document.specs.Kinds as kinds
+use Rattle.items.specs.Words.{wordAt, Word, rowOf, rowsOf, viewed, rowsShown}
 use Rattle.items.specs.Sound.{sound, unsound, soundness}
 use Rattle.items.specs.Written.{Item, annotated, argument, method, signal, written, writtenMember}
 use Rattle.items.specs.Content.{Row, annotationOf, argOf, memberOf, itemOf, firstItem, content, contentAt}
-use Rattle.items.specs.Writing.{itemWritten, writing}
+use Rattle.items.specs.Writing.{itemWritten, writing, Writes}
 use Rattle.items.proofs.Rows.{row-at, length-rowsOf, sound-claimed, sound-held, sound-parent}
-use Rattle.writers.specs.Rows.{Word, wordAt, rowAt, Held, Last}
+use Rattle.writers.specs.Rows.{rowAt, Held, Last}
 use Rattle.writers.specs.Writes.{annotationAt, AnnotationPut, Scannable, ArgPut, tagOf, MemberScannable, MemberPut, Writable, ItemPut}
-use Rattle.writers.specs.Entry.{Admitted, WritesSound, Writes}
+use Rattle.writers.specs.Entry.{Admitted, WritesSound}
 use Rattle.writers.proofs.Scans.{last-all}
 use Rattle.writers.proofs.Texts.{puts-as}
 use Rattle.writers.proofs.Members.{member-row, member-classes, member-held, member-within}
@@ -54,7 +53,7 @@ module _ {k : ℕ} where
       or-false true = refl
       or-false false = refl
 
-pub ruleset kinds = (writable-three, writable-five, writable-six, writable-seven, needs)
+pub ruleset writable-kinds = (writable-three, writable-five, writable-six, writable-seven, needs)
 
 -- the content of row i
 drop-map : {A B : Type 0} (f : A → B) (i : ℕ) (l : List A) → drop i (map f l) ≡ map f (drop i l)
@@ -86,7 +85,7 @@ module _ (t : List Row) (i : ℕ) (r : Row) where
   item-seven : r .kind ≡ 7 → itemOf t i r ≡ some (argument (argOf t i r))
   item-seven e = rw (ne-eqb (r .kind) 3 (λ f. omega (arith, e, f)), ne-eqb (r .kind) 5 (λ f. omega (arith, e, f)), ne-eqb (r .kind) 6 (λ f. omega (arith, e, f)), eq-eqb (r .kind) 7 e)
 
-  item-none : among (r .kind) (3 ∷ 5 ∷ 6 ∷ 7 ∷ []) ≡ false → itemOf t i r ≡ none
+  item-none : among (r .kind) kinds.written ≡ false → itemOf t i r ≡ none
   item-none h = go (eqb (r .kind) 3) (eqb (r .kind) 5) (eqb (r .kind) 6) (eqb (r .kind) 7) h
     where
       go : (a b c d : Bool) → if a true (if b true (if c true (if d true false))) ≡ false → if a (some (method (memberOf t i r))) (if b (some (signal (memberOf t i r))) (if c (some (annotated (annotationOf r))) (if d (some (argument (argOf t i r))) none))) ≡ none
@@ -172,14 +171,14 @@ module _ {d x ws : List ℕ} {n : ℕ} (h : Admitted d x ws n) where
     pub admitted-held : i * 16 + 16 ≤ length ws
     admitted-held = omega (arith, l, admitted-rows .held)
 
-module _ {d x ws t t′ : List ℕ} {n i : ℕ} {r : Answer} where
+module _ {d x ws t t′ : List ℕ} {n i : ℕ} {r : TextAnswer} where
   pub no-row : n ≤ i → Says (wrong 20 i) (length t) t′ r → WritesSound d x ws n i t t′ r
   no-row h s = record { says = subst (λ o. Says (itemWritten i (length t) o) (length t) t′ r) (sym (content-past d x ws n i h)) s }
 
   pub no-kind : {k : ℕ} {b : Bool} → i < n → Word ws i 0 k → Writable k b → b ≡ false → Says (wrong 20 i) (length t) t′ r → WritesSound d x ws n i t t′ r
   no-kind {k} h w y e s =
       let f : rowAt d x ws i .kind ≡ k = getD-drop (i * 16) ws 0 0 ∙ sym (w .is) in
-      let g : among (rowAt d x ws i .kind) (3 ∷ 5 ∷ 6 ∷ 7 ∷ []) ≡ false = ap (λ z. among z (3 ∷ 5 ∷ 6 ∷ 7 ∷ [])) f ∙ sym (y .is) ∙ e in
+      let g : among (rowAt d x ws i .kind) kinds.written ≡ false = ap (λ z. among z kinds.written) f ∙ sym (y .is) ∙ e in
       record {
         says = subst (λ o. Says (itemWritten i (length t) o) (length t) t′ r) (sym (content-is d x ws n i h ∙ item-none (rowsShown d x ws n) i (rowAt d x ws i) g)) s;
       }
@@ -194,7 +193,7 @@ module _ {d x ws t t′ : List ℕ} {n i : ℕ} {r : Answer} where
 pub ruleset rows = (writable-true, admitted-scans, admitted-few, admitted-held, no-row, no-kind, row-written, needs)
 
 -- the answers
-module _ {d x ws t′ : List ℕ} {n i room : ℕ} {r : Answer} where
+module _ {d x ws t′ : List ℕ} {n i room : ℕ} {r : TextAnswer} where
   pub long-document : 1048576 < length d → Says (wrong 2 1048576) room t′ r → Writes d x ws n i room t′ r
   unfolding writing
   long-document h s = record { says = rw (lt-ltb 1048576 (length d) h) s }
@@ -215,8 +214,5 @@ module _ {d x ws t′ : List ℕ} {n i room : ℕ} {r : Answer} where
 
 pub admits : {d x ws : List ℕ} {n : ℕ} {z : Soundness} → length d ≤ 1048576 → length x ≤ 1048576 → Judges d x ws n z → z ≡ Soundness.Sound → Admitted d x ws n
 admits h k g e = record { document = h; text = k; rows = judged-sound g e }
-
-pub answered : (d x ws : List ℕ) (n i room : ℕ) (t : List ℕ) (r : Answer) → Writes d x ws n i room t r → (r ≡ answerOf (writing d x ws n i room)) × (t ≡ leftOf room (writing d x ws n i room))
-answered d x ws n i room t r w = (w .says .answer, w .says .left)
 
 pub ruleset entry = (long-document, long-text, not-sound, is-sound, admits, needs)

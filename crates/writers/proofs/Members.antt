@@ -14,15 +14,17 @@ use lib.Seq.{getD-drop}
 use Rattle.slices.specs.Bytes.{if, bytes, empty}
 use Rattle.tables.specs.Triple.{shown}
 use Rattle.scan.specs.Classes.{Classes}
+use Rattle.answers.specs.Puts.{Puts}
+use Rattle.answers.proofs.Putting.{puts-none, puts-then}
 use Rattle.references.specs.Escape.{escape}
-use Rattle.references.specs.Outcome.{Puts}
-use Rattle.references.proofs.Putting.{puts-none, puts-then}
+use Rattle.document.specs.Kinds as kinds
 use Rattle.items.proofs.Rows.{length-rowsOf}
-use Rattle.items.specs.Words.{RowWords, rowOf, rowsOf, tripleAt, viewed, rowsShown}
+use Rattle.items.specs.Words.{RowWords, rowOf, rowsOf, tripleAt, viewed, rowsShown, wordAt, isChild}
 use Rattle.items.specs.Written.{Annotation, Arg, Member, Pair, pair, pairs, named, tag, closingTag, concat, element, writtenAnnotation, writtenArg, writtenMember}
-use Rattle.items.specs.Content.{Row, childOf, annotations, argOf, args, memberOf}
-use Rattle.writers.specs.Rows.{wordAt, wordsIn, rowAt, rowsIn, isChild, anyChild, Child, SomeChildren, Held, RowHeld, Last, InOrder, Ordered, Orders, ChildOf}
-use Rattle.writers.specs.Writes.{Puttable, ShownPut, Scannable, annotationsIn, AnnotationsPut, ArgPut, ifArg, IfArgPut, Room, ArgsScannable, Turn, argsIn, NotesScannable, Inside, tagOf, MemberTagPut, MemberEndPut, MemberScannable, ChildrenPut, MemberPut}
+use Rattle.items.specs.Content.{Row, annotations, argOf, args, memberOf}
+use Rattle.items.specs.Order.{InOrder}
+use Rattle.writers.specs.Rows.{wordsIn, rowAt, rowsIn, anyChild, Child, SomeChildren, Held, RowHeld, Last, Ordered, Orders, ChildOf}
+use Rattle.writers.specs.Writes.{Puttable, ShownPut, Scannable, annotationsIn, AnnotationsPut, ArgPut, ifArg, IfArgPut, ArgsScannable, Turn, argsIn, NotesScannable, tagOf, MemberTagPut, MemberEndPut, MemberScannable, ChildrenPut, MemberPut, CountFits, KindPut}
 use Rattle.writers.proofs.Scans.{last-all}
 use Rattle.writers.proofs.Texts.{puts-as, present-shown, shown-one}
 use Rattle.writers.proofs.Args.{Clear, later-clear, no-child, before-clear, shown-parts, own-annotations, any-annotation, element-bare, element-full, empty-map}
@@ -90,7 +92,7 @@ one-arg d x ws m p k h =
     let table = rowsShown d x ws m in
     ap (λ n. concat (map writtenArg (args table p k (rowsIn d x ws k n)))) e
     ∙ ap (λ l. concat (map writtenArg (args table p k l))) (shown-one d x ws k (m - suc k))
-    ∙ argued-or (childOf 7 p (rowAt d x ws k)) (argOf table k (rowAt d x ws k)) (args table p (suc k) (rowsIn d x ws (suc k) (m - suc k)))
+    ∙ argued-or (isChild kinds.arg p (rowAt d x ws k .kind) (rowAt d x ws k .parent)) (argOf table k (rowAt d x ws k)) (args table p (suc k) (rowsIn d x ws (suc k) (m - suc k)))
 
 no-arg : (d x ws : List ℕ) (m p k : ℕ) → m - k ≡ 0 → argsIn d x ws m p k ≡ []
 unfolding argsIn
@@ -110,7 +112,7 @@ pub argue-begins : {d x ws t cl : List ℕ} {m p n : ℕ} {o : Bool} → ArgsSca
 argue-begins g = record { done = []; left = refl; puts = puts-none; most = omega arith; onward = omega arith; within = g .onward; same = refl }
 
 module _ {d x ws t₀ t : List ℕ} {m p n k l : ℕ} (g : Arguing d x ws m p n t₀ t k l) where
-  pub argue-ends : {cl : List ℕ} {o : Bool} → ArgsScannable d x ws m p o cl → m ≤ k → Inside (argsIn d x ws m p p) n t₀ t l
+  pub argue-ends : {cl : List ℕ} {o : Bool} → ArgsScannable d x ws m p o cl → m ≤ k → KindPut (argsIn d x ws m p p) n t₀ t l
   argue-ends w h =
       let z = no-arg d x ws m p k (omega (arith, h)) in
       record {
@@ -137,7 +139,7 @@ module _ {d x ws t₀ t : List ℕ} {m p n k l : ℕ} (g : Arguing d x ws m p n 
           same = s ∙ g .same;
         }
 
-    pub argue-turn : {cl : List ℕ} {o : Bool} → ArgsScannable d x ws m p o cl → Room n 2305843009213693952 → Turn d x ws m p o k cl l
+    pub argue-turn : {cl : List ℕ} {o : Bool} → ArgsScannable d x ws m p o cl → CountFits n 2305843009213693952 → Turn d x ws m p o k cl l
     argue-turn w s = record {
       document = w .document;
       text = w .text;
@@ -198,7 +200,7 @@ module _ {d x ws cl : List ℕ} {m i p : ℕ} (h : MemberScannable d x ws m i cl
   pub member-notes : NotesScannable d x ws m p cl
   member-notes = record { document = h .document; text = h .text; held = h .held; onward = omega (arith, e, h .within); classes = h .classes }
 
-  pub children-put : {t t₁ t₂ : List ℕ} {n l r : ℕ} → Inside (argsIn d x ws m p p) n t t₁ l → Inside (annotationsIn d x ws p p m) l t₁ t₂ r → ChildrenPut d x ws m i n t t₂ r
+  pub children-put : {t t₁ t₂ : List ℕ} {n l r : ℕ} → KindPut (argsIn d x ws m p p) n t t₁ l → KindPut (annotationsIn d x ws p p m) l t₁ t₂ r → ChildrenPut d x ws m i n t t₂ r
   children-put q w =
       let f : p ≡ suc i = omega (arith, e) in
       record {
@@ -206,14 +208,14 @@ module _ {d x ws cl : List ℕ} {m i p : ℕ} (h : MemberScannable d x ws m i cl
         most = omega (arith, q .most, w .most);
       }
 
-pub first-inside : {n : ℕ} → n < 6291500 → Room n 2305843009213693952
+pub first-inside : {n : ℕ} → n < 6291500 → CountFits n 2305843009213693952
 first-inside s = record { fits = omega (arith, s) }
 
-pub next-inside : {b t t₁ : List ℕ} {n l : ℕ} → n < 6291500 → Inside b n t t₁ l → Room l 2305843009213693952
+pub next-inside : {b t t₁ : List ℕ} {n l : ℕ} → n < 6291500 → KindPut b n t t₁ l → CountFits l 2305843009213693952
 next-inside s q = record { fits = omega (arith, s, q .most) }
 
 module _ {d x ws cl : List ℕ} {m p n : ℕ} (h : NotesScannable d x ws m p cl) where
-  pub notes-scan : Room n 2305843009213693952 → Scannable d x ws p m cl n
+  pub notes-scan : CountFits n 2305843009213693952 → Scannable d x ws p m cl n
   notes-scan s = record {
     document = h .document;
     text = h .text;
@@ -224,7 +226,7 @@ module _ {d x ws cl : List ℕ} {m p n : ℕ} (h : NotesScannable d x ws m p cl)
     room = omega (arith, h .held .few, s .fits);
   }
 
-  pub notes-inside : {t t′ : List ℕ} {r : ℕ} → AnnotationsPut d x ws p p m n t t′ r → Inside (annotationsIn d x ws p p m) n t t′ r
+  pub notes-inside : {t t′ : List ℕ} {r : ℕ} → AnnotationsPut d x ws p p m n t t′ r → KindPut (annotationsIn d x ws p p m) n t t′ r
   notes-inside q = record { puts = q .puts; most = omega (arith, q .most, h .held .few) }
 
 pub ruleset notes = (notes-scan, notes-inside, needs)
@@ -242,7 +244,7 @@ args-append : (t : List Row) (p i : ℕ) (l r : List Row) → args t p i (l ++ r
 args-append t p i [] r = rw (add-zero i)
 args-append t p i (y ∷ l) r =
     let e : suc i + length l ≡ i + suc (length l) = omega arith in
-    go (childOf 7 p y) (args-append t p (suc i) l r ∙ ap (λ k. args t p (suc i) l ++ args t p k r) e)
+    go (isChild kinds.arg p (y .kind) (y .parent)) (args-append t p (suc i) l r ∙ ap (λ k. args t p (suc i) l ++ args t p k r) e)
   where
     go : (b : Bool) → args t p (suc i) (l ++ r) ≡ args t p (suc i) l ++ args t p (i + suc (length l)) r → if b (argOf t i y ∷ args t p (suc i) (l ++ r)) (args t p (suc i) (l ++ r)) ≡ if b (argOf t i y ∷ args t p (suc i) l) (args t p (suc i) l) ++ args t p (i + suc (length l)) r
     go true f = ap (_∷_ (argOf t i y)) f
@@ -270,7 +272,7 @@ own-args d x ws m i h l =
 
 any-arg : (d x : List ℕ) (t : List Row) (p i : ℕ) (rs : List RowWords) → anyChild 7 p rs ≡ not (empty (args t p i (map (viewed d x) rs)))
 any-arg d x t p i [] = refl
-any-arg d x t p i (r ∷ rs) = go (isChild 7 p r) (any-arg d x t p (suc i) rs)
+any-arg d x t p i (r ∷ rs) = go (isChild kinds.arg p (r .kind) (r .parent)) (any-arg d x t p (suc i) rs)
   where
     go : (b : Bool) → anyChild 7 p rs ≡ not (empty (args t p (suc i) (map (viewed d x) rs))) → if b true (anyChild 7 p rs) ≡ not (empty (if b (argOf t i (viewed d x r) ∷ args t p (suc i) (map (viewed d x) rs)) (args t p (suc i) (map (viewed d x) rs))))
     go true e = refl

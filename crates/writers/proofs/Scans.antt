@@ -12,35 +12,10 @@ use lib.Dec.{T, eqb, ltb}
 use lib.ListN.{length, drop, getD}
 use lib.Seq.{drop-drop, getD-drop}
 use Rattle.slices.specs.Bytes.{if}
-use Rattle.items.specs.Words.{RowWords, rowOf, rowsOf}
+use Rattle.items.specs.Words.{RowWords, rowOf, rowsOf, wordAt, Word, isChild}
 use Rattle.items.proofs.Rows.{both-true}
-use Rattle.writers.specs.Rows.{Word, wordAt, Absent, wordsIn, Held, isChild, anyChild, Child, SomeChild, SomeChildren, strays, Stray, NextChild, InOrder, Ordered, ChildOf, Last}
-
--- the words of a triple
-module _ {ws : List ℕ} {i a : ℕ} (k : ℕ) where
-  pub word-first : Word ws i k a → a ≡ getD (drop (i * 16) ws) k 0
-  word-first e = e .is ∙ sym (getD-drop (i * 16) ws k 0)
-
-  pub word-second : Word ws i (k + 1) a → a ≡ getD (drop (i * 16) ws) (suc k) 0
-  word-second e =
-      let u : k + 1 ≡ suc k = omega arith in
-      e .is ∙ ap (λ j. wordAt ws i j) u ∙ sym (getD-drop (i * 16) ws (suc k) 0)
-
-  pub word-third : Word ws i (k + 2) a → a ≡ getD (drop (i * 16) ws) (suc (suc k)) 0
-  word-third e =
-      let u : k + 2 ≡ suc (suc k) = omega arith in
-      e .is ∙ ap (λ j. wordAt ws i j) u ∙ sym (getD-drop (i * 16) ws (suc (suc k)) 0)
-
-module _ {ws : List ℕ} {i k a : ℕ} (e : Word ws i k a) where
-  pub absent-not : (a ≡ 0 → ⊥) → Absent ws i k false
-  absent-not f = record { is = rw (sym (word-first k e), ne-eqb a 0 f) }
-
-  module _ (f : a ≡ 0) {b : ℕ} (g : Word ws i (k + 1) b) where
-    pub absent-no : (b ≡ 0 → ⊥) → Absent ws i k false
-    absent-no h = record { is = rw (sym (word-first k e), sym (word-second k g), eq-eqb a 0 f, ne-eqb b 0 h) }
-
-    pub absent-by : {c : ℕ} → b ≡ 0 → Word ws i (k + 2) c → Absent ws i k (eqb c 0)
-    absent-by h l = record { is = rw (sym (word-first k e), sym (word-second k g), sym (word-third k l), eq-eqb a 0 f, eq-eqb b 0 h) }
+use Rattle.items.specs.Order.{InOrder}
+use Rattle.writers.specs.Rows.{wordsIn, Held, anyChild, Child, SomeChild, SomeChildren, strays, Stray, NextChild, Ordered, ChildOf, Last}
 
 module _ {ws : List ℕ} {i kind p k : ℕ} (e : Word ws i 0 k) where
   pub child-kind : {q : ℕ} → k ≡ kind → Word ws i 1 q → Child ws kind p i (eqb q p)
@@ -262,4 +237,4 @@ last-ordered {p = p} {j = j} {r = r} c e m = record {
 pub last-all : {ws : List ℕ} {n j : ℕ} → j < n → Last ws n j n
 last-all h = record { onward = h; within = omega arith; none = λ k a b. absurd (omega (arith, a, b)) }
 
-pub ruleset scans = (absent-not, absent-no, absent-by, child-kind, child-other, stray-below, stray-other, stray-child, seek-begins, seek-ends, seek-found, seek-more, children-args, children-notes, pass-begins, pass-ends, pass-found, pass-more, order-strayed, order-begins, order-ends, order-child, order-other, order-few, order-held, order-last, last-ordered, last-all, needs)
+pub ruleset scans = (child-kind, child-other, stray-below, stray-other, stray-child, seek-begins, seek-ends, seek-found, seek-more, children-args, children-notes, pass-begins, pass-ends, pass-found, pass-more, order-strayed, order-begins, order-ends, order-child, order-other, order-few, order-held, order-last, last-ordered, last-all, needs)

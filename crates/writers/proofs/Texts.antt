@@ -15,16 +15,17 @@ use Rattle.slices.specs.Bytes.{if, bytes}
 use Rattle.tables.specs.Triple.{resolved, part, shown}
 use Rattle.tables.specs.declared.Triple.{Triple}
 use Rattle.scan.specs.Classes.{Classes}
+use Rattle.answers.specs.Puts.{Puts}
+use Rattle.answers.proofs.Putting.{puts-none, puts-then}
 use Rattle.references.specs.Escape.{escape}
-use Rattle.references.specs.Outcome.{Puts}
 use Rattle.references.proofs.Escapes.{escape-most}
-use Rattle.references.proofs.Putting.{puts-none, puts-then}
-use Rattle.items.specs.Words.{tripleAt, shownBy, absent, viewed}
+use Rattle.document.specs.Kinds as kinds
+use Rattle.items.specs.Words.{tripleAt, shownBy, absent, viewed, wordAt, Word, TripleIs, isChild}
 use Rattle.items.specs.Written.{Annotation, Pair, pair, pairs, optional, directions, tag, concat, writtenAnnotation}
-use Rattle.items.specs.Content.{present, direction, childOf, annotationOf, annotations}
-use Rattle.writers.specs.Rows.{Word, wordAt, Absent, Child, rowAt, rowsIn, RowHeld}
-use Rattle.writers.proofs.Scans.{rows-one, word-first, word-second, word-third}
-use Rattle.writers.specs.Writes.{ShownAt, Puttable, ShownPut, annotationAt, AnnotationPut, ifAnnotation, IfAnnotationPut, Scannable, annotationsIn, AnnotationsPut, nameAt, typeAt, directionAt, Room, PairsPut, DirectionPut, ArgTagPut}
+use Rattle.items.specs.Content.{present, direction, annotationOf, annotations}
+use Rattle.writers.specs.Rows.{Child, rowAt, rowsIn, RowHeld}
+use Rattle.writers.proofs.Scans.{rows-one}
+use Rattle.writers.specs.Writes.{ShownAt, Puttable, ShownPut, annotationAt, AnnotationPut, ifAnnotation, IfAnnotationPut, Scannable, annotationsIn, AnnotationsPut, nameAt, typeAt, directionAt, PairsPut, DirectionPut, ArgTagPut, CountFits}
 
 -- the same bytes in other words
 pub puts-as : {xs ys t t′ : List ℕ} {n r : ℕ} → xs ≡ ys → Puts xs n t t′ r → Puts ys n t t′ r
@@ -48,12 +49,8 @@ unfolding shown
 short-shown d x t h k = short-part d x (resolved d x t) h k
 
 module _ {d x ws : List ℕ} {i k : ℕ} (h : RowHeld d x ws i) where
-  pub shown-is : {a b c : ℕ} {s : List ℕ} → Word ws i k a → Word ws i (k + 1) b → Word ws i (k + 2) c → s ≡ shown d x (record { source = a; start = b; len = c }) → ShownAt d x ws i k s
-  shown-is {a} {b} {c} p q r g =
-      record {
-        is = g ∙ ap (shown d x) (λ j. record { source = word-first k p j; start = word-second k q j; len = word-third k r j });
-        short = rw g (short-shown d x (record { source = a; start = b; len = c }) (h .document) (h .text));
-      }
+  pub shown-is : {t : Triple} {s : List ℕ} → TripleIs ws i k t → s ≡ shown d x t → ShownAt d x ws i k s
+  shown-is {t} p g = record { is = g ∙ ap (shown d x) (p .is); short = rw g (short-shown d x t (h .document) (h .text)) }
 
   pub shown-put : {s before t t′ : List ℕ} {n r : ℕ} → ShownAt d x ws i k s → Puts (before ++ escape s) n t t′ r → ShownPut d x ws i k before n t t′ r
   shown-put {s} {before} e p = record {
@@ -137,7 +134,7 @@ one-annotation d x ws p k to h =
     let e : to - k ≡ suc (to - suc k) = omega (arith, h) in
     ap (λ m. concat (map writtenAnnotation (annotations p (rowsIn d x ws k m)))) e
     ∙ ap (λ l. concat (map writtenAnnotation (annotations p l))) (shown-one d x ws k (to - suc k))
-    ∙ noted-or (childOf 6 p (rowAt d x ws k)) (annotationOf (rowAt d x ws k)) (annotations p (rowsIn d x ws (suc k) (to - suc k)))
+    ∙ noted-or (isChild kinds.annotation p (rowAt d x ws k .kind) (rowAt d x ws k .parent)) (annotationOf (rowAt d x ws k)) (annotations p (rowsIn d x ws (suc k) (to - suc k)))
 
 no-annotation : (d x ws : List ℕ) (p k to : ℕ) → to - k ≡ 0 → annotationsIn d x ws p k to ≡ []
 unfolding annotationsIn
@@ -194,15 +191,15 @@ module _ {d x ws t₀ t : List ℕ} {p from to n k m : ℕ} (g : Annotating d x 
       note-room = omega (arith, h, g .most, g .onward, w .room)
 
 -- the attributes of an arg
-pub arg-unnamed : (d x : List ℕ) {ws t : List ℕ} {i n : ℕ} {b : Bool} → Absent ws i 2 b → b ≡ true → PairsPut (optional (nameAt d x ws i)) n t t n
+pub arg-unnamed : (d x : List ℕ) {ws t : List ℕ} {i n : ℕ} {y : Triple} {b : Bool} → TripleIs ws i 2 y → b ≡ absent y → b ≡ true → PairsPut (optional (nameAt d x ws i)) n t t n
 unfolding nameAt
-arg-unnamed d x a f = record { puts = rw (sym (a .is) ∙ f) puts-none; most = omega arith }
+arg-unnamed d x e a f = record { puts = rw (ap absent (sym (e .is)) ∙ sym a ∙ f) puts-none; most = omega arith }
 
 module _ {d x ws : List ℕ} {i n : ℕ} where
-  pub arg-named : {t t₁ t₂ : List ℕ} {m r : ℕ} {b : Bool} → Absent ws i 2 b → b ≡ false → ShownPut d x ws i 2 (bytes " name=\"") n t t₁ m → Puts (bytes "\"") m t₁ t₂ r → PairsPut (optional (nameAt d x ws i)) n t t₂ r
+  pub arg-named : {t t₁ t₂ : List ℕ} {m r : ℕ} {y : Triple} {b : Bool} → TripleIs ws i 2 y → b ≡ absent y → b ≡ false → ShownPut d x ws i 2 (bytes " name=\"") n t t₁ m → Puts (bytes "\"") m t₁ t₂ r → PairsPut (optional (nameAt d x ws i)) n t t₂ r
   unfolding nameAt
-  arg-named a f p q = record {
-    puts = rw (sym (a .is) ∙ f) (puts-as (name-bytes (shown d x (tripleAt 2 (drop (i * 16) ws)))) (puts-then (p .puts) q));
+  arg-named e a f p q = record {
+    puts = rw (ap absent (sym (e .is)) ∙ sym a ∙ f) (puts-as (name-bytes (shown d x (tripleAt 2 (drop (i * 16) ws)))) (puts-then (p .puts) q));
     most = omega (arith, p .most, q .counts);
   }
     where
@@ -219,17 +216,17 @@ module _ {d x ws : List ℕ} {i n : ℕ} where
       type-bytes : (s : List ℕ) → (bytes " type=\"" ++ escape s) ++ bytes "\"" ≡ pairs (record { key = bytes "type"; value = s } ∷ [])
       type-bytes s = ap (λ l. bytes " type=\"" ++ l) (sym (append-nil (escape s ++ 34 ∷ [])))
 
-module _ {d x ws cl : List ℕ} {i n : ℕ} (h : RowHeld d x ws i) (c : Classes cl) (s : Room n 8388608) where
+module _ {d x ws cl : List ℕ} {i n : ℕ} (h : RowHeld d x ws i) (c : Classes cl) (s : CountFits n 8388608) where
   pub arg-name : Puttable d x ws i 2 cl (bytes " name=\"") n
   arg-name = record { held = h; word = omega arith; classes = c; room = omega (arith, s .fits) }
 
   pub arg-type : Puttable d x ws i 5 cl (bytes " type=\"") n
   arg-type = record { held = h; word = omega arith; classes = c; room = omega (arith, s .fits) }
 
-pub name-end : {d x ws t t₁ : List ℕ} {i n : ℕ} (m : ℕ) → Room n 8388608 → ShownPut d x ws i 2 (bytes " name=\"") n t t₁ m → m + length (bytes "\"") < 2 ^ 62
+pub name-end : {d x ws t t₁ : List ℕ} {i n : ℕ} (m : ℕ) → CountFits n 8388608 → ShownPut d x ws i 2 (bytes " name=\"") n t t₁ m → m + length (bytes "\"") < 2 ^ 62
 name-end m s p = omega (arith, s .fits, p .most)
 
-pub type-end : {d x ws t t₁ : List ℕ} {i n : ℕ} (m : ℕ) → Room n 8388608 → ShownPut d x ws i 5 (bytes " type=\"") n t t₁ m → m + length (bytes "\"") < 2 ^ 62
+pub type-end : {d x ws t t₁ : List ℕ} {i n : ℕ} (m : ℕ) → CountFits n 8388608 → ShownPut d x ws i 5 (bytes " type=\"") n t t₁ m → m + length (bytes "\"") < 2 ^ 62
 type-end m s p = omega (arith, s .fits, p .most)
 
 module _ {ws : List ℕ} {i n w : ℕ} (e : Word ws i 14 w) where
@@ -248,25 +245,25 @@ module _ {ws : List ℕ} {i n w : ℕ} (e : Word ws i 14 w) where
         let z : wordAt ws i 14 ≡ suc (suc (w - 2)) = sym (e .is) ∙ omega (arith, f, g) in
         record { puts = rw z p; most = omega (arith, p .counts) }
 
-pub direction-room : (n : ℕ) → Room n 32 → n + length (bytes " direction=\"out\"") < 2 ^ 62
+pub direction-room : (n : ℕ) → CountFits n 32 → n + length (bytes " direction=\"out\"") < 2 ^ 62
 direction-room n s = omega (arith, s .fits)
 
-pub inward-room : (n : ℕ) → Room n 32 → n + length (bytes " direction=\"in\"") < 2 ^ 62
+pub inward-room : (n : ℕ) → CountFits n 32 → n + length (bytes " direction=\"in\"") < 2 ^ 62
 inward-room n s = omega (arith, s .fits)
 
 -- room for each attribute of an arg
-pub arg-start : (n : ℕ) → Room n 16777216 → n + length (bytes "<arg") < 2 ^ 62
+pub arg-start : (n : ℕ) → CountFits n 16777216 → n + length (bytes "<arg") < 2 ^ 62
 arg-start n s = omega (arith, s .fits)
 
-module _ {n m : ℕ} {t t₁ : List ℕ} (s : Room n 16777216) (p : Puts (bytes "<arg") n t t₁ m) where
-  pub first-room : Room m 8388608
+module _ {n m : ℕ} {t t₁ : List ℕ} (s : CountFits n 16777216) (p : Puts (bytes "<arg") n t t₁ m) where
+  pub first-room : CountFits m 8388608
   first-room = record { fits = omega (arith, s .fits, p .counts) }
 
   module _ {ps : List Pair} {l : ℕ} {t₂ : List ℕ} (q : PairsPut ps m t₁ t₂ l) where
-    pub second-room : Room l 8388608
+    pub second-room : CountFits l 8388608
     second-room = record { fits = omega (arith, s .fits, p .counts, q .most) }
 
-    pub third-room : {qs : List Pair} {k : ℕ} {t₃ : List ℕ} → PairsPut qs l t₂ t₃ k → Room k 32
+    pub third-room : {qs : List Pair} {k : ℕ} {t₃ : List ℕ} → PairsPut qs l t₂ t₃ k → CountFits k 32
     third-room w = record { fits = omega (arith, s .fits, p .counts, q .most, w .most) }
 
 pairs-append : (ps qs : List Pair) → pairs (ps ++ qs) ≡ pairs ps ++ pairs qs

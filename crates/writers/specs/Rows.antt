@@ -5,21 +5,12 @@ use mathlib.Core.Path.{_≡_}
 use mathlib.Core.List.{List, [], _∷_}
 use mathlib.Core.Bool.{Bool, true, false, not, _&&_, _||_}
 use lib.Dec.{eqb, ltb}
-use lib.ListN.{length, drop, getD}
+use lib.ListN.{length, drop}
 use Rattle.slices.specs.Bytes.{if}
-use Rattle.items.specs.Words.{RowWords, tripleAt, absent, rowOf, rowsOf, viewed, rowsShown}
+use Rattle.document.specs.Kinds as kinds
+use Rattle.items.specs.Words.{RowWords, wordAt, rowOf, rowsOf, isChild, viewed, rowsShown}
 use Rattle.items.specs.Content.{Row}
-
--- word k of row i
-abbrev pub wordAt : List ℕ → ℕ → ℕ → ℕ
-wordAt ws i k = getD ws (i * 16 + k) 0
-
-pub record Word (ws : List ℕ) (i k r : ℕ) : Type 0 where
-  pub is : r ≡ wordAt ws i k
-
--- whether the triple from word k on is absent
-pub record Absent (ws : List ℕ) (i k : ℕ) (r : Bool) : Type 0 where
-  pub is : r ≡ absent (tripleAt k (drop (i * 16) ws))
+use Rattle.items.specs.Order.{InOrder}
 
 -- row i, with the bytes that it shows
 abbrev pub rowAt : List ℕ → List ℕ → List ℕ → ℕ → Row
@@ -45,17 +36,13 @@ pub record RowHeld (d x ws : List ℕ) (i : ℕ) : Type 0 where
   pub few : i < 262144
   pub held : i * 16 + 16 ≤ length ws
 
--- a row of kind k whose parent's row plus one is p
-abbrev pub isChild : ℕ → ℕ → RowWords → Bool
-isChild k p r = eqb (r .kind) k && eqb (r .parent) p
-
 abbrev pub anyChild : ℕ → ℕ → List RowWords → Bool
 anyChild k p [] = false
-anyChild k p (r ∷ rs) = let t = anyChild k p rs in if (isChild k p r) true t
+anyChild k p (r ∷ rs) = let t = anyChild k p rs in if (isChild k p (r .kind) (r .parent)) true t
 
 -- whether row i is a child
 pub record Child (ws : List ℕ) (kind p i : ℕ) (r : Bool) : Type 0 where
-  pub is : r ≡ isChild kind p (rowOf (drop (i * 16) ws))
+  pub is : r ≡ isChild kind p (rowOf (drop (i * 16) ws) .kind) (rowOf (drop (i * 16) ws) .parent)
 
 -- whether a row from one on up to another is a child
 pub record SomeChild (ws : List ℕ) (kind p from to : ℕ) (r : Bool) : Type 0 where
@@ -63,7 +50,7 @@ pub record SomeChild (ws : List ℕ) (kind p from to : ℕ) (r : Bool) : Type 0 
 
 -- whether an arg or an annotation of row p less one is among the rows from row p on
 pub record SomeChildren (ws : List ℕ) (p to : ℕ) (r : Bool) : Type 0 where
-  pub is : r ≡ anyChild 7 p (wordsIn ws p (to - p)) || anyChild 6 p (wordsIn ws p (to - p))
+  pub is : r ≡ anyChild kinds.arg p (wordsIn ws p (to - p)) || anyChild kinds.annotation p (wordsIn ws p (to - p))
 
 -- r is the first row from a row on whose parent's row plus one is p, or the end
 pub record NextChild (ws : List ℕ) (p from to r : ℕ) : Type 0 where
@@ -78,19 +65,7 @@ pub record Last (ws : List ℕ) (n i r : ℕ) : Type 0 where
   pub within : r ≤ n
   pub none : (k : ℕ) → r ≤ k → k < n → wordAt ws k 1 ≡ suc i → ⊥
 
--- among n rows, what stands in a child of row i stands before the next child
-abbrev pub InOrder : List ℕ → ℕ → ℕ → Type 0
-InOrder ws n i =
-    (j m k : ℕ) →
-    i < j →
-    j < m →
-    m ≤ k →
-    k < n →
-    wordAt ws j 1 ≡ suc i →
-    wordAt ws m 1 ≡ suc i →
-    wordAt ws k 1 ≡ suc j →
-    ⊥
-
+-- whether the children of row i are in order
 pub record Ordered (ws : List ℕ) (n i : ℕ) (r : Bool) : Type 0 where
   pub is : r ≡ true → InOrder ws n i
   pub exact : InOrder ws n i → r ≡ true

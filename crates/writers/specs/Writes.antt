@@ -11,13 +11,14 @@ use lib.ListN.{length, drop}
 use Rattle.slices.specs.Bytes.{if, bytes}
 use Rattle.tables.specs.Triple.{shown}
 use Rattle.scan.specs.Classes.{Classes}
+use Rattle.answers.specs.Puts.{Puts}
 use Rattle.references.specs.Escape.{escape}
-use Rattle.references.specs.Outcome.{Puts}
+use Rattle.document.specs.Kinds as kinds
 use Rattle.document.specs.Elements.{among}
-use Rattle.items.specs.Words.{tripleAt, shownBy, rowOf, rowsShown}
+use Rattle.items.specs.Words.{tripleAt, shownBy, rowsShown, wordAt, isChild}
 use Rattle.items.specs.Written.{Annotation, Arg, Member, Pair, pairs, named, optional, directions, argPairs, closingTag, concat, writtenAnnotation, writtenArg, writtenMember, Item, written}
 use Rattle.items.specs.Content.{Row, present, direction, annotationOf, annotations, argOf, args, memberOf, contentAt}
-use Rattle.writers.specs.Rows.{wordAt, isChild, rowAt, rowsIn, Held, RowHeld, Last, Orders}
+use Rattle.writers.specs.Rows.{rowAt, rowsIn, Held, RowHeld, Last, Orders}
 
 -- what the triple from word k on of row i shows
 pub record ShownAt (d x ws : List ℕ) (i k : ℕ) (s : List ℕ) : Type 0 where
@@ -46,7 +47,7 @@ pub record AnnotationPut (d x ws : List ℕ) (i n : ℕ) (t t′ : List ℕ) (r 
 
 -- the same, if it is one of row p less one
 unfoldable pub ifAnnotation : List ℕ → List ℕ → List ℕ → ℕ → ℕ → List ℕ
-ifAnnotation d x ws p i = if (isChild 6 p (rowOf (drop (i * 16) ws))) (annotationAt d x ws i) []
+ifAnnotation d x ws p i = if (isChild kinds.annotation p (rowAt d x ws i .kind) (rowAt d x ws i .parent)) (annotationAt d x ws i) []
 
 pub record IfAnnotationPut (d x ws : List ℕ) (p i n : ℕ) (t t′ : List ℕ) (r : ℕ) : Type 0 where
   pub puts : Puts (ifAnnotation d x ws p i) n t t′ r
@@ -83,7 +84,7 @@ unfoldable pub directionAt : List ℕ → ℕ → List Pair
 directionAt ws i = directions (direction (wordAt ws i 14))
 
 -- there is room to count so many more
-pub record Room (n more : ℕ) : Type 0 where
+pub record CountFits (n more : ℕ) : Type 0 where
   pub fits : n + more < 2 ^ 62
 
 -- attributes put
@@ -107,7 +108,7 @@ pub record ArgPut (d x ws : List ℕ) (i to n : ℕ) (t t′ : List ℕ) (r : �
 
 -- row i of the first m rows as an arg, if it is one of row p less one
 unfoldable pub ifArg : List ℕ → List ℕ → List ℕ → ℕ → ℕ → ℕ → List ℕ
-ifArg d x ws m p i = if (isChild 7 p (rowOf (drop (i * 16) ws))) (writtenArg (argOf (rowsShown d x ws m) i (rowAt d x ws i))) []
+ifArg d x ws m p i = if (isChild kinds.arg p (rowAt d x ws i .kind) (rowAt d x ws i .parent)) (writtenArg (argOf (rowsShown d x ws m) i (rowAt d x ws i))) []
 
 pub record IfArgPut (d x ws : List ℕ) (m p i n : ℕ) (t t′ : List ℕ) (r : ℕ) : Type 0 where
   pub puts : Puts (ifArg d x ws m p i) n t t′ r
@@ -146,12 +147,12 @@ pub record NotesScannable (d x ws : List ℕ) (m p : ℕ) (cl : List ℕ) : Type
   pub classes : Classes cl
 
 -- children of one kind put
-pub record Inside (b : List ℕ) (n : ℕ) (t t′ : List ℕ) (r : ℕ) : Type 0 where
+pub record KindPut (b : List ℕ) (n : ℕ) (t t′ : List ℕ) (r : ℕ) : Type 0 where
   pub puts : Puts b n t t′ r
   pub most : r ≤ n + 1152921504606846976
 
 abbrev pub tagOf : ℕ → List ℕ
-tagOf kind = if (eqb kind 3) (bytes "method") (bytes "signal")
+tagOf kind = if (eqb kind kinds.method) (bytes "method") (bytes "signal")
 
 pub record MemberTagPut (d x ws : List ℕ) (i kind : ℕ) (t t′ : List ℕ) (r : ℕ) : Type 0 where
   pub puts : Puts (60 ∷ tagOf kind ++ (bytes " name=\"" ++ escape (shown d x (tripleAt 2 (drop (i * 16) ws))))) 0 t t′ r
@@ -175,9 +176,9 @@ pub record ChildrenPut (d x ws : List ℕ) (m i n : ℕ) (t t′ : List ℕ) (r 
 pub record MemberPut (d x ws : List ℕ) (m i kind : ℕ) (t t′ : List ℕ) (r : ℕ) : Type 0 where
   pub puts : Puts (writtenMember (tagOf kind) (memberOf (rowsShown d x ws m) i (rowAt d x ws i))) 0 t t′ r
 
--- whether rows of a kind are written: 3, 5, 6 and 7 are
+-- whether rows of a kind are written
 pub record Writable (kind : ℕ) (r : Bool) : Type 0 where
-  pub is : r ≡ among kind (3 ∷ 5 ∷ 6 ∷ 7 ∷ [])
+  pub is : r ≡ among kind kinds.written
 
 -- row i of the first m rows
 pub record ItemPut (d x ws : List ℕ) (m i : ℕ) (t t′ : List ℕ) (r : ℕ) : Type 0 where

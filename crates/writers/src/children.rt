@@ -1,37 +1,17 @@
 // The children of a row: whether there are some, where the next one is, where their own children end.
+use document::kinds;
 ghost use mathlib.Core.Path.{_≡_};
 ghost use Prim.Native.Nat.{_*_, _+_, _≤_, _<_};
 ghost use lib.ListN.{length};
-ghost use Rattle.writers.specs.Rows.{Word, Absent, Child, SomeChild, SomeChildren, NextChild, Stray, Held, Ordered, ChildOf, Last};
-
-// Word k of row i.
-pub fn word_at(rows: &[u32], i: usize, k: usize) -> u32
-    requires { ⌜ i < 262144 ⌝ ∗ ⌜ k < 16 ⌝ ∗ ⌜ i * 16 + 16 ≤ length (now rows) ⌝ }
-    ensures { λ r. ⌜ Word (now (rows .entry)) i k r ⌝ }
-{
-    rows[i * 16 + k]
-}
+ghost use Rattle.items.specs.Words.{Word};
+ghost use Rattle.writers.specs.Rows.{Child, SomeChild, SomeChildren, NextChild, Stray, Held, Ordered, ChildOf, Last};
 
 // The parent's row of row i, plus one.
 fn parent_at(rows: &[u32], i: usize) -> usize
     requires { ⌜ i < 262144 ⌝ ∗ ⌜ i * 16 + 16 ≤ length (now rows) ⌝ }
     ensures { λ r. ⌜ Word (now (rows .entry)) i 1 r ⌝ }
 {
-    word_at(rows, i, 1) as usize
-}
-
-// Whether the triple from word k on of row i is three zeros.
-pub fn is_absent(rows: &[u32], i: usize, k: usize) -> bool
-    requires { ⌜ i < 262144 ⌝ ∗ ⌜ k ≤ 11 ⌝ ∗ ⌜ i * 16 + 16 ≤ length (now rows) ⌝ }
-    ensures { λ r. ⌜ Absent (now (rows .entry)) i k r ⌝ }
-{
-    if word_at(rows, i, k) != 0 {
-        return false;
-    }
-    if word_at(rows, i, k + 1) != 0 {
-        return false;
-    }
-    word_at(rows, i, k + 2) == 0
+    items::word(rows, i, 1) as usize
 }
 
 // Whether row i is of a kind, and its parent's row plus one is p.
@@ -39,7 +19,7 @@ pub fn is_child(rows: &[u32], i: usize, kind: u32, p: usize) -> bool
     requires { ⌜ i < 262144 ⌝ ∗ ⌜ i * 16 + 16 ≤ length (now rows) ⌝ }
     ensures { λ r. ⌜ Child (now (rows .entry)) kind p i r ⌝ }
 {
-    if word_at(rows, i, 0) == kind {
+    if items::word(rows, i, 0) == kind {
         return parent_at(rows, i) == p;
     }
     false
@@ -65,10 +45,10 @@ pub fn has_children(rows: &[u32], p: usize, to: usize) -> bool
     requires { ⌜ p ≤ to ⌝ ∗ ⌜ to ≤ 262144 ⌝ ∗ ⌜ to * 16 ≤ length (now rows) ⌝ }
     ensures { λ r. ⌜ SomeChildren (now (rows .entry)) p to r ⌝ }
 {
-    if has_child(rows, p, to, 7, p) {
+    if has_child(rows, p, to, kinds::ARG, p) {
         return true;
     }
-    has_child(rows, p, to, 6, p)
+    has_child(rows, p, to, kinds::ANNOTATION, p)
 }
 
 // The first row from one on up to another whose parent's row plus one is p, or the other.

@@ -1,18 +1,17 @@
 // The four writers: method, signal, annotation and arg, from sound rows.
 ghost use Prim.Native.Nat.{_+_, _*_, _≤_, _<_, _^_};
-ghost use mathlib.Core.Path.{_≡_};
 ghost use mathlib.Core.Bool.{true};
 ghost use lib.ListN.{length};
 ghost use Rattle.scan.specs.Classes.{Classes};
-ghost use Rattle.references.specs.Entries.{answerOf, leftOf};
+ghost use Rattle.items.specs.Words.{Word};
 ghost use Rattle.items.specs.Written.{optional};
-ghost use Rattle.items.specs.Writing.{writing};
-ghost use Rattle.writers.specs.Rows.{Word, RowHeld};
-ghost use Rattle.writers.specs.Writes.{ShownAt, Puttable, ShownPut, AnnotationPut, IfAnnotationPut, Scannable, AnnotationsPut, Room, PairsPut, nameAt, typeAt, DirectionPut, ArgTagPut, ArgPut, ArgsScannable, Turn, IfArgPut, Inside, argsIn, NotesScannable, annotationsIn, MemberTagPut, MemberEndPut, MemberScannable, ChildrenPut, MemberPut, Writable, ItemPut};
+ghost use Rattle.items.specs.Writing.{Writes};
+ghost use Rattle.writers.specs.Rows.{RowHeld};
+ghost use Rattle.writers.specs.Writes.{ShownAt, Puttable, ShownPut, AnnotationPut, IfAnnotationPut, Scannable, AnnotationsPut, PairsPut, nameAt, typeAt, DirectionPut, ArgTagPut, ArgPut, ArgsScannable, Turn, IfArgPut, argsIn, NotesScannable, annotationsIn, MemberTagPut, MemberEndPut, MemberScannable, ChildrenPut, MemberPut, Writable, ItemPut, CountFits, KindPut};
 ghost use Rattle.writers.specs.Entry.{Admitted, WritesSound};
-use references::Answer;
+use answers::TextAnswer;
+use document::kinds;
 use soundness::Soundness;
-use tables::Triple;
 
 mod children;
 
@@ -21,12 +20,7 @@ fn shown_at<'a>(document: &'a [u8], text: &'a [u8], rows: &[u32], i: usize, k: u
     requires { ⌜ RowHeld (now document) (now text) (now rows) i ⌝ ∗ ⌜ k ≤ 11 ⌝ }
     ensures { λ r. ⌜ ShownAt (now (document .entry)) (now (text .entry)) (now (rows .entry)) i k (now r) ⌝ }
 {
-    let t = Triple {
-        source: children::word_at(rows, i, k),
-        start: children::word_at(rows, i, k + 1),
-        len: children::word_at(rows, i, k + 2),
-    };
-    tables::lookup(document, text, t)
+    tables::lookup(document, text, items::triple(rows, i, k))
 }
 
 // Puts bytes as they are, then, escaped, what the triple from word k on of row i shows.
@@ -100,7 +94,7 @@ fn put_if_annotation<'a>(
     requires { ⌜ RowHeld (now document) (now text) (now rows) i ⌝ ∗ ⌜ Classes (now classes) ⌝ ∗ ⌜ n + 16777216 < 2 ^ 62 ⌝ }
     ensures { λ r. ⌜ IfAnnotationPut (now (document .entry)) (now (text .entry)) (now (rows .entry)) p i n (now (out .entry)) (now (out .exit)) r ⌝ }
 {
-    if children::is_child(rows, i, 6, p) {
+    if children::is_child(rows, i, kinds::ANNOTATION, p) {
         return put_annotation(document, text, rows, i, classes, out, n);
     }
     n
@@ -140,10 +134,10 @@ fn put_arg_name<'a>(
     out: &mut [u8],
     n: usize,
 ) -> usize
-    requires { ⌜ RowHeld (now document) (now text) (now rows) i ⌝ ∗ ⌜ Classes (now classes) ⌝ ∗ ⌜ Room n 8388608 ⌝ }
+    requires { ⌜ RowHeld (now document) (now text) (now rows) i ⌝ ∗ ⌜ Classes (now classes) ⌝ ∗ ⌜ CountFits n 8388608 ⌝ }
     ensures { λ r. ⌜ PairsPut (optional (nameAt (now (document .entry)) (now (text .entry)) (now (rows .entry)) i)) n (now (out .entry)) (now (out .exit)) r ⌝ }
 {
-    if children::is_absent(rows, i, 2) {
+    if items::is_absent(items::triple(rows, i, 2)) {
         return n;
     }
     let named = put_shown(document, text, rows, i, 2, b" name=\"", classes, out, n);
@@ -160,7 +154,7 @@ fn put_arg_type<'a>(
     out: &mut [u8],
     n: usize,
 ) -> usize
-    requires { ⌜ RowHeld (now document) (now text) (now rows) i ⌝ ∗ ⌜ Classes (now classes) ⌝ ∗ ⌜ Room n 8388608 ⌝ }
+    requires { ⌜ RowHeld (now document) (now text) (now rows) i ⌝ ∗ ⌜ Classes (now classes) ⌝ ∗ ⌜ CountFits n 8388608 ⌝ }
     ensures { λ r. ⌜ PairsPut (typeAt (now (document .entry)) (now (text .entry)) (now (rows .entry)) i) n (now (out .entry)) (now (out .exit)) r ⌝ }
 {
     let typed = put_shown(document, text, rows, i, 5, b" type=\"", classes, out, n);
@@ -169,10 +163,10 @@ fn put_arg_type<'a>(
 
 // The direction of the arg in row i, if it has one.
 fn put_direction(rows: &[u32], i: usize, out: &mut [u8], n: usize) -> usize
-    requires { ⌜ i < 262144 ⌝ ∗ ⌜ i * 16 + 16 ≤ length (now rows) ⌝ ∗ ⌜ Room n 32 ⌝ }
+    requires { ⌜ i < 262144 ⌝ ∗ ⌜ i * 16 + 16 ≤ length (now rows) ⌝ ∗ ⌜ CountFits n 32 ⌝ }
     ensures { λ r. ⌜ DirectionPut (now (rows .entry)) i n (now (out .entry)) (now (out .exit)) r ⌝ }
 {
-    let direction = children::word_at(rows, i, 14);
+    let direction = items::word(rows, i, 14);
     if direction == 0 {
         return n;
     }
@@ -192,7 +186,7 @@ fn put_arg_tag<'a>(
     out: &mut [u8],
     n: usize,
 ) -> usize
-    requires { ⌜ RowHeld (now document) (now text) (now rows) i ⌝ ∗ ⌜ Classes (now classes) ⌝ ∗ ⌜ Room n 16777216 ⌝ }
+    requires { ⌜ RowHeld (now document) (now text) (now rows) i ⌝ ∗ ⌜ Classes (now classes) ⌝ ∗ ⌜ CountFits n 16777216 ⌝ }
     ensures { λ r. ⌜ ArgTagPut (now (document .entry)) (now (text .entry)) (now (rows .entry)) i n (now (out .entry)) (now (out .exit)) r ⌝ }
 {
     let tagged = writer::put_text(out, n, b"<arg");
@@ -217,7 +211,7 @@ fn put_arg<'a>(
 {
     let tagged = put_arg_tag(document, text, rows, i, classes, out, n);
     let p = i + 1;
-    if children::has_child(rows, p, to, 6, p) {
+    if children::has_child(rows, p, to, kinds::ANNOTATION, p) {
         let opened = writer::put_text(out, tagged, b">");
         let noted = put_annotations(document, text, rows, p, p, to, classes, out, opened);
         return writer::put_text(out, noted, b"</arg>");
@@ -241,7 +235,7 @@ fn put_if_arg<'a>(
     requires { ⌜ Turn (now document) (now text) (now rows) count p ordered i (now classes) n ⌝ }
     ensures { λ r. ⌜ IfArgPut (now (document .entry)) (now (text .entry)) (now (rows .entry)) count p i n (now (out .entry)) (now (out .exit)) r ⌝ }
 {
-    if children::is_child(rows, i, 7, p) {
+    if children::is_child(rows, i, kinds::ARG, p) {
         let to = children::last_child(rows, count, i, p, ordered);
         return put_arg(document, text, rows, i, to, classes, out, n);
     }
@@ -260,8 +254,8 @@ fn put_args<'a>(
     out: &mut [u8],
     n: usize,
 ) -> usize
-    requires { ⌜ ArgsScannable (now document) (now text) (now rows) count p ordered (now classes) ⌝ ∗ ⌜ Room n 2305843009213693952 ⌝ }
-    ensures { λ r. ⌜ Inside (argsIn (now (document .entry)) (now (text .entry)) (now (rows .entry)) count p p) n (now (out .entry)) (now (out .exit)) r ⌝ }
+    requires { ⌜ ArgsScannable (now document) (now text) (now rows) count p ordered (now classes) ⌝ ∗ ⌜ CountFits n 2305843009213693952 ⌝ }
+    ensures { λ r. ⌜ KindPut (argsIn (now (document .entry)) (now (text .entry)) (now (rows .entry)) count p p) n (now (out .entry)) (now (out .exit)) r ⌝ }
 {
     let mut m = n;
     let mut k = p;
@@ -283,8 +277,8 @@ fn put_notes<'a>(
     out: &mut [u8],
     n: usize,
 ) -> usize
-    requires { ⌜ NotesScannable (now document) (now text) (now rows) count p (now classes) ⌝ ∗ ⌜ Room n 2305843009213693952 ⌝ }
-    ensures { λ r. ⌜ Inside (annotationsIn (now (document .entry)) (now (text .entry)) (now (rows .entry)) p p count) n (now (out .entry)) (now (out .exit)) r ⌝ }
+    requires { ⌜ NotesScannable (now document) (now text) (now rows) count p (now classes) ⌝ ∗ ⌜ CountFits n 2305843009213693952 ⌝ }
+    ensures { λ r. ⌜ KindPut (annotationsIn (now (document .entry)) (now (text .entry)) (now (rows .entry)) p p count) n (now (out .entry)) (now (out .exit)) r ⌝ }
 {
     put_annotations(document, text, rows, p, p, count, classes, out, n)
 }
@@ -302,7 +296,7 @@ fn put_member_tag<'a>(
     requires { ⌜ RowHeld (now document) (now text) (now rows) i ⌝ ∗ ⌜ Classes (now classes) ⌝ }
     ensures { λ r. ⌜ MemberTagPut (now (document .entry)) (now (text .entry)) (now (rows .entry)) i kind (now (out .entry)) (now (out .exit)) r ⌝ }
 {
-    if kind == 3 {
+    if kind == kinds::METHOD {
         return put_shown(
             document,
             text,
@@ -333,7 +327,7 @@ fn put_member_end(kind: u32, out: &mut [u8], n: usize) -> usize
     requires { ⌜ n + 16 < 2 ^ 62 ⌝ }
     ensures { λ r. ⌜ MemberEndPut kind n (now (out .entry)) (now (out .exit)) r ⌝ }
 {
-    if kind == 3 {
+    if kind == kinds::METHOD {
         return writer::put_text(out, n, b"</method>");
     }
     writer::put_text(out, n, b"</signal>")
@@ -386,16 +380,16 @@ fn put_member<'a>(
 fn is_writable(kind: u32) -> bool
     ensures { λ r. ⌜ Writable kind r ⌝ }
 {
-    if kind == 3 {
+    if kind == kinds::METHOD {
         return true;
     }
-    if kind == 5 {
+    if kind == kinds::SIGNAL {
         return true;
     }
-    if kind == 6 {
+    if kind == kinds::ANNOTATION {
         return true;
     }
-    kind == 7
+    kind == kinds::ARG
 }
 
 // Row i, whose kind is given.
@@ -412,10 +406,10 @@ fn put_item<'a>(
     requires { ⌜ MemberScannable (now document) (now text) (now rows) count i (now classes) ⌝ ∗ ⌜ Word (now rows) i 0 kind ⌝ ∗ ⌜ Writable kind true ⌝ }
     ensures { λ r. ⌜ ItemPut (now (document .entry)) (now (text .entry)) (now (rows .entry)) count i (now (out .entry)) (now (out .exit)) r ⌝ }
 {
-    if kind == 6 {
+    if kind == kinds::ANNOTATION {
         return put_annotation(document, text, rows, i, classes, out, 0);
     }
-    if kind == 7 {
+    if kind == kinds::ARG {
         return put_arg(document, text, rows, i, count, classes, out, 0);
     }
     put_member(document, text, rows, count, i, kind, classes, out)
@@ -429,20 +423,20 @@ fn write_sound<'a>(
     claimed: usize,
     row: usize,
     out: &mut [u8],
-) -> Answer
+) -> TextAnswer
     requires { ⌜ Admitted (now document) (now text) (now rows) claimed ⌝ }
     ensures { λ r. ⌜ WritesSound (now (document .entry)) (now (text .entry)) (now (rows .entry)) claimed row (now (out .entry)) (now (out .exit)) r ⌝ }
 {
     if claimed <= row {
-        return references::refuse(out, 20, row);
+        return answers::refuse(out, 20, row);
     }
-    let kind = children::word_at(rows, row, 0);
+    let kind = items::word(rows, row, 0);
     if is_writable(kind) {
         let classes = scan::classes();
         let n = put_item(document, text, rows, claimed, row, kind, &classes, out);
-        return references::finish(out, n, 21, n);
+        return answers::finish(out, n, 21, n);
     }
-    references::refuse(out, 20, row)
+    answers::refuse(out, 20, row)
 }
 
 // Writes a method, a signal, an annotation or an arg. Refused with 2 for a document or a text of more than 1,048,576 bytes,
@@ -455,18 +449,17 @@ pub fn write<'a>(
     claimed: usize,
     row: usize,
     out: &mut [u8],
-) -> Answer
-    ensures answer { λ r. ⌜ r ≡ answerOf (writing (now (document .entry)) (now (text .entry)) (now (rows .entry)) claimed row (length (now (out .entry)))) ⌝ }
-    ensures left { λ r. ⌜ now (out .exit) ≡ leftOf (length (now (out .entry))) (writing (now (document .entry)) (now (text .entry)) (now (rows .entry)) claimed row (length (now (out .entry)))) ⌝ }
+) -> TextAnswer
+    ensures { λ r. ⌜ Writes (now (document .entry)) (now (text .entry)) (now (rows .entry)) claimed row (length (now (out .entry))) (now (out .exit)) r ⌝ }
 {
     if 1048576 < document.len() {
-        return references::refuse(out, 2, 1048576);
+        return answers::refuse(out, 2, 1048576);
     }
     if 1048576 < text.len() {
-        return references::refuse(out, 2, 1048576);
+        return answers::refuse(out, 2, 1048576);
     }
     match soundness::check(document, text, rows, claimed) {
-        Soundness::Unsound(place) => references::refuse(out, 19, place),
+        Soundness::Unsound(place) => answers::refuse(out, 19, place),
         Soundness::Sound => write_sound(document, text, rows, claimed, row, out),
     }
 }

@@ -5,13 +5,14 @@ use mathlib.Core.Path.{_≡_}
 use mathlib.Core.List.{[], _∷_}
 use mathlib.Core.Bool.{true}
 use lib.ListN.{length}
+use Rattle.document.specs.Kinds as kinds
 use Rattle.document.specs.Outcome.{lent}
 use Rattle.document.proofs.Loops.{Sofar, loops}
 use Rattle.interfaces.proofs.interface_children.Statement.{statement}
 use Rattle.interfaces.proofs.interface_children.Tie as tie
 
 abbrev Inv-loop : tie.InvT-loop
-Inv-loop doc classes rows₀ warnings₀ text₀ at len i g₀ rows warnings text g = Sofar doc (3 ∷ 4 ∷ 5 ∷ 6 ∷ 8 ∷ 9 ∷ 11 ∷ 13 ∷ []) true at len i g₀ (lent rows₀ warnings₀ text₀) g (lent rows warnings text) × (length rows ≡ length rows₀) × (length warnings ≡ length warnings₀) × (length text ≡ length text₀)
+Inv-loop doc classes rows₀ warnings₀ text₀ at len i g₀ rows warnings text g = Sofar doc kinds.inInterface true at len i g₀ (lent rows₀ warnings₀ text₀) g (lent rows warnings text) × (length rows ≡ length rows₀) × (length warnings ≡ length warnings₀) × (length text ≡ length text₀)
 
 abbrev μ-loop : tie.MeasureT-loop
 μ-loop doc classes rows₀ warnings₀ text₀ at len i g₀ rows warnings text g = length doc - g .at
@@ -22,6 +23,8 @@ interface-children-spec =
     (tie.spec
     Inv-loop
     μ-loop
+    (λ c. search loops)
+    (λ c. search loops)
     (λ c. search loops)
     (λ c. search loops)
     (λ c. search loops)

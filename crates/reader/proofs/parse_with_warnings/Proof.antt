@@ -1,6 +1,6 @@
 -- `reader::parse_with_warnings` meets its contract.
 -- Assumes nothing.
-use Rattle.reader.proofs.Entries.{said, entry}
+use Rattle.reader.proofs.Entries.{entry}
 use Rattle.reader.proofs.parse_with_warnings.Statement.{statement}
 use Rattle.reader.proofs.parse_with_warnings.Tie as tie
 
@@ -12,15 +12,15 @@ parse-with-warnings-spec =
     (λ c. search entry)
     (λ c. search entry)
     (λ c. search entry)
-    (λ c. said _ _ _ _ _ _ _ _ (search entry))
     (λ c. search entry)
     (λ c. search entry)
     (λ c. search entry)
     (λ c. search entry)
     (λ c. search entry)
-    (λ c. said _ _ _ _ _ _ _ _ (search entry))
     (λ c. search entry)
     (λ c. search entry)
     (λ c. search entry)
     (λ c. search entry)
-    (λ c. said _ _ _ _ _ _ _ _ (search entry)))
+    (λ c. search entry)
+    (λ c. search entry)
+    (λ c. search entry))

@@ -18,4 +18,5 @@ read-child-spec =
     (λ c. search childIns)
     (λ c. search childIns)
     (λ c. search childIns)
+    (λ c. search childIns)
     (λ c. search childIns))

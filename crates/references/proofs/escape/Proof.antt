@@ -1,7 +1,8 @@
 -- `references::escape` meets its contract: `said` makes the two equations.
 -- Assumes nothing.
+use Rattle.answers.proofs.Answers.{said}
 use Rattle.references.specs.Entries.{escaping}
-use Rattle.references.proofs.Answers.{entries, said}
+use Rattle.references.proofs.Answers.{entries}
 use Rattle.references.proofs.escape.Statement.{statement}
 use Rattle.references.proofs.escape.Tie as tie
 

@@ -1,7 +1,8 @@
 -- `references::unescape` meets its contract: `said` makes the two equations.
 -- Assumes nothing.
+use Rattle.answers.proofs.Answers.{said}
 use Rattle.references.specs.Entries.{unescaping}
-use Rattle.references.proofs.Answers.{entries, said}
+use Rattle.references.proofs.Answers.{entries}
 use Rattle.references.proofs.unescape.Statement.{statement}
 use Rattle.references.proofs.unescape.Tie as tie
 

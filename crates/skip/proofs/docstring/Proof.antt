@@ -15,4 +15,5 @@ docstring-spec =
     (λ c κs. (search documents, (search documents, (search documents, (search documents, search documents)))))
     (λ c. search documents)
     (λ c. search documents)
+    (λ c. search documents)
     (λ c. search documents))

@@ -14,8 +14,4 @@ good-back-spec =
     (λ c. search texts)
     (λ c. search texts)
     (λ c. search texts)
-    (λ c. search texts)
-    (λ c. search texts)
-    (λ c. search texts)
-    (λ c. search texts)
     (λ c. search texts))

@@ -14,8 +14,4 @@ good-front-spec =
     (λ c. search texts)
     (λ c. search texts)
     (λ c. search texts)
-    (λ c. search texts)
-    (λ c. search texts)
-    (λ c. search texts)
-    (λ c. search texts)
     (λ c. search texts))

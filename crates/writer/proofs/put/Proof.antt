@@ -40,11 +40,11 @@ use denote.Triple.Table.{entered, cited}
 use denote.Triple.Walked.{says, needs, Stays, stay-dropped, walkOf, goes-dropped, Walks, ends-at, walked, walk-meets}
 use denote.Exit.{yes}
 use denote.Signature.{Slot, plain, shrSliceOf, namedLft}
-use Rattle.references.specs.Outcome.{Puts}
-use Rattle.references.proofs.put.put_bytes as callee
-use Rattle.references.proofs.put.put_bytes.Symbol as callee-def
-use Rattle.references.proofs.put.put_bytes.Symbol.{name as #put-bytes}
-use Rattle.references.proofs.put.put_bytes.Met as callee-thm
+use Rattle.answers.specs.Puts.{Puts}
+use Rattle.answers.proofs.put.put_bytes as callee
+use Rattle.answers.proofs.put.put_bytes.Symbol as callee-def
+use Rattle.answers.proofs.put.put_bytes.Symbol.{name as #put-bytes}
+use Rattle.answers.proofs.put.put_bytes.Met as callee-thm
 use Rattle.writer.specs.declared.Writer.{Writer}
 use Rattle.writer.proofs.Writer as T
 use Rattle.writer.proofs.Writer.Laws as T′
@@ -187,4 +187,4 @@ put-spec 𝓤 H 𝓜 𝓖 𝓡 =
     entered 𝓤 H (tripleOf 𝓤 H (𝓖 .A) this.signature (this.spec 𝓤 H (𝓖 .A) (𝓜 .mem) (𝓡 .run)))
     (tables 𝓤 H 𝓜 𝓡 code.env .C) (tables 𝓤 H 𝓜 𝓡 code.env .Λ) #put code.function (code.unfolded 𝓤 H 𝓜 𝓡)
     (meets 𝓤 H (𝓖 .A) (givenOf 𝓤 H 𝓜 𝓖) (𝓜 .mem) (𝓡 .run) (tablesOf 𝓤 H 𝓜 (tables 𝓤 H 𝓜 𝓡 code.env))
-    (cited 𝓤 H (Callee 𝓤 H (𝓖 .A) (𝓜 .mem) (𝓡 .run)) 𝓜 𝓡 code.env #put-bytes callee-def.routine code.calls-references·put·put-bytes (callee-thm.met 𝓤 H 𝓜 𝓖 𝓡)))
+    (cited 𝓤 H (Callee 𝓤 H (𝓖 .A) (𝓜 .mem) (𝓡 .run)) 𝓜 𝓡 code.env #put-bytes callee-def.routine code.calls-answers·put·put-bytes (callee-thm.met 𝓤 H 𝓜 𝓖 𝓡)))

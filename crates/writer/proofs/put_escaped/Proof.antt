@@ -43,8 +43,8 @@ use denote.Exit.{yes}
 use denote.Signature.{Slot, plain, shrRefTo, shrSliceOf, namedLft}
 use denote.Signature.Array.{arrayOf}
 use Rattle.scan.specs.Classes.{Classes}
+use Rattle.answers.specs.Puts.{Puts}
 use Rattle.references.specs.Escape.{escape}
-use Rattle.references.specs.Outcome.{Puts}
 use Rattle.references.proofs.put_escaped as callee
 use Rattle.references.proofs.put_escaped.Symbol as callee-def
 use Rattle.references.proofs.put_escaped.Symbol.{name as #callee}

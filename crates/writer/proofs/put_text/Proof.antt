@@ -37,7 +37,7 @@ use denote.Triple.Table.{entered, cited}
 use denote.Triple.Walked.{says, needs, Stays, stay-dropped, stay-slice, walkOf, goes-dropped, goes-slice, Walks, ends-at, walked, walk-meets}
 use denote.Exit.{yes}
 use denote.Signature.{Slot, plain, shrSliceOf}
-use Rattle.references.specs.Outcome.{Puts}
+use Rattle.answers.specs.Puts.{Puts}
 use Rattle.writer.specs.Added.{Adds}
 use Rattle.writer.specs.declared.Writer.{Writer}
 use Rattle.writer.proofs.Writer as T

@@ -41,9 +41,9 @@ use denote.Exit.{yes}
 use denote.Signature.{Slot, plain, shrRefTo, shrSliceOf}
 use denote.Signature.Array.{arrayOf}
 use Rattle.scan.specs.Classes.{Classes}
+use Rattle.answers.specs.Puts.{Puts}
+use Rattle.answers.proofs.Putting.{puts-then}
 use Rattle.references.specs.Escape.{escape}
-use Rattle.references.specs.Outcome.{Puts}
-use Rattle.references.proofs.Putting.{puts-then}
 use Rattle.writer.specs.Added.{Adds}
 use Rattle.writer.specs.declared.Writer.{Writer}
 use Rattle.writer.proofs.Writer as T

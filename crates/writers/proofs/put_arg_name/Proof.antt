@@ -11,6 +11,7 @@ put-arg-name-spec =
     (λ c κs. search tags)
     (λ c. search tags)
     (λ c. search tags)
+    (λ c. search tags)
     (λ c κs. search tags)
     (λ c. search tags)
     (λ c κs. search tags)

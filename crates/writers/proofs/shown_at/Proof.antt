@@ -10,8 +10,4 @@ shown-at-spec =
     (tie.spec
     (λ c. search texts)
     (λ c. search texts)
-    (λ c. search texts)
-    (λ c. search texts)
-    (λ c. search texts)
-    (λ c. search texts)
     (λ c. search texts))

@@ -1,6 +1,6 @@
--- `writers::write` meets its contract: `answered` makes the two equations.
+-- `writers::write` meets its contract.
 -- Assumes nothing.
-use Rattle.writers.proofs.Entry.{entry, answered}
+use Rattle.writers.proofs.Entry.{entry}
 use Rattle.writers.proofs.write.Statement.{statement}
 use Rattle.writers.proofs.write.Tie as tie
 
@@ -10,16 +10,16 @@ write-spec =
     (tie.spec
     (λ c κs. search entry)
     (λ c. search entry)
-    (λ c. answered _ _ _ _ _ _ _ _ (search entry))
-    (λ c κs. search entry)
-    (λ c. search entry)
-    (λ c. answered _ _ _ _ _ _ _ _ (search entry))
-    (λ c κs. search entry)
     (λ c. search entry)
     (λ c κs. search entry)
     (λ c. search entry)
+    (λ c. search entry)
     (λ c κs. search entry)
     (λ c. search entry)
-    (λ c. answered _ _ _ _ _ _ _ _ (search entry))
+    (λ c κs. search entry)
     (λ c. search entry)
-    (λ c. answered _ _ _ _ _ _ _ _ (search entry)))
+    (λ c κs. search entry)
+    (λ c. search entry)
+    (λ c. search entry)
+    (λ c. search entry)
+    (λ c. search entry))

@@ -48,12 +48,12 @@ use denote.Triple.Clauses.{ensured, lasts}
 use denote.Exit.{yes}
 use Rattle.attributes.specs.Outcome.{Checkable, Judges, Checks}
 use Rattle.attributes.specs.declared.Attribute.{Attribute}
-use Rattle.attributes.specs.declared.Verdict.{Verdict}
-use Rattle.attributes.specs.declared.Verdict.the-variants.{Fault, Good}
+use Rattle.attributes.specs.declared.AttributeCheck.{AttributeCheck}
+use Rattle.attributes.specs.declared.AttributeCheck.the-variants.{Fault, Good}
 use Rattle.attributes.proofs.Checking.{Turn, turn-first, turn-asks, turn-fault, turn-more, turn-end}
 use Rattle.attributes.proofs.Attribute as T
-use Rattle.attributes.proofs.Verdict as S
-use Rattle.attributes.proofs.Verdict.Laws as S′
+use Rattle.attributes.proofs.AttributeCheck as S
+use Rattle.attributes.proofs.AttributeCheck.Laws as S′
 use Rattle.attributes.proofs.gathered.judge as callee
 use Rattle.attributes.proofs.gathered.judge.Symbol as callee-def
 use Rattle.attributes.proofs.gathered.judge.Symbol.{name as #judge}
@@ -69,10 +69,10 @@ use borrow.Author.Tests.{ltb-true, ltb-false}
 abbrev stayed : Stays (this.ended .signature .params) (this.ended .kept)
 stayed = (stay-dropped _ yes, (stay-dropped _ yes, (stay-dropped _ yes, tt)))
 
-abbrev val : Verdict → Val
+abbrev val : AttributeCheck → Val
 val = EL.val S.the-type S′.the-laws
 
-abbrev vals : Verdict → List Val
+abbrev vals : AttributeCheck → List Val
 vals = EL.vals S.the-type S′.the-laws
 
 -- the match and its arms, which the generated MIR has under no name: the fault is returned, and `i += 1`
@@ -131,7 +131,7 @@ module _ {M : Type 1} (𝓤 : URA M) (H : Heap 𝓤) (A : Atoms 𝓤) (W : Given
   abbrev Has : List (Item 𝓤) → List (Item 𝓤)
   Has Γ = ‵ (flft κ₀ q₀) ∷ ‵ (flft κ₁ q₁) ∷ ‵ O₀ ∷ ‵ O₁ ∷ Γ
 
-  exits : (r : Verdict) → Checks ds xs n r → Is S.the-row r (vals r) → ent 𝓤 (⋆ 𝓤 H A (Has [])) (Post (val r))
+  exits : (r : AttributeCheck) → Checks ds xs n r → Is S.the-row r (vals r) → ent 𝓤 (⋆ 𝓤 H A (Has [])) (Post (val r))
   exits r e made =
       qed W (Has []) ∵ suffices ! _ (ends-at 𝓤 H A this.ended stayed (this.clauses 𝓤 H A mem run) W bound (val r) r (tt, (tt, (tt, tt))) (tt, (tt, (tt, tt)))) $ says ! e $
       keep ! (0 ∷ 1 ∷ []) $ nothing ! $ move ! (2 ∷ 0 ∷ []) $ join ! $ move ! (1 ∷ 0 ∷ []) $ join ! $ frame ! $
@@ -160,7 +160,7 @@ module _ {M : Type 1} (𝓤 : URA M) (H : Heap 𝓤) (A : Atoms 𝓤) (W : Given
         -- [O₁; O₁; O₀; O₀; κ₀; κ₁]
         move ! (4 ∷ 5 ∷ 2 ∷ 0 ∷ []) $ group ! 4 $ use1 W (raw (Callee 𝓤 H A mem run .pre to)) (asked a f) $ frame ! $ move ! (1 ∷ 0 ∷ []) $ done !
 
-    said : (r : Verdict) → ent 𝓤 (ensured 𝓤 H A callee.ended (callee.clauses 𝓤 H A mem run) (κ₀, (κ₁, tt)) given′ tt r) (fact 𝓤 (Judges ds xs i r))
+    said : (r : AttributeCheck) → ent 𝓤 (ensured 𝓤 H A callee.ended (callee.clauses 𝓤 H A mem run) (κ₀, (κ₁, tt)) given′ tt r) (fact 𝓤 (Judges ds xs i r))
     said r = exE 𝓤 _ (λ ws. snd∗ 𝓤 (sem 𝓤 H A (lasts callee.ended (κ₀, (κ₁, tt)) given′ ws)) (fact 𝓤 (Judges ds xs i r)))
 
   -- ---- the body, over the blocks of its locals
@@ -188,7 +188,7 @@ module _ {M : Type 1} (𝓤 : URA M) (H : Heap 𝓤) (A : Atoms 𝓤) (W : Given
     I t = Has (room S′.mir l₈ (room tyBool l₇ (Locals (t .i))))
 
     -- and where `judge` has returned r
-    abbrev Judged : Turn ds xs n → Verdict → List (Item 𝓤)
+    abbrev Judged : Turn ds xs n → AttributeCheck → List (Item 𝓤)
     Judged t r = Has (holds S′.mir l₈ (val r) (holds tyBool l₇ (vbool true) (Locals (t .i))))
 
     abbrev ≺ : Turn ds xs n → Turn ds xs n → Type 0
@@ -203,7 +203,7 @@ module _ {M : Type 1} (𝓤 : URA M) (H : Heap 𝓤) (A : Atoms 𝓤) (W : Given
     After t = afterTurn 𝓤 H (Below 𝓤 H A ≺ I t) Left
 
     -- the end: every local is room, and the result is returned
-    leaves : (r : Verdict) → Checks ds xs n r → Is S.the-row r (vals r)
+    leaves : (r : AttributeCheck) → Checks ds xs n r → Is S.the-row r (vals r)
         → Sq W (Has (room S′.mir l₈ (room tyBool l₇ (room (tyInt w64) l₆ (room (tyInt w32) l₅ (room (tyInt w64) l₄ (room (tyInt w64) l₃ (room τ₂ l₂ (room τ₁ l₁ (room S′.mir l₀ []))))))))))
         (frees E (prop (Post (val r))))
     leaves r e made =
@@ -226,7 +226,7 @@ module _ {M : Type 1} (𝓤 : URA M) (H : Heap 𝓤) (A : Atoms 𝓤) (W : Given
         made = EL.owes S.the-type S′.the-laws Good tt
 
     -- the match, by cases on the verdict
-    matched : (t : Turn ds xs n) → t .i < n → (r : Verdict) (vs : List Val) → Is S.the-row r vs → Judges ds xs (t .i) r → Sq W (Judged t r) (runs (𝓣 .C) (𝓣 .Λ) E the-match (anyQ (After t)))
+    matched : (t : Turn ds xs n) → t .i < n → (r : AttributeCheck) (vs : List Val) → Is S.the-row r vs → Judges ds xs (t .i) r → Sq W (Judged t r) (runs (𝓣 .C) (𝓣 .Λ) E the-match (anyQ (After t)))
     unfolding afterTurn
     matched t lt (Fault k p) vs is j =
         switches-on ! (load ! (from ! (vrt ! refl (fld ! refl (stop !)))) (look-tag ! 4 (whole !))) $ exec ! (𝓣 .C) (𝓣 .Λ) E faults (anyQ (After t)) $
@@ -260,7 +260,7 @@ module _ {M : Type 1} (𝓤 : URA M) (H : Heap 𝓤) (A : Atoms 𝓤) (W : Given
         -- [what `judge` asks; O₀ and O₁; _8; …]
         calls-at ! fm (Callee 𝓤 H A mem run) known (to i)
         (and-then ! (load ! (from ! (stop !)) (look ! 16 refl)) (and-then ! (load ! (from ! (stop !)) (look ! 14 refl)) (and-then ! (load ! (from ! (stop !)) (look ! 10 refl)) (no-more !)))) (λ u.
-        use1 W (later (some (λ (r : Verdict). ((‵ (flft κ₀ q₀) ⊛ (‵ (flft κ₁ q₁) ⊛ ‵ ftrue)) ⊛ ‵ (S.the-row .own r (u ∷ []))) ⊛ raw (ensured 𝓤 H A callee.ended (callee.clauses 𝓤 H A mem run) (κ₀, (κ₁, tt)) (given′ i) tt r)))) (id⊢ 𝓤 _) $ await ! tt $ pick ! (λ r.
+        use1 W (later (some (λ (r : AttributeCheck). ((‵ (flft κ₀ q₀) ⊛ (‵ (flft κ₁ q₁) ⊛ ‵ ftrue)) ⊛ ‵ (S.the-row .own r (u ∷ []))) ⊛ raw (ensured 𝓤 H A callee.ended (callee.clauses 𝓤 H A mem run) (κ₀, (κ₁, tt)) (given′ i) tt r)))) (id⊢ 𝓤 _) $ await ! tt $ pick ! (λ r.
         split ! $ move ! (1 ∷ []) $ use1 W (raw (fact 𝓤 (Judges ds xs i r))) (said i r) $ heard ! (Judges ds xs i r) (λ j. split ! $ move ! (1 ∷ []) $
         facts ! S.the-row (Is S.the-row) (shows 𝓤 H A S.the-row) r (u ∷ []) (λ is.
         -- [κ₀ and κ₁; O₀ and O₁; _8; …]

@@ -49,14 +49,14 @@ use Rattle.document.proofs.Values.Laws as X′
 use Rattle.attributes.specs.Lookup.{KeyTable, PicksAll}
 use Rattle.attributes.specs.Outcome.{Checkable, Checks, Finishes}
 use Rattle.attributes.specs.declared.Attribute.{Attribute}
-use Rattle.attributes.specs.declared.Verdict.{Verdict}
-use Rattle.attributes.specs.declared.Verdict.the-variants as verdict
+use Rattle.attributes.specs.declared.AttributeCheck.{AttributeCheck}
+use Rattle.attributes.specs.declared.AttributeCheck.the-variants as verdict
 use Rattle.attributes.specs.declared.Attrs.{Attrs}
 use Rattle.attributes.specs.declared.Attrs.the-variants.{Fault, All}
 use Rattle.attributes.proofs.Gathering.{finish-fault, finish-all}
 use Rattle.attributes.proofs.Attribute as T
-use Rattle.attributes.proofs.Verdict as D
-use Rattle.attributes.proofs.Verdict.Laws as D′
+use Rattle.attributes.proofs.AttributeCheck as D
+use Rattle.attributes.proofs.AttributeCheck.Laws as D′
 use Rattle.attributes.proofs.Attrs as S
 use Rattle.attributes.proofs.Attrs.Laws as S′
 use Rattle.attributes.proofs.gathered.check as checks
@@ -77,7 +77,7 @@ abbrev stayed : Stays (this.ended .signature .params) (this.ended .kept)
 stayed = (stay-dropped _ yes, (stay-dropped _ yes, (stay-dropped _ yes, (stay-dropped _ yes, (stay-dropped _ yes, tt)))))
 
 -- the machine value of a verdict, of an answer and of the values
-abbrev dval : Verdict → Val
+abbrev dval : AttributeCheck → Val
 dval = EL.val D.the-type D′.the-laws
 
 abbrev sval : Attrs → Val
@@ -161,7 +161,7 @@ module _ {M : Type 1} (𝓤 : URA M) (H : Heap 𝓤) (A : Atoms 𝓤) (W : Given
   abbrev to-check : Check 𝓤 H A mem run .Ghost
   to-check = (((κ₀, (κ₁, tt)), (q₀, (q₁, tt)), tt, asked-check, (v₀ ∷ [], (v₁ ∷ [], (vint w64 n ∷ [], tt)))), tt)
 
-  said-check : (r : Verdict) → ent 𝓤 (ensured 𝓤 H A checks.ended (checks.clauses 𝓤 H A mem run) (κ₀, (κ₁, tt)) asked-check tt r) (fact 𝓤 (Checks (doc .now) xs n r))
+  said-check : (r : AttributeCheck) → ent 𝓤 (ensured 𝓤 H A checks.ended (checks.clauses 𝓤 H A mem run) (κ₀, (κ₁, tt)) asked-check tt r) (fact 𝓤 (Checks (doc .now) xs n r))
   said-check r = exE 𝓤 _ (λ ws. snd∗ 𝓤 (sem 𝓤 H A (lasts checks.ended (κ₀, (κ₁, tt)) asked-check ws)) (fact 𝓤 (Checks (doc .now) xs n r)))
 
   -- ---- the call of `values`
@@ -220,7 +220,7 @@ module _ {M : Type 1} (𝓤 : URA M) (H : Heap 𝓤) (A : Atoms 𝓤) (W : Given
       abbrev Start : List (Item 𝓤)
       Start = Has (‵ O₀ ∷ ‵ O₁ ∷ ‵ O₂ ∷ room X′.mir l₁₀ (room S′.mir l₉ (room D′.mir l₈ Low)))
 
-      abbrev Before : Verdict → List (Item 𝓤)
+      abbrev Before : AttributeCheck → List (Item 𝓤)
       Before d = Has (‵ O₀ ∷ ‵ O₁ ∷ ‵ O₂ ∷ room X′.mir l₁₀ (room S′.mir l₉ (holds D′.mir l₈ (dval d) Low)))
 
       abbrev After : Attrs → List (Item 𝓤)
@@ -242,7 +242,7 @@ module _ {M : Type 1} (𝓤 : URA M) (H : Heap 𝓤) (A : Atoms 𝓤) (W : Given
           move ! (11 ∷ 12 ∷ []) $ free1 ! $ move ! (9 ∷ 10 ∷ []) $ free1 ! $ move ! (7 ∷ 8 ∷ []) $ free1 ! $ move ! (5 ∷ 6 ∷ []) $ free1 ! $ move ! (3 ∷ 4 ∷ []) $ free1 ! $ free0 ! $ by ! (exits r fin made)
 
       -- the match, by cases on the verdict: the tag is then a numeral, and what is left computes to the arm that runs
-      matched : (d : Verdict) → Checks (doc .now) xs n d → Is D.the-row d (dval d ∷ []) → Sq W (Before d) (runs C Λ E mir.s-2 Then)
+      matched : (d : AttributeCheck) → Checks (doc .now) xs n d → Is D.the-row d (dval d ∷ []) → Sq W (Before d) (runs C Λ E mir.s-2 Then)
       matched (verdict.Fault k p) c is =
           switches-on ! (load ! (from ! (vrt ! refl (fld ! refl (stop !)))) (look-tag ! 10 (whole !))) $ exec ! C Λ E on-fault Then $
           assigns ! (of-opd ! (load ! (from ! (vrt ! refl (fld ! refl (stop !)))) (look-in ! 10 (in-variant ! 0 0 refl refl (whole !))))) (from ! (stop !)) (init ! 14 refl (tt, record { fits = k-fits })) $
@@ -291,7 +291,7 @@ module _ {M : Type 1} (𝓤 : URA M) (H : Heap 𝓤) (A : Atoms 𝓤) (W : Given
           -- [what `check` asks; O₁; O₀; κ₂; O₂; _10; …]
           calls-at ! fm (Check 𝓤 H A mem run) known-check to-check
           (and-then ! (load ! (from ! (stop !)) (look ! 23 refl)) (and-then ! (load ! (from ! (stop !)) (look ! 21 refl)) (and-then ! (load ! (from ! (stop !)) (look ! 19 refl)) (no-more !)))) (λ u.
-          use1 W (later (some (λ (r : Verdict). ((‵ (flft κ₀ q₀) ⊛ (‵ (flft κ₁ q₁) ⊛ ‵ ftrue)) ⊛ ‵ (D.the-row .own r (u ∷ []))) ⊛ raw (ensured 𝓤 H A checks.ended (checks.clauses 𝓤 H A mem run) (κ₀, (κ₁, tt)) asked-check tt r)))) (id⊢ 𝓤 _) $ await ! tt $ pick ! (λ r.
+          use1 W (later (some (λ (r : AttributeCheck). ((‵ (flft κ₀ q₀) ⊛ (‵ (flft κ₁ q₁) ⊛ ‵ ftrue)) ⊛ ‵ (D.the-row .own r (u ∷ []))) ⊛ raw (ensured 𝓤 H A checks.ended (checks.clauses 𝓤 H A mem run) (κ₀, (κ₁, tt)) asked-check tt r)))) (id⊢ 𝓤 _) $ await ! tt $ pick ! (λ r.
           split ! $ move ! (1 ∷ []) $ use1 W (raw (fact 𝓤 (Checks (doc .now) xs n r))) (said-check r) $ heard ! (Checks (doc .now) xs n r) (λ c. split ! $ move ! (1 ∷ []) $
           facts ! D.the-row (Is D.the-row) (shows 𝓤 H A D.the-row) r (u ∷ []) (λ is-u.
           -- [κ₀ and κ₁; O₁; O₀; κ₂; O₂; _10; …]
@@ -299,7 +299,7 @@ module _ {M : Type 1} (𝓤 : URA M) (H : Heap 𝓤) (A : Atoms 𝓤) (W : Given
           split ! $ move ! (1 ∷ []) $ split ! $ move ! (1 ∷ []) $ drop ! $ move ! (1 ∷ 0 ∷ 4 ∷ 3 ∷ 2 ∷ 5 ∷ []) $
           first ! $ matched r c (subst (Is D.the-row r) (told r u is-u) is-u)))))
         where
-          told : (r : Verdict) (u : Val) → Is D.the-row r (u ∷ []) → u ∷ [] ≡ dval r ∷ []
+          told : (r : AttributeCheck) (u : Val) → Is D.the-row r (u ∷ []) → u ∷ [] ≡ dval r ∷ []
           told r u is-u = EL.tells D.the-type D′.the-laws r (u ∷ []) is-u
 
     -- the MIR, from its entry on

@@ -48,15 +48,15 @@ use Rattle.attributes.specs.One.{Fit}
 use Rattle.attributes.specs.Lookup.{blank, wanted, Picks}
 use Rattle.attributes.specs.Outcome.{Checkable, Weighs, Judges}
 use Rattle.attributes.specs.declared.Attribute.{Attribute}
-use Rattle.attributes.specs.declared.Verdict.{Verdict}
+use Rattle.attributes.specs.declared.AttributeCheck.{AttributeCheck}
 use Rattle.document.specs.declared.Value.{Value}
 use Rattle.attributes.proofs.Checking.{judge-asks, judge-below, judge-is}
 use Rattle.attributes.proofs.Attribute as T
 use Rattle.attributes.proofs.Attribute.Laws as T′
 use Rattle.document.proofs.Value as U
 use Rattle.document.proofs.Value.Laws as U′
-use Rattle.attributes.proofs.Verdict as S
-use Rattle.attributes.proofs.Verdict.Laws as S′
+use Rattle.attributes.proofs.AttributeCheck as S
+use Rattle.attributes.proofs.AttributeCheck.Laws as S′
 use Rattle.attributes.proofs.gathered.first_named as first
 use Rattle.attributes.proofs.gathered.first_named.Symbol as first-def
 use Rattle.attributes.proofs.gathered.first_named.Symbol.{name as #first-named}
@@ -133,7 +133,7 @@ module _ {M : Type 1} (𝓤 : URA M) (H : Heap 𝓤) (A : Atoms 𝓤) (W : Given
   abbrev qr : Share
   qr = PosShare·right q₀
 
-  exits : (r : Verdict) (u : Val) → Judges (doc .now) xs i r → ent 𝓤 (⋆ 𝓤 H A (‵ (flft κ₀ q₀) ∷ ‵ (flft κ₁ q₁) ∷ ‵ (S.the-row .own r (u ∷ [])) ∷ [])) (Post u)
+  exits : (r : AttributeCheck) (u : Val) → Judges (doc .now) xs i r → ent 𝓤 (⋆ 𝓤 H A (‵ (flft κ₀ q₀) ∷ ‵ (flft κ₁ q₁) ∷ ‵ (S.the-row .own r (u ∷ [])) ∷ [])) (Post u)
   exits r u e =
       qed W (‵ (flft κ₀ q₀) ∷ ‵ (flft κ₁ q₁) ∷ ‵ (S.the-row .own r (u ∷ [])) ∷ []) ∵
       suffices ! _ (ends-at 𝓤 H A this.ended stayed (this.clauses 𝓤 H A mem run) W bound u r (tt, (tt, (tt, tt))) (tt, (tt, (tt, tt)))) $ says ! e $
@@ -185,7 +185,7 @@ module _ {M : Type 1} (𝓤 : URA M) (H : Heap 𝓤) (A : Atoms 𝓤) (W : Given
         -- [O₀; v's]
         nothing ! $ move ! (2 ∷ 0 ∷ []) $ fjoin ! $ owned ! T.the-row (Is T.the-row) (LL.makes T.the-type T′.the-plain 𝓤 H A) a _ p $ fjoin ! $ move ! (1 ∷ 0 ∷ []) $ fjoin ! $ done !
 
-    said₂ : (r : Verdict) → ent 𝓤 (ensured 𝓤 H A weigh.ended (weigh.clauses 𝓤 H A mem run) (κ₀, tt) given₂ tt r) (fact 𝓤 (Weighs (doc .now) a v r))
+    said₂ : (r : AttributeCheck) → ent 𝓤 (ensured 𝓤 H A weigh.ended (weigh.clauses 𝓤 H A mem run) (κ₀, tt) given₂ tt r) (fact 𝓤 (Weighs (doc .now) a v r))
     said₂ r = exE 𝓤 _ (λ ws. snd∗ 𝓤 (sem 𝓤 H A (lasts weigh.ended (κ₀, tt) given₂ ws)) (fact 𝓤 (Weighs (doc .now) a v r)))
 
   -- ---- the body, over the blocks of its locals
@@ -221,7 +221,7 @@ module _ {M : Type 1} (𝓤 : URA M) (H : Heap 𝓤) (A : Atoms 𝓤) (W : Given
         group ! 3 $ use1 W (raw (Weigh 𝓤 H A mem run .pre (to₂ v u))) (asked₂ v u (judge-asks lt can) p) $
         -- [what `weigh` asks; κ₁; _8; …]
         calls-at ! fm (Weigh 𝓤 H A mem run) known₂ (to₂ v u) (and-then ! (load ! (from ! (stop !)) (look ! 16 refl)) (and-then ! (load ! (from ! (stop !)) (look ! 10 refl)) (and-then ! (load ! (from ! (stop !)) (look ! 8 refl)) (no-more !)))) (λ z.
-        use1 W (later (some (λ (r : Verdict). ((‵ (flft κ₀ q₀) ⊛ ‵ ftrue) ⊛ ‵ (S.the-row .own r (z ∷ []))) ⊛ raw (ensured 𝓤 H A weigh.ended (weigh.clauses 𝓤 H A mem run) (κ₀, tt) (given₂ v u) tt r)))) (id⊢ 𝓤 _) $ await ! tt $ pick ! (λ r.
+        use1 W (later (some (λ (r : AttributeCheck). ((‵ (flft κ₀ q₀) ⊛ ‵ ftrue) ⊛ ‵ (S.the-row .own r (z ∷ []))) ⊛ raw (ensured 𝓤 H A weigh.ended (weigh.clauses 𝓤 H A mem run) (κ₀, tt) (given₂ v u) tt r)))) (id⊢ 𝓤 _) $ await ! tt $ pick ! (λ r.
         split ! $ move ! (1 ∷ []) $ use1 W (raw (fact 𝓤 (Weighs (doc .now) a v r))) (said₂ v u r) $ heard ! (Weighs (doc .now) a v r) (λ e. split ! $ move ! (1 ∷ []) $
         peeks ! S.the-row (Is S.the-row) (shows 𝓤 H A S.the-row) r (z ∷ []) (λ is.
         move ! (1 ∷ []) $ split ! $ move ! (1 ∷ []) $ drop ! $ move ! (0 ∷ 2 ∷ []) $

@@ -1,0 +1,4 @@
+-- The laws on texts put into a lent buffer.
+-- Assumes nothing.
+pub mod Putting
+pub mod Answers

@@ -1,0 +1,66 @@
+-- The words of an answer, on each way of the code.
+-- Assumes nothing.
+use Prim.Native.Nat.{ℕ}
+use mathlib.Core.Path.{_≡_, refl, ap, _∙_}
+use mathlib.Core.List.{List, [], _∷_}
+use mathlib.Core.Bool.{Bool}
+use borrow.Author.Needs.{needs}
+use Rattle.tables.specs.declared.Triple.{Triple}
+use Rattle.tables.specs.Triple.{inside, resolved}
+use Rattle.columns.specs.Entries.{Outcome}
+use Rattle.columns.specs.Entries as entries-of
+use Rattle.columns.specs.declared.ColumnsAnswer.{ColumnsAnswer}
+use Rattle.columns.specs.declared.ColumnsAnswer.the-variants as columns
+use Rattle.answers.specs.Text.{Text, answerOf, leftOf}
+use Rattle.answers.specs.declared.TextAnswer.{TextAnswer}
+use Rattle.answers.specs.declared.TextAnswer.the-variants as answer
+use Rattle.document.specs.Whole.{Room, Says}
+use Rattle.document.specs.declared.Refusal.{Refusal}
+use Rattle.document.specs.declared.Verdict.{Verdict}
+use Rattle.document.specs.declared.Verdict.the-variants as verdict
+use Rattle.items.specs.Writing.{writing, Writes}
+use Rattle.introspection.specs.Words.{verdictWords, answerWords, columnsWords, Reads, textWords, outcomeWords, partWords, lookupWords}
+
+module _ {v : Verdict} where
+  pub verdict-refused : {x : Refusal} → v ≡ verdict.Refused x → (x .number ∷ x .place ∷ 0 ∷ 0 ∷ 0 ∷ []) ≡ verdictWords v
+  verdict-refused e = rw e refl
+
+  pub verdict-accepted : {r t w : ℕ} → v ≡ verdict.Accepted r t w → (0 ∷ 0 ∷ r ∷ t ∷ w ∷ []) ≡ verdictWords v
+  verdict-accepted e = rw e refl
+
+  pub reads : {doc rows warnings text ws : List ℕ} {room : Room} → Says doc room rows warnings text v → ws ≡ verdictWords v → Reads doc room rows warnings text ws
+  reads s h = record { words = h ∙ ap verdictWords (s .verdict); rows-left = s .rows-left; warnings-left = s .warnings-left; text-left = s .text-left }
+
+module _ {a : TextAnswer} where
+  pub answer-refused : {n p : ℕ} → a ≡ answer.Refused n p → (n ∷ p ∷ 0 ∷ []) ≡ answerWords a
+  answer-refused e = rw e refl
+
+  pub answer-done : {n : ℕ} → a ≡ answer.Done n → (0 ∷ 0 ∷ n ∷ []) ≡ answerWords a
+  answer-done e = rw e refl
+
+  pub text-words : (t : Text) {ws : List ℕ} → ws ≡ answerWords a → a ≡ answerOf t → ws ≡ textWords t
+  text-words t h e = h ∙ ap answerWords e
+
+module _ {a : ColumnsAnswer} where
+  pub columns-refused : {n p : ℕ} → a ≡ columns.Refused n p → (n ∷ p ∷ []) ≡ columnsWords a
+  columns-refused e = rw e refl
+
+  pub columns-done : a ≡ columns.Done → (0 ∷ 0 ∷ []) ≡ columnsWords a
+  columns-done e = rw e refl
+
+  pub outcome-words : (o : Outcome) {ws : List ℕ} → ws ≡ columnsWords a → a ≡ entries-of.answerOf o → ws ≡ outcomeWords o
+  outcome-words o h e = h ∙ ap columnsWords e
+
+pub lookup-words : (document text : List ℕ) (t : Triple) {p : Triple} {b : Bool} {ws : List ℕ} → ws ≡ partWords b p → b ≡ inside document text t → p ≡ resolved document text t → ws ≡ lookupWords document text t
+lookup-words document text t h e f = h ∙ rw (e, f) refl
+
+-- of a row that was written
+pub write-words : {document x ws out : List ℕ} {n i room : ℕ} {a : TextAnswer} {rs : List ℕ} → rs ≡ answerWords a → Writes document x ws n i room out a → rs ≡ textWords (writing document x ws n i room)
+write-words h w = h ∙ ap answerWords (w .says .answer)
+
+pub write-left : {document x ws out : List ℕ} {n i room : ℕ} {a : TextAnswer} → Writes document x ws n i room out a → out ≡ leftOf room (writing document x ws n i room)
+write-left w = w .says .left
+
+pub ruleset words = (verdict-refused, verdict-accepted, answer-refused, answer-done, columns-refused, columns-done, needs)
+
+pub ruleset entries = (reads, text-words, outcome-words, write-words, write-left, lookup-words, needs)

@@ -1,0 +1,65 @@
+-- The words of each answer, in the order of include/introspection.h.
+-- Assumes nothing.
+use Prim.Native.Nat.{ℕ}
+use mathlib.Core.Path.{_≡_}
+use mathlib.Core.List.{List, [], _∷_}
+use mathlib.Core.Bool.{Bool}
+use Rattle.slices.specs.Bytes.{if}
+use Rattle.tables.specs.Triple.{inside, resolved}
+use Rattle.tables.specs.declared.Triple.{Triple}
+use Rattle.columns.specs.Entries.{Outcome}
+use Rattle.columns.specs.Entries as entries
+use Rattle.columns.specs.declared.ColumnsAnswer.{ColumnsAnswer}
+use Rattle.columns.specs.declared.ColumnsAnswer.the-variants as columns
+use Rattle.answers.specs.Text.{Text, answerOf}
+use Rattle.answers.specs.declared.TextAnswer.{TextAnswer}
+use Rattle.answers.specs.declared.TextAnswer.the-variants as answer
+use Rattle.document.specs.Tags.{Shown}
+use Rattle.document.specs.Reading.{State}
+use Rattle.document.specs.Whole.{Room, read, verdictOf, rowsLeft, warningsLeft, textLeft}
+use Rattle.document.specs.declared.Verdict.{Verdict}
+use Rattle.document.specs.declared.Verdict.the-variants as verdict
+
+-- number, place, rows, text bytes, warnings
+abbrev pub verdictWords : Verdict → List ℕ
+verdictWords (verdict.Refused x) = x .number ∷ x .place ∷ 0 ∷ 0 ∷ 0 ∷ []
+verdictWords (verdict.Accepted rows text warnings) = 0 ∷ 0 ∷ rows ∷ text ∷ warnings ∷ []
+
+-- number, place, bytes written
+abbrev pub answerWords : TextAnswer → List ℕ
+answerWords (answer.Refused n p) = n ∷ p ∷ 0 ∷ []
+answerWords (answer.Done n) = 0 ∷ 0 ∷ n ∷ []
+
+-- number, place
+abbrev pub columnsWords : ColumnsAnswer → List ℕ
+columnsWords (columns.Refused n p) = n ∷ p ∷ []
+columnsWords columns.Done = 0 ∷ 0 ∷ []
+
+-- of a document that was read; the number is 0 for those accepted alone, since every other number is more than 0 (crate bounds)
+abbrev pub readWords : State Shown → List ℕ
+readWords s = verdictWords (verdictOf s)
+
+-- what `introspection_read` answers for a document and the room lent, and what it leaves in the buffers
+pub record Reads (doc : List ℕ) (room : Room) (rows warnings text answer : List ℕ) : Type 0 where
+  pub words : answer ≡ readWords (read doc room)
+  pub rows-left : rows ≡ rowsLeft room (read doc room)
+  pub warnings-left : warnings ≡ warningsLeft room (read doc room)
+  pub text-left : text ≡ textLeft room (read doc room)
+
+-- of a text that was made
+abbrev pub textWords : Text → List ℕ
+textWords t = answerWords (answerOf t)
+
+-- of words that were made
+abbrev pub outcomeWords : Outcome → List ℕ
+outcomeWords o = columnsWords (entries.answerOf o)
+
+abbrev pub bit : Bool → ℕ
+bit b = if b 1 0
+
+-- 1 or 0; source, start and length of the part
+abbrev pub partWords : Bool → Triple → List ℕ
+partWords b t = bit b ∷ t .source ∷ t .start ∷ t .len ∷ []
+
+abbrev pub lookupWords : List ℕ → List ℕ → Triple → List ℕ
+lookupWords document text t = partWords (inside document text t) (resolved document text t)

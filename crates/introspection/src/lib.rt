@@ -1,0 +1,159 @@
+// The library for C: the public entries, each answer written into the array that is lent last (include/introspection.h).
+use answers::TextAnswer;
+use columns::ColumnsAnswer;
+use document::Verdict;
+use tables::Triple;
+ghost use mathlib.Core.Path.{_≡_};
+ghost use lib.ListN.{length};
+ghost use Rattle.tables.specs.declared.Triple.{Triple};
+ghost use Rattle.columns.specs.Entries.{toColumns, toRows, wordsLeft};
+ghost use Rattle.answers.specs.Text.{leftOf};
+ghost use Rattle.references.specs.Entries.{escaping, unescaping};
+ghost use Rattle.document.specs.Whole.{roomOf};
+ghost use Rattle.items.specs.Writing.{writing};
+ghost use Rattle.introspection.specs.Words.{verdictWords, answerWords, columnsWords, partWords, bit, Reads, textWords, outcomeWords, lookupWords};
+
+fn verdict_words(v: Verdict) -> [u64; 5]
+    ensures { λ r. ⌜ r ≡ verdictWords v ⌝ }
+{
+    match v {
+        Verdict::Refused(refusal) => [refusal.number as u64, refusal.place as u64, 0, 0, 0],
+        Verdict::Accepted(rows, text, warnings) => {
+            [0, 0, rows as u64, text as u64, warnings as u64]
+        }
+    }
+}
+
+fn answer_words(a: TextAnswer) -> [u64; 3]
+    ensures { λ r. ⌜ r ≡ answerWords a ⌝ }
+{
+    match a {
+        TextAnswer::Refused(number, place) => [number as u64, place as u64, 0],
+        TextAnswer::Done(written) => [0, 0, written as u64],
+    }
+}
+
+fn columns_words(a: ColumnsAnswer) -> [u64; 2]
+    ensures { λ r. ⌜ r ≡ columnsWords a ⌝ }
+{
+    match a {
+        ColumnsAnswer::Refused(number, place) => [number as u64, place],
+        ColumnsAnswer::Done => [0, 0],
+    }
+}
+
+fn bit(yes: bool) -> u64
+    ensures { λ r. ⌜ r ≡ bit yes ⌝ }
+{
+    if yes {
+        return 1;
+    }
+    0
+}
+
+fn part_words(yes: bool, t: Triple) -> [u64; 4]
+    ensures { λ r. ⌜ r ≡ partWords yes t ⌝ }
+{
+    [bit(yes), t.source as u64, t.start as u64, t.len as u64]
+}
+
+// Reads a document into the tables lent.
+#[no_mangle]
+pub extern "C" fn introspection_read(
+    document: &[u8],
+    rows: &mut [u32],
+    warnings: &mut [u32],
+    text: &mut [u8],
+    answer: &mut [u64; 5],
+)
+    ensures { λ _. ⌜ Reads (now (document .entry)) (roomOf (now (rows .entry)) (now (warnings .entry)) (now (text .entry))) (now (rows .exit)) (now (warnings .exit)) (now (text .exit)) (now (answer .exit)) ⌝ }
+{
+    let v = reader::parse_with_warnings(document, rows, warnings, text);
+    *answer = verdict_words(v);
+}
+
+// Escapes a value.
+#[no_mangle]
+pub extern "C" fn introspection_escape(value: &[u8], output: &mut [u8], answer: &mut [u64; 3])
+    ensures answer { λ _. ⌜ now (answer .exit) ≡ textWords (escaping (now (value .entry)) (length (now (output .entry)))) ⌝ }
+    ensures output { λ _. ⌜ now (output .exit) ≡ leftOf (length (now (output .entry))) (escaping (now (value .entry)) (length (now (output .entry)))) ⌝ }
+{
+    let a = references::escape(value, output);
+    *answer = answer_words(a);
+}
+
+// Unescapes a value.
+#[no_mangle]
+pub extern "C" fn introspection_unescape(value: &[u8], output: &mut [u8], answer: &mut [u64; 3])
+    ensures answer { λ _. ⌜ now (answer .exit) ≡ textWords (unescaping (now (value .entry)) (length (now (output .entry)))) ⌝ }
+    ensures output { λ _. ⌜ now (output .exit) ≡ leftOf (length (now (output .entry))) (unescaping (now (value .entry)) (length (now (output .entry)))) ⌝ }
+{
+    let a = references::unescape(value, output);
+    *answer = answer_words(a);
+}
+
+// Writes the item of a row.
+#[no_mangle]
+pub extern "C" fn introspection_write<'a>(
+    document: &'a [u8],
+    text: &'a [u8],
+    rows: &[u32],
+    claimed: u64,
+    row: u64,
+    output: &mut [u8],
+    answer: &mut [u64; 3],
+)
+    ensures answer { λ _. ⌜ now (answer .exit) ≡ textWords (writing (now (document .entry)) (now (text .entry)) (now (rows .entry)) claimed row (length (now (output .entry)))) ⌝ }
+    ensures output { λ _. ⌜ now (output .exit) ≡ leftOf (length (now (output .entry))) (writing (now (document .entry)) (now (text .entry)) (now (rows .entry)) claimed row (length (now (output .entry)))) ⌝ }
+{
+    let a = writers::write(document, text, rows, claimed as usize, row as usize, output);
+    *answer = answer_words(a);
+}
+
+// The part that a triple leads to.
+#[no_mangle]
+pub extern "C" fn introspection_lookup(
+    document: &[u8],
+    text: &[u8],
+    source: u32,
+    start: u32,
+    len: u32,
+    answer: &mut [u64; 4],
+)
+    ensures { λ _. ⌜ now (answer .exit) ≡ lookupWords (now (document .entry)) (now (text .entry)) (record { source = source; start = start; len = len }) ⌝ }
+{
+    let t = Triple { source, start, len };
+    let yes = tables::is_inside(document, text, t);
+    let part = tables::resolve(document, text, t);
+    *answer = part_words(yes, part);
+}
+
+// Puts rows down as columns.
+#[no_mangle]
+pub extern "C" fn introspection_columns(
+    rows: &[u32],
+    count: u64,
+    columns: &mut [u32],
+    answer: &mut [u64; 2],
+)
+    ensures answer { λ _. ⌜ now (answer .exit) ≡ outcomeWords (toColumns count (now (rows .entry)) (length (now (columns .entry)))) ⌝ }
+    ensures columns { λ _. ⌜ now (columns .exit) ≡ wordsLeft (length (now (columns .entry))) (toColumns count (now (rows .entry)) (length (now (columns .entry)))) ⌝ }
+{
+    let a = columns::columns(rows, count, columns);
+    *answer = columns_words(a);
+}
+
+// Puts columns down as rows again.
+#[no_mangle]
+pub extern "C" fn introspection_rows(
+    columns: &[u32],
+    count: u64,
+    rows: &mut [u32],
+    answer: &mut [u64; 2],
+)
+    ensures answer { λ _. ⌜ now (answer .exit) ≡ outcomeWords (toRows count (now (columns .entry)) (length (now (rows .entry)))) ⌝ }
+    ensures rows { λ _. ⌜ now (rows .exit) ≡ wordsLeft (length (now (rows .entry))) (toRows count (now (columns .entry)) (length (now (rows .entry)))) ⌝ }
+{
+    let a = columns::rows(columns, count, rows);
+    *answer = columns_words(a);
+}

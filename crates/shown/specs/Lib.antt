@@ -1,0 +1,3 @@
+-- What the tests on the text that a value shows say.
+-- Assumes nothing.
+pub mod Outcome
