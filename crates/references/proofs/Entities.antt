@@ -53,6 +53,12 @@ pub char-other : (s : List ℕ) → (length s ≡ 0 → ⊥) → (getD s 0 0 ≡
 char-other [] h e = absurd (h refl)
 char-other (b ∷ l) h e = rw (ne-eqb b 35 e)
 
+-- a `#` begins no name of an entity
+pub names-number : (s : List ℕ) {x : Reference} → 0 < length s → getD s 0 0 ≡ 35 → x ≡ charReference s → x ≡ reference s
+unfolding reference
+names-number [] h e k = absurd (omega arith)
+names-number (b ∷ l) h e k = rw e (rw e at k)
+
 module _ (s : List ℕ) {a : Bool} (e : a ≡ same s (bytes "amp")) where
   pub names-amp : a ≡ true → referenceOf (Character 38) ≡ reference s
   unfolding reference
@@ -82,7 +88,7 @@ module _ (s : List ℕ) {a : Bool} (e : a ≡ same s (bytes "amp")) where
           unfolding reference
           names-none t k = k ∙ rw (sym e ∙ f, sym e₂ ∙ f₂, sym e₃ ∙ f₃, sym e₄ ∙ f₄, sym e₅ ∙ t)
 
-pub ruleset entities = (sixteen, ten, code-none, code-small-x, code-large-x, code-decimal, char-none, char-number, char-other, names-amp, names-lt, names-gt, names-quot, names-apos, names-none, needs)
+pub ruleset entities = (sixteen, ten, code-none, code-small-x, code-large-x, code-decimal, char-none, char-number, char-other, names-number, names-amp, names-lt, names-gt, names-quot, names-apos, names-none, needs)
 
 -- ---- a reference to a character has two bytes at least, and the character a code
 

@@ -9,3 +9,4 @@ pub mod Answers
 pub mod Shapes
 pub mod Formed
 pub mod RoundTrip
+pub mod Normal

@@ -9,6 +9,7 @@ use Rattle.answers.specs.Text.{Text, text, wrong}
 use Rattle.references.specs.Characters.{xmlChar}
 use Rattle.references.specs.Escape.{escape}
 use Rattle.references.specs.Unescape.{reference, piece, unescape}
+use Rattle.references.specs.Normal.{lineEnds}
 
 abbrev pub values : List (List ℕ × Text)
 values =
@@ -26,6 +27,7 @@ values =
     ∷ (bytes "&#65 &lt;", wrong 11 0)
     ∷ (bytes "&#0", wrong 9 0)
     ∷ (13 ∷ 10 ∷ bytes "&q;", wrong 10 2)
+    ∷ (lineEnds (13 ∷ 10 ∷ bytes "&q;"), wrong 10 1)
     ∷ []
 
 pub worked : map (λ v. unescape (v .0)) values ≡ map (λ v. v .1) values

@@ -4,6 +4,7 @@ pub mod Characters
 pub mod Escape
 pub mod Unescape
 pub mod Digits
+pub mod Normal
 pub mod Outcome
 pub mod Entries
 pub mod RoundTrip

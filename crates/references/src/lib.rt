@@ -82,6 +82,11 @@ fn char_reference(entity: &[u8]) -> Reference
 fn reference_of(entity: &[u8]) -> Reference
     ensures { λ r. ⌜ referenceOf r ≡ reference (now (entity .entry)) ⌝ }
 {
+    if 0 < entity.len() {
+        if entity[0] == 35 {
+            return char_reference(entity);
+        }
+    }
     if slices::equal(entity, b"amp") {
         return Reference::Character(38);
     }
@@ -137,11 +142,11 @@ fn piece_at(v: &[u8], at: usize) -> Piece
     ensures { λ r. ⌜ Pieces (now (v .entry)) at r ⌝ }
 {
     let b = v[at];
-    if b == 38 {
-        return reference_at(v, at);
-    }
     if b == 13 {
         return line_end(v, at);
+    }
+    if b == 38 {
+        return reference_at(v, at);
     }
     if b == 10 {
         return Piece::Byte(32, at + 1);
@@ -158,7 +163,7 @@ pub fn check(value: &[u8]) -> Checked
 {
     let mut at = slices::find(value, 0, 38);
     while at < value.len() {
-        match piece_at(value, at) {
+        match reference_at(value, at) {
             Piece::Byte(_, next) => {
                 at = slices::find(value, next, 38);
             }

@@ -24,4 +24,7 @@ reference-of-spec =
     (λ c. search entities)
     (λ c. search entities)
     (λ c. search entities)
+    (λ c. search entities)
+    (λ c. search entities)
+    (λ c. search entities)
     (λ c. search entities))
