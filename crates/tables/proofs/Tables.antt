@@ -30,7 +30,7 @@ fit-rows w n room p h = le-div-iff-mul-le p .1 h
 fit-whole : (w n room : ℕ) → 0 < w → n * w ≤ room → n * w ≤ whole w room
 fit-whole w n room p h = mul-le-mul-right w (fit-rows w n room p h)
 
-row-more : (w n : ℕ) → (n + 1) * w ≡ n * w + w
+pub row-more : (w n : ℕ) → (n + 1) * w ≡ n * w + w
 row-more w n = add-mul n 1 w ∙ ap (λ (k : ℕ). n * w + k) (one-mul w)
 
 -- where a row does not fit, the whole ones end before it
