@@ -2,7 +2,7 @@
 -- Assumes nothing.
 use Prim.Native.Nat.{ℕ, _+_, _*_, _≤_, _<_}
 use mathlib.Core.Path.{_≡_, refl, sym, _∙_}
-use mathlib.Core.List.{List, [], _∷_, _++_, append-nil, append-assoc}
+use mathlib.Core.List.{List, [], _∷_, append-nil, append-assoc}
 use mathlib.Core.Bool.{Bool, true, false}
 use borrow.Author.Needs.{needs}
 use borrow.Author.Tests.{ne-eqb}
@@ -17,6 +17,7 @@ use Rattle.tables.specs.Table.{Put}
 use Rattle.answers.specs.Puts.{Puts}
 use Rattle.answers.proofs.Putting.{puts-none, puts-one, puts-then}
 use Rattle.references.specs.Escape.{escaped, escape}
+use Rattle.references.specs.Joining.{EscapeJoins}
 
 -- what holds of the eight bytes that are escaped, and of any other as it is, holds of each byte
 pub by-escape :
@@ -46,7 +47,7 @@ escaped-least b = by-escape (λ x e. 1 ≤ length e) b (omega arith) (omega arit
 
 -- ---- laws of the whole
 
-pub escape-append : (a b : List ℕ) → escape (a ++ b) ≡ escape a ++ escape b
+pub escape-append : EscapeJoins
 unfolding escape
 escape-append [] b = refl
 escape-append (x ∷ a) b = rw (escape-append a b) (sym (append-assoc (escaped x) (escape a) (escape b)))

@@ -10,3 +10,4 @@ pub mod Shapes
 pub mod Formed
 pub mod RoundTrip
 pub mod Normal
+pub mod Joining

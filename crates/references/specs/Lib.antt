@@ -5,6 +5,7 @@ pub mod Escape
 pub mod Unescape
 pub mod Digits
 pub mod Normal
+pub mod Joining
 pub mod Outcome
 pub mod Entries
 pub mod RoundTrip
