@@ -1,5 +1,6 @@
--- The laws of runs, of values and of the loops over elements.
+-- The laws of prefixes, of runs, of values and of the loops over elements.
 -- Assumes nothing.
+pub mod Prefixes
 pub mod Runs
 pub mod Presence
 pub mod Loops
