@@ -5,7 +5,7 @@ use mathlib.Core.Path.{_≡_, refl, sym, ap, _∙_}
 use mathlib.Core.List.{List, [], _∷_, _++_, append-nil, append-assoc}
 use mathlib.Core.Bool.{Bool, true, false, _||_}
 use borrow.Author.Needs.{needs}
-use borrow.Author.Tests.{ne-eqb, eqb-true, not-true}
+use borrow.Author.Tests.{ne-eqb, eqb-true, not-true, not-false}
 use native.Mathlib.Nat.{add-zero}
 use native.Mathlib.Omega.{arith}
 use lib.Dec.{eqb, ltb}
@@ -13,7 +13,7 @@ use lib.ListN.{length, drop, getD, length-drop, drop-of-length-le}
 use lib.Seq.{drop-cons, drop-drop}
 use Rattle.slices.specs.Bytes.{if, other}
 use Rattle.slices.specs.Run.{Run}
-use Rattle.slices.proofs.Runs.{run-past}
+use Rattle.slices.proofs.Runs.{run-past, run-stop}
 use Rattle.tables.specs.Table.{Put}
 use Rattle.utf8.specs.Encoding.{utf8}
 use Rattle.answers.specs.Text.{Text, text, wrong}
@@ -119,18 +119,24 @@ no-fault b l at h = rw (not-true (eqb b 38) h) (go (eqb b 13) (eqb b 10 || eqb b
 pub record Checking (v : List ℕ) (at : ℕ) : Type 0 where
   pub left : faultOf (unescape v) ≡ faultOf (rest v at)
   pub inside : at ≤ length v
+  pub stops : at < length v → getD v at 0 ≡ 38
 
 to-ampersand : {v : List ℕ} {at r : ℕ} → faultOf (unescape v) ≡ faultOf (rest v at) → Run (other 38) v at r → Checking v r
 unfolding rest
-to-ampersand {v} {at} e n = record {
+to-ampersand {v} {at} {r} e n = record {
   left = e ∙ run-past (λ l p. faultOf (shownFrom 0 l p)) (other 38) no-fault v at n;
   inside = n .within;
+  stops = λ h. eqb-true (getD v r 0) 38 (not-false (eqb (getD v r 0) 38) (run-stop n h));
 }
 
 pub check-begins : {v : List ℕ} {r : ℕ} → Run (other 38) v 0 r → Checking v r
 check-begins {v} n = to-ampersand (rw rest-all) n
 
 module _ {v : List ℕ} {at : ℕ} (g : Checking v at) where
+  -- a reference is looked for at a `&`
+  pub check-ampersand : at < length v → getD v at 0 ≡ 38
+  check-ampersand h = g .stops h
+
   pub check-ends : length v ≤ at → Checks v Good
   check-ends h = record { is = fault-none (unescape v) (g .left ∙ rw (rest-ends v at h)) }
 
@@ -161,7 +167,7 @@ module _ {v : List ℕ} {at : ℕ} (g : Checking v at) where
       pub check-char-less : {r : ℕ} → Run (other 38) v next r → length v - r < length v - at
       check-char-less n = omega (arith, n .onward, is-char c e .1)
 
-pub ruleset checks = (check-begins, check-ends, check-fault, byte-inside, check-byte, check-byte-less, char-inside, check-char, check-char-less, needs)
+pub ruleset checks = (check-begins, check-ampersand, check-ends, check-fault, byte-inside, check-byte, check-byte-less, char-inside, check-char, check-char-less, needs)
 
 -- ---- bytes that show themselves
 

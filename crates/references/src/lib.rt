@@ -163,7 +163,7 @@ pub fn check(value: &[u8]) -> Checked
 {
     let mut at = slices::find(value, 0, 38);
     while at < value.len() {
-        match piece_at(value, at) {
+        match reference_at(value, at) {
             Piece::Byte(_, next) => {
                 at = slices::find(value, next, 38);
             }
