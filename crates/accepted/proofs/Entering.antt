@@ -13,7 +13,8 @@ use Rattle.document.specs.Tokens.{Tag}
 use Rattle.document.specs.Elements.{among, mayHold, attr}
 use Rattle.document.specs.Reading.{Frame, element, definition, passing, parentOf, tagReason, complete, notedIn, noted, frameOf}
 use Rattle.document.proofs.Tests.{never}
-use Rattle.accepted.proofs.Holding.{kinds, definitions, parts, held-kind, part-parent}
+use Rattle.document.specs.Kinds.{definitions, parts}
+use Rattle.accepted.proofs.Holding.{kinds, held-kind, part-parent}
 use Rattle.document.proofs.Steps.{kindIn, Begins}
 use Rattle.accepted.proofs.Entries.{Brief, Complete, due}
 use Rattle.accepted.proofs.Frames.{Placed, Agree, Frames, frames-agree, frames-more}

@@ -20,7 +20,8 @@ use Rattle.document.proofs.Opens.{opens-way}
 use Rattle.items.specs.Sound.{Use, optional, nameUse, valueUse, tpUse, validName, validValue, anyText, validWord}
 use Rattle.items.specs.Sound as items
 use Rattle.document.proofs.Tests.{either, never, among-each}
-use Rattle.accepted.proofs.Holding.{kinds, definitions, parts}
+use Rattle.document.specs.Kinds.{definitions, parts}
+use Rattle.accepted.proofs.Holding.{kinds}
 
 -- a value is absent where it may be, or it is used and valid
 abbrev pub GoodIn : Use → (List ℕ → Bool) → Option Shown → Type 0

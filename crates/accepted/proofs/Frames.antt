@@ -13,7 +13,7 @@ use Rattle.document.specs.Elements.{among, mayHold}
 use Rattle.document.specs.Reading.{Definition, Purpose, ignored, captures, Frame, element, definition, passing, partsReason, reasonOf}
 use Rattle.items.specs.Sound.{tpUse, anyText, validWord}
 use Rattle.accepted.proofs.Tokens.{After}
-use Rattle.accepted.proofs.Holding.{definitions, parts}
+use Rattle.document.specs.Kinds.{definitions, parts}
 use Rattle.accepted.proofs.Entries.{GoodIn, Brief, Complete}
 
 -- ---- rows by their numbers

@@ -6,18 +6,13 @@ use mathlib.Core.List.{List, [], _∷_}
 use mathlib.Core.Bool.{Bool, true}
 use Rattle.slices.specs.Bytes.{if, all}
 use Rattle.slices.proofs.Runs.{by-byte}
+use Rattle.document.specs.Kinds.{definitions, parts}
 use Rattle.document.specs.Elements.{among, heldBy, mayHold}
 use Rattle.document.proofs.Tests.{among-all}
 
 -- every kind but 0 and 14
 abbrev pub kinds : List ℕ
 kinds = 1 ∷ 2 ∷ 3 ∷ 4 ∷ 5 ∷ 6 ∷ 7 ∷ 8 ∷ 9 ∷ 10 ∷ 11 ∷ 12 ∷ 13 ∷ []
-
-abbrev pub definitions : List ℕ
-definitions = 8 ∷ 9 ∷ 11 ∷ 13 ∷ []
-
-abbrev pub parts : List ℕ
-parts = 10 ∷ 12 ∷ []
 
 -- what holds of all that the elements may hold that hold any
 module _ (q : ℕ → ℕ → Bool) where

@@ -8,6 +8,7 @@ use native.Mathlib.Omega.{arith}
 use lib.ListN.{length, take, drop, getD, length-append}
 use lib.Seq.{length-take-le, drop-at, getD-drop}
 use Rattle.utf8.proofs.Sequences.{below}
+use Rattle.document.specs.Kinds.{definitions}
 use Rattle.document.specs.Tags.{Shown}
 use Rattle.document.specs.Tokens.{Tag, Token, start, close, fault, end}
 use Rattle.document.specs.Rows.{Row, Tables, rowText, rowWords, wordsFrom}
@@ -134,7 +135,7 @@ noted-rows k t fs = either (λ (gs : List Frame). openRows gs ≡ openRows fs) (
     go (passing p ns ∷ fs) = refl
 
 entered-rows : (k : ℕ) (t : Tag) (n : ℕ) (fs : List Frame) → openRows (frameOf k t n ∷ fs) ≡ n ∷ openRows fs
-entered-rows k t n fs = either (λ (f : Frame). openRows (f ∷ fs) ≡ n ∷ openRows fs) (among k (8 ∷ 9 ∷ 11 ∷ 13 ∷ [])) (λ c. refl) (λ c. refl)
+entered-rows k t n fs = either (λ (f : Frame). openRows (f ∷ fs) ≡ n ∷ openRows fs) (among k definitions) (λ c. refl) (λ c. refl)
 
 -- ---- states
 

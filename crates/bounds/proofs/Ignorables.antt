@@ -30,20 +30,20 @@ module _ (from top : ℕ) where
       (λ t. seek-within n m key c l (suc p) h (omega arith) (omega arith))
 
   -- the inside of an open quote begins before the end
-  abbrev Inside : Mode → Type 0
-  Inside (bare d) = Unit {0}
-  Inside (quoted d q c) = c ≤ top
+  abbrev BegunWithin : Mode → Type 0
+  BegunWithin (bare d) = Unit {0}
+  BegunWithin (quoted d q c) = c ≤ top
 
-  changed-inside : (m : Mode) (b p : ℕ) → suc p ≤ top → Inside m → Inside (changed m b p)
+  changed-inside : (m : Mode) (b p : ℕ) → suc p ≤ top → BegunWithin m → BegunWithin (changed m b p)
   changed-inside (bare d) b p h i =
-      either Inside (quote b) (λ t. h) (λ t. either Inside (eqb b 91) (λ t. tt) (λ t. either Inside (eqb b 93) (λ t. tt) (λ t. tt)))
-  changed-inside (quoted d q c) b p h i = either Inside (eqb b q) (λ t. tt) (λ t. i)
+      either BegunWithin (quote b) (λ t. h) (λ t. either BegunWithin (eqb b 91) (λ t. tt) (λ t. either BegunWithin (eqb b 93) (λ t. tt) (λ t. tt)))
+  changed-inside (quoted d q c) b p h i = either BegunWithin (eqb b q) (λ t. tt) (λ t. i)
 
-  unended-within : (m : Mode) (p : ℕ) → p ≤ top → Inside m → Scanned from top (unended m p)
+  unended-within : (m : Mode) (p : ℕ) → p ≤ top → BegunWithin m → Scanned from top (unended m p)
   unended-within (bare d) p h i = (refl, h)
   unended-within (quoted d q c) p h i = (refl, i)
 
-  declaration-within : (m : Mode) (l : List ℕ) (p : ℕ) → from ≤ p → p + length l ≡ top → Inside m → Scanned from top (declarationIn m l p)
+  declaration-within : (m : Mode) (l : List ℕ) (p : ℕ) → from ≤ p → p + length l ≡ top → BegunWithin m → Scanned from top (declarationIn m l p)
   declaration-within m [] p f e i = unended-within m p (omega arith) i
   declaration-within m (b ∷ l) p f e i =
       either (Scanned from top) (ends m b)

@@ -8,6 +8,7 @@ use mathlib.Core.List.{List, [], _∷_, _++_}
 use native.Mathlib.Omega.{arith}
 use lib.ListN.{length, take, drop, length-append, take-append-drop}
 use lib.Seq.{length-take-le}
+use Rattle.document.specs.Kinds.{definitions}
 use Rattle.document.specs.Tags.{Shown}
 use Rattle.document.specs.Tokens.{Tag, Token, start, close, fault, end}
 use Rattle.document.specs.Rows.{Row, Tables, rowText, texts}
@@ -83,7 +84,7 @@ row-holds q k t r {fs} {u} l m h =
     record {
       few = omega (arith, h .few, a .0, n);
       text = rw (texts-more, length-append) (omega (arith, h .text));
-      owned = either (λ (f : Frame). Owned (length (u .rows ++ (r ∷ []))) (f ∷ noted k t fs)) (among k (8 ∷ 9 ∷ 11 ∷ 13 ∷ []))
+      owned = either (λ (f : Frame). Owned (length (u .rows ++ (r ∷ []))) (f ∷ noted k t fs)) (among k definitions)
           (λ c. (omega arith, a .1 (length (u .rows)) (h .owned)))
           (λ c. a .1 (length (u .rows ++ (r ∷ []))) (owned-more (length (u .rows)) (length (u .rows ++ (r ∷ []))) fs (omega arith) (h .owned)));
     }

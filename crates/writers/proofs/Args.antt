@@ -20,6 +20,7 @@ use Rattle.answers.proofs.Putting.{puts-then}
 use Rattle.items.specs.Words.{RowWords, rowOf, rowsOf, tripleAt, viewed, rowsShown, wordAt, isChild}
 use Rattle.items.specs.Written.{Annotation, Arg, Pair, pairs, optional, tag, closingTag, concat, element, writtenAnnotation, writtenArg}
 use Rattle.items.specs.Content.{Row, direction, annotationOf, annotations, argOf}
+use Rattle.items.proofs.Children.{annotations-append}
 use Rattle.writers.specs.Rows.{wordsIn, rowAt, rowsIn, anyChild, SomeChild, Held, RowHeld, Last}
 use Rattle.writers.specs.Writes.{Scannable, annotationsIn, AnnotationsPut, nameAt, typeAt, directionAt, ArgTagPut, ArgPut, CountFits}
 use Rattle.writers.proofs.Scans.{rows-one}
@@ -39,14 +40,6 @@ shown-split d x ws i (suc a) b =
 pub shown-parts : (d x ws : List ℕ) (i a b j n : ℕ) → i + a ≡ j → n ≡ a + b → rowsIn d x ws i n ≡ rowsIn d x ws i a ++ rowsIn d x ws j b
 shown-parts d x ws i a b j n e f =
     ap (λ m. rowsIn d x ws i m) f ∙ shown-split d x ws i a b ∙ ap (λ k. rowsIn d x ws i a ++ rowsIn d x ws k b) e
-
-annotations-append : (p : ℕ) (l m : List Row) → annotations p (l ++ m) ≡ annotations p l ++ annotations p m
-annotations-append p [] m = refl
-annotations-append p (r ∷ l) m = go (isChild kinds.annotation p (r .kind) (r .parent)) (annotations-append p l m)
-  where
-    go : (b : Bool) → annotations p (l ++ m) ≡ annotations p l ++ annotations p m → if b (annotationOf r ∷ annotations p (l ++ m)) (annotations p (l ++ m)) ≡ if b (annotationOf r ∷ annotations p l) (annotations p l) ++ annotations p m
-    go true e = ap (_∷_ (annotationOf r)) e
-    go false e = e
 
 -- no row from row i on is a child of row p less one
 pub record Clear (ws : List ℕ) (p i a : ℕ) : Type 0 where

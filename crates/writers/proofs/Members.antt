@@ -22,6 +22,7 @@ use Rattle.items.proofs.Rows.{length-rowsOf}
 use Rattle.items.specs.Words.{RowWords, rowOf, rowsOf, tripleAt, viewed, rowsShown, wordAt, isChild}
 use Rattle.items.specs.Written.{Annotation, Arg, Member, Pair, pair, pairs, named, tag, closingTag, concat, element, writtenAnnotation, writtenArg, writtenMember}
 use Rattle.items.specs.Content.{Row, annotations, argOf, args, memberOf}
+use Rattle.items.proofs.Children.{args-append}
 use Rattle.items.specs.Order.{InOrder}
 use Rattle.writers.specs.Rows.{wordsIn, rowAt, rowsIn, anyChild, Child, SomeChildren, Held, RowHeld, Last, Ordered, Orders, ChildOf}
 use Rattle.writers.specs.Writes.{Puttable, ShownPut, Scannable, annotationsIn, AnnotationsPut, ArgPut, ifArg, IfArgPut, ArgsScannable, Turn, argsIn, NotesScannable, tagOf, MemberTagPut, MemberEndPut, MemberScannable, ChildrenPut, MemberPut, CountFits, KindPut}
@@ -240,16 +241,6 @@ member-within h = h .within
 pub ruleset inner = (member-args, member-notes, children-put, first-inside, next-inside, member-held, member-within, needs)
 
 -- the args of row i are those among the rows after it
-args-append : (t : List Row) (p i : ℕ) (l r : List Row) → args t p i (l ++ r) ≡ args t p i l ++ args t p (i + length l) r
-args-append t p i [] r = rw (add-zero i)
-args-append t p i (y ∷ l) r =
-    let e : suc i + length l ≡ i + suc (length l) = omega arith in
-    go (isChild kinds.arg p (y .kind) (y .parent)) (args-append t p (suc i) l r ∙ ap (λ k. args t p (suc i) l ++ args t p k r) e)
-  where
-    go : (b : Bool) → args t p (suc i) (l ++ r) ≡ args t p (suc i) l ++ args t p (i + suc (length l)) r → if b (argOf t i y ∷ args t p (suc i) (l ++ r)) (args t p (suc i) (l ++ r)) ≡ if b (argOf t i y ∷ args t p (suc i) l) (args t p (suc i) l) ++ args t p (i + suc (length l)) r
-    go true f = ap (_∷_ (argOf t i y)) f
-    go false f = f
-
 clear-args : (d x ws : List ℕ) (t : List Row) (p i a : ℕ) → Clear ws p i a → args t p i (rowsIn d x ws i a) ≡ []
 clear-args d x ws t p i zero h = refl
 clear-args d x ws t p i (suc a) h =
