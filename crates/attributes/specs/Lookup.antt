@@ -37,7 +37,7 @@ keyedAt keys key len n = leb (key + len) (length keys) && keyed (part keys key l
 abbrev pub isTp : Attribute → Bool
 isTp a = a .tp
 
--- what is asked of an attribute: that it is a tp type, or that its name is the key
+-- what is asked of an attribute, by its name's place and length and whether it is a tp type: the tp type, or the key
 abbrev pub wantedAt : List ℕ → ℕ → ℕ → Bool → List ℕ → ℕ → ℕ → Bool → Bool
 wantedAt keys key len true doc at n tp = tp
 wantedAt keys key len false doc at n tp = partIs (keyedAt keys key len) doc at n

@@ -1,14 +1,14 @@
 -- The local name and the tp type, by the colons of a name.
 -- Assumes nothing.
-use Prim.Native.Nat.{ℕ, suc, _+_, _-_, _≤_, _<_}
-use mathlib.Core.Path.{_≡_, refl, sym, ap, _∙_}
+use Prim.Native.Nat.{ℕ, suc, _-_, _≤_}
+use mathlib.Core.Path.{_≡_, refl, ap}
 use mathlib.Core.List.{List, [], _∷_}
 use mathlib.Core.Bool.{Bool, true, false, not, _&&_}
 use borrow.Author.Tests.{eqb-true, eq-eqb, ne-eqb}
 use native.Mathlib.Omega.{arith}
 use lib.Dec.{eqb}
-use lib.ListN.{length, drop}
-use Rattle.slices.specs.Bytes.{if, bytes, other, span, past, all, empty, same}
+use lib.ListN.{drop}
+use Rattle.slices.specs.Bytes.{if, other, span, past, all, empty}
 use Rattle.scan.specs.Colons.{colonAt, colonsFrom}
 use Rattle.scan.specs.declared.Colons.{Colons}
 use Rattle.scan.specs.declared.Colons.the-variants.{Absent, Between}

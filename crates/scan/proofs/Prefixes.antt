@@ -13,7 +13,7 @@ use native.Mathlib.Omega.{arith}
 use lib.Dec.{eqb}
 use lib.ListN.{length, take, drop, getD, drop-of-length-le}
 use lib.Seq.{take-nil, drop-cons, drop-drop}
-use Rattle.slices.specs.Bytes.{if, other, span}
+use Rattle.slices.specs.Bytes.{if, span}
 use Rattle.slices.specs.Run.{Run}
 use Rattle.slices.proofs.Runs.{run-past, run-stop}
 use Rattle.slices.proofs.Ends.{run-span}
