@@ -19,7 +19,7 @@ use Rattle.references.specs.Unescape.{plain}
 use Rattle.references.proofs.Shapes.{unescape-plain}
 use Rattle.document.specs.Tags.{Attr, Shown, Checked, good, fault, also, member, check}
 use Rattle.attributes.specs.One.{part, attrOf, Fit}
-use Rattle.attributes.specs.Lookup.{blank, partIs, nameIs, wanted, firstBy, valueOf, valueIn, Picks}
+use Rattle.attributes.specs.Lookup.{blank, partIs, nameIs, wanted, firstBy, valueOf, valueIn, Picks, keyedAt}
 use Rattle.attributes.specs.Outcome.{Checkable, attrsOf, References, listed, there, Weighs, Judges, Checks}
 use Rattle.document.specs.declared.Value.{Value}
 use Rattle.attributes.specs.declared.Attribute.{Attribute}
@@ -78,12 +78,12 @@ fit-there {doc} a f = rw (f .kind) (go (all plain (attrOf doc a .raw)))
     go false = refl
 
 -- the first with a name that lies in the document is there where the name is listed
-first-listed : (doc : List ℕ) (at n : ℕ) (xs : List Attribute) → at + n ≤ length doc → ((k : ℕ) → k < length xs → Fit doc 0 (length doc) (getD xs k blank)) → there (valueOf (firstBy (nameIs (wanted doc at n false) doc) xs)) ≡ listed (part doc at n) (map (attrOf doc) xs)
+first-listed : (doc : List ℕ) (at n : ℕ) (xs : List Attribute) → at + n ≤ length doc → ((k : ℕ) → k < length xs → Fit doc 0 (length doc) (getD xs k blank)) → there (valueOf (firstBy (wanted doc at n false doc) xs)) ≡ listed (part doc at n) (map (attrOf doc) xs)
 unfolding firstBy
 first-listed doc at n [] l h = refl
 first-listed doc at n (x ∷ xs) l h =
-    there-if (nameIs (wanted doc at n false) doc x) x (firstBy (nameIs (wanted doc at n false) doc) xs) (fit-there x (h 0 (omega arith)))
-    ∙ rw (name-within (wanted doc at n false) doc x (h 0 (omega arith) .name), le-leb (at + n) (length doc) l, first-listed doc at n xs l (λ k b. h (suc k) (omega arith)))
+    there-if (wanted doc at n false doc x) x (firstBy (wanted doc at n false doc) xs) (fit-there x (h 0 (omega arith)))
+    ∙ rw (name-within (keyedAt doc at n) doc x (h 0 (omega arith) .name), le-leb (at + n) (length doc) l, first-listed doc at n xs l (λ k b. h (suc k) (omega arith)))
 
 -- ---- one attribute
 
@@ -126,7 +126,7 @@ module _ {doc : List ℕ} {xs : List Attribute} {i : ℕ} (h : i < length xs) (g
   pub judge-below : i ≤ length xs
   judge-below = omega arith
 
-  pub judge-is : {v : Value} {r : AttributeCheck} → Picks (wanted doc (getD xs i blank .name) (getD xs i blank .«name_len») false) doc xs i v → Weighs doc (getD xs i blank) v r → Judges doc xs i r
+  pub judge-is : {v : Value} {r : AttributeCheck} → Picks (wanted doc (getD xs i blank .name) (getD xs i blank .«name_len») false doc) xs i v → Weighs doc (getD xs i blank) v r → Judges doc xs i r
   unfolding valueIn
   judge-is {v} {r} p w = record { is = rw (← seen) (w .is) }
     where

@@ -18,7 +18,7 @@ use Rattle.slices.proofs.Ends.{run-span, run-rest, run-empty, run-some}
 use Rattle.scan.specs.Classes.{white, nameByte}
 use Rattle.scan.specs.Ignorable.{quote}
 use Rattle.references.specs.Unescape.{special}
-use Rattle.document.specs.Tags.{Found as Finding, attribute, equals, openQuote}
+use Rattle.document.specs.Tags.{Found as Finding, attribute, equals, openQuote, isTpType}
 use Rattle.attributes.specs.One.{part, kindFrom, Fit, Quotes, Named, Finds}
 use Rattle.attributes.specs.declared.Attribute.{Attribute}
 use Rattle.attributes.specs.declared.ValueEnd.{ValueEnd}
@@ -97,6 +97,7 @@ fit-wide h l f = record {
   value = omega (arith, f .value);
   short = omega (arith, f .short);
   kind = f .kind;
+  tp = f .tp;
 }
 
 -- one definition leads to another further on
@@ -115,7 +116,7 @@ quote-low {b} e f = go (eqb b 34) (eqb b 39) (eqb-true b 34) (eqb-true b 39) (sy
     go false false p q r = let z : _≡_ {A = ℕ} 0 1 = cc in absurd (omega arith)
 
 -- at the opening quote
-module _ {doc : List ℕ} {name n at : ℕ} (g : Named doc name n at) where
+module _ {doc : List ℕ} {name n : ℕ} {tp : Bool} {at : ℕ} (g : Named doc name n tp at) where
   pub value-ended : length doc ≤ at → Finds (openQuote name (part doc name n)) doc at Absent
   value-ended h = record { onward = tt; is = rw (drop-of-length-le doc h) }
 
@@ -133,7 +134,7 @@ module _ {doc : List ℕ} {name n at : ℕ} (g : Named doc name n at) where
         is = rw (drop-cons doc at 0 h, sym e ∙ f, to-close, drop-of-length-le doc l);
       }
 
-      pub value-found : v .end < length doc → Finds (openQuote name (part doc name n)) doc at (Found (record { name = name; «name_len» = n; value = at + 1; «value_len» = v .end - (at + 1); kind = v .kind }) (v .end + 1))
+      pub value-found : v .end < length doc → Finds (openQuote name (part doc name n)) doc at (Found (record { name = name; «name_len» = n; value = at + 1; «value_len» = v .end - (at + 1); kind = v .kind; tp = tp }) (v .end + 1))
       value-found l =
           let r : span (other (getD doc at 0)) (drop (suc at) doc) ≡ part doc (suc at) (v .end - suc at) = rw add-one at (run-span (c .run)) in
           let p : suc at + length (span (other (getD doc at 0)) (drop (suc at) doc)) ≡ v .end = sym (rw add-one at (c .run .ends)) in
@@ -146,6 +147,7 @@ module _ {doc : List ℕ} {name n at : ℕ} (g : Named doc name n at) where
                 value = omega (arith, c .run .onward);
                 short = omega (arith, c .run .onward);
                 kind = c .kind ∙ rw (run-span (c .run));
+                tp = g .type;
               },
             );
             is = rw (add-one at, add-one (v .end), drop-cons doc at 0 h, sym e ∙ f, to-close, drop-cons doc (v .end) 0 l, p, r);
@@ -154,7 +156,7 @@ module _ {doc : List ℕ} {name n at : ℕ} (g : Named doc name n at) where
 pub ruleset values = (quote-low, value-ended, value-other, value-unclosed, value-found, needs)
 
 -- at the `=`
-module _ {doc : List ℕ} {name n at : ℕ} (g : Named doc name n at) where
+module _ {doc : List ℕ} {name n : ℕ} {tp : Bool} {at : ℕ} (g : Named doc name n tp at) where
   pub equals-ended : length doc ≤ at → Finds (equals name (part doc name n)) doc at Absent
   equals-ended h = record { onward = tt; is = rw (drop-of-length-le doc h) }
 
@@ -167,8 +169,8 @@ module _ {doc : List ℕ} {name n at : ℕ} (g : Named doc name n at) where
       let m : past white (drop (suc at) doc) ≡ drop q doc = rw add-one at (run-rest w) in
       carries r (omega (arith, w .onward)) (rw (drop-cons doc at 0 h, e, m, p)) c
 
-  pub named-on : {q : ℕ} → at < length doc → Run white doc (at + 1) q → Named doc name n q
-  named-on h w = record { small = g .small; inside = w .within; before = omega (arith, g .before, w .onward) }
+  pub named-on : {q : ℕ} → at < length doc → Run white doc (at + 1) q → Named doc name n tp q
+  named-on h w = record { small = g .small; inside = w .within; before = omega (arith, g .before, w .onward); type = g .type }
 
 -- at the white space before the name
 module _ {doc : List ℕ} {from name : ℕ} (w : Run white doc from name) where
@@ -189,7 +191,7 @@ module _ {doc : List ℕ} {from name : ℕ} (w : Run white doc from name) where
           (rw (run-some w h, run-rest w, ← w .ends, run-some n l, run-rest n, run-rest v, ← n .ends, ← v .ends, run-span n))
           c
 
-pub named-before : {doc : List ℕ} {from name end at : ℕ} → length doc ≤ 1048576 → Run white doc from name → Run nameByte doc name end → Run white doc end at → Named doc name (end - name) at
-named-before s w n v = record { small = s; inside = v .within; before = omega (arith, n .onward, v .onward) }
+pub named-before : {doc : List ℕ} {from name end at : ℕ} {tp : Bool} → length doc ≤ 1048576 → Run white doc from name → Run nameByte doc name end → Run white doc end at → tp ≡ isTpType (part doc name (end - name)) → Named doc name (end - name) tp at
+named-before s w n v e = record { small = s; inside = v .within; before = omega (arith, n .onward, v .onward); type = e }
 
 pub ruleset finds = (equals-ended, equals-other, equals-found, named-on, none-spaced, none-named, attribute-found, named-before, needs)

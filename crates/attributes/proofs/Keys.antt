@@ -1,23 +1,30 @@
 -- Names that are a key, or that of a tp type.
 -- Assumes nothing.
-use Prim.Native.Nat.{ℕ, suc, _+_, _-_, _≤_, _<_}
+use Prim.Native.Nat.{ℕ, suc, _+_, _-_, _≤_, _<_, _^_}
 use mathlib.Core.Path.{_≡_, refl, sym, _∙_}
-use mathlib.Core.List.{List, [], _∷_}
-use mathlib.Core.Bool.{Bool, true, false, not, and-false}
+use mathlib.Core.List.{List}
+use mathlib.Core.Bool.{Bool, true, false, and-false}
 use borrow.Author.Needs.{needs}
-use borrow.Author.Tests.{le-leb, lt-leb, eqb-true, eqb-false, eq-eqb, ne-eqb, not-true, not-false}
+use borrow.Author.Tests.{le-leb, lt-leb, eq-eqb, ne-eqb}
 use native.Mathlib.Decide.{decLe}
+use native.Mathlib.Numerals.{add-one}
 use native.Mathlib.Omega.{arith}
-use native.Mathlib.Nat.{zero-add}
-use lib.Dec.{leb, eqb}
+use lib.Dec.{leb}
 use lib.ListN.{length, take, drop, length-drop}
-use lib.Seq.{take-all, length-take-le}
-use Rattle.slices.specs.Bytes.{bytes, other, span, past, empty, same}
-use Rattle.slices.specs.Run.{Run}
-use Rattle.slices.proofs.Ends.{empty-some}
-use Rattle.slices.proofs.Runs.{past-drop, same-short}
+use lib.Seq.{length-take-le}
+use Rattle.slices.specs.Bytes.{bytes, span, same}
+use Rattle.slices.proofs.Ends.{run-span}
+use Rattle.slices.proofs.Runs.{same-short}
+use Rattle.scan.specs.Classes.{nameByte}
+use Rattle.scan.specs.Colons.{Scanned}
+use Rattle.scan.specs.declared.Colons.{Colons}
+use Rattle.scan.specs.declared.Colons.the-variants.{Absent, Between}
+use Rattle.scan.specs.declared.Name.{Name}
+use Rattle.scan.proofs.Prefixes.{Within, colons-within, name-from}
 use Rattle.document.specs.Tags.{isTpType}
-use Rattle.attributes.specs.Lookup.{partIs, keyedAt, wanted}
+use Rattle.document.specs.Prefixes.{tpTypeBy}
+use Rattle.document.proofs.Prefixes.{tp-type}
+use Rattle.attributes.specs.Lookup.{partIs, keyedAt, wantedAt}
 
 -- a part that runs past the document is of no kind
 pub part-past : (p : List ℕ → Bool) (doc : List ℕ) (at n : ℕ) → length doc < at + n → false ≡ partIs p doc at n
@@ -56,55 +63,47 @@ module _ (doc keys : List ℕ) (at n key len : ℕ) where
       let m : (key + len) - key ≡ len = omega arith in
       part-within (keyedAt keys key len) doc at n r h ((rw m at e) ∙ rw (le-leb (key + len) (length keys) k))
 
--- a tp type's name: its last five bytes are `:type`, and the first colon is theirs, after a byte at least
-module _ (name : List ℕ) where
-  -- the first colon stands elsewhere
-  tp-elsewhere : (length name - length (span (other 58) name) ≡ 5 → ⊥) → false ≡ isTpType name
-  tp-elsewhere h =
-      let n : length (past (other 58) name) ≡ length name - length (span (other 58) name) = rw past-drop (length-drop (length (span (other 58) name)) name) in
-      rw (← same-short (past (other 58) name) (bytes ":type") (λ q. h (sym n ∙ q))) (sym (and-false (not (empty (span (other 58) name)))))
-
-  pub tp-short : length name < 6 → false ≡ isTpType name
-  tp-short h = go (span (other 58) name) refl
-    where
-      go : (s : List ℕ) → span (other 58) name ≡ s → false ≡ isTpType name
-      go [] e = rw e
-      go (b ∷ s) e = tp-elsewhere (λ q. let r : length name - suc (length s) ≡ 5 = rw e at q in absurd (omega arith))
-
-  module _ {u : Bool} (e : u ≡ same (take (length name - (length name - 5)) (drop (length name - 5) name)) (bytes ":type")) (h : 6 ≤ length name) where
-    -- it is theirs
-    here : length (span (other 58) name) ≡ length name - 5 → u ≡ same (past (other 58) name) (bytes ":type")
-    here q =
-        let a : take (length name - (length name - 5)) (drop (length name - 5) name) ≡ drop (length name - 5) name = take-all (length name - (length name - 5)) (drop (length name - 5) name) (rw length-drop (omega arith)) in
-        (rw a at e) ∙ rw (past-drop, q)
-
-    pub tp-other : not u ≡ true → false ≡ isTpType name
-    tp-other f = go (eqb (length (span (other 58) name)) (length name - 5)) refl
-      where
-        go : (t : Bool) → eqb (length (span (other 58) name)) (length name - 5) ≡ t → false ≡ isTpType name
-        go false o = tp-elsewhere (λ q. eqb-false (length (span (other 58) name)) (length name - 5) o (omega arith))
-        go true o =
-            let n = eqb-true (length (span (other 58) name)) (length name - 5) o in
-            rw (sym (here n) ∙ not-true u f) (sym (and-false (not (empty (span (other 58) name)))))
-
-    pub tp-last : {colon : ℕ} → Run (other 58) name 0 colon → not u ≡ false → eqb colon (length name - 5) ≡ isTpType name
-    tp-last {colon} r f = go (eqb (length (span (other 58) name)) (length name - 5)) refl
-      where
-        long : length (span (other 58) name) ≡ colon
-        long = sym (r .ends ∙ zero-add _)
-
-        go : (t : Bool) → eqb (length (span (other 58) name)) (length name - 5) ≡ t → eqb colon (length name - 5) ≡ isTpType name
-        go false o = ne-eqb colon (length name - 5) (λ q. eqb-false (length (span (other 58) name)) (length name - 5) o (long ∙ q)) ∙ tp-elsewhere (λ q. eqb-false (length (span (other 58) name)) (length name - 5) o (omega arith))
-        go true o =
-            let n = eqb-true (length (span (other 58) name)) (length name - 5) o in
-            eq-eqb colon (length name - 5) (sym long ∙ n) ∙ rw (empty-some (span (other 58) name) (rw n (omega arith)), sym (here n) ∙ not-false u f)
-
 -- one or the other
-module _ (doc keys : List ℕ) (at n key len : ℕ) (tp r : Bool) where
-  pub named-tp : tp ≡ true → r ≡ partIs isTpType doc at n → r ≡ partIs (wanted keys key len tp) doc at n
-  named-tp e q = rw e q
+module _ (doc keys : List ℕ) (at n key len : ℕ) (is-tp tp : Bool) where
+  pub wanted-tp : tp ≡ true → is-tp ≡ wantedAt keys key len tp doc at n is-tp
+  wanted-tp e = rw e
 
-  pub named-key : tp ≡ false → r ≡ partIs (keyedAt keys key len) doc at n → r ≡ partIs (wanted keys key len tp) doc at n
-  named-key e q = rw e q
+  pub wanted-key : {r : Bool} → tp ≡ false → r ≡ partIs (keyedAt keys key len) doc at n → r ≡ wantedAt keys key len tp doc at n is-tp
+  wanted-key e q = rw e q
 
-pub ruleset keys = (part-past, part-within, key-past, key-other, key-same, tp-short, tp-other, tp-last, named-tp, named-key, needs)
+pub ruleset keys = (part-past, part-within, key-past, key-other, key-same, wanted-tp, wanted-key, needs)
+
+-- ---- a tp type's name, by its colons
+
+first-within : (p e : ℕ) (c : Colons) {first last : ℕ} → Within p e c → c ≡ Between first last → (p ≤ first) × (first < e)
+first-within p e c {first} {last} w q = let v : Within p e (Between first last) = rw q at w in (v .0, omega (arith, v .1, v .2))
+
+module _ {doc : List ℕ} {at : ℕ} {name : Name} (g : Scanned doc at name) where
+  by-colons : isTpType (take (name .end - at) (drop at doc)) ≡ tpTypeBy (span nameByte (drop at doc)) at (name .colons)
+  by-colons = rw (← run-span (g .run), g .colons) (tp-type (span nameByte (drop at doc)) at)
+
+  pub tp-none : name .colons ≡ Absent → false ≡ isTpType (take (name .end - at) (drop at doc))
+  tp-none e = sym (by-colons ∙ rw e)
+
+  module _ {first last : ℕ} (e : name .colons ≡ Between first last) where
+    inside : (at ≤ first) × (first < name .end)
+    inside =
+        let n : at + length (span nameByte (drop at doc)) ≡ name .end = sym (g .run .ends) in
+        first-within at (name .end) (name .colons) (rw (g .colons) (rw n at (colons-within (span nameByte (drop at doc)) at))) e
+
+    pub tp-small : length doc ≤ 1048576 → first + 1 < 2 ^ 64
+    tp-small h = omega (arith, inside .1, g .run .within)
+
+    pub tp-inside : first + 1 ≤ name .end
+    tp-inside = omega (arith, inside .1)
+
+    pub tp-first : first ≡ at → false ≡ isTpType (take (name .end - at) (drop at doc))
+    tp-first f = sym (by-colons ∙ rw (e, eq-eqb first at f))
+
+    pub tp-rest : (first ≡ at → ⊥) → {r : Bool} → r ≡ same (take (name .end - (first + 1)) (drop (first + 1) doc)) (bytes "type") → r ≡ isTpType (take (name .end - at) (drop at doc))
+    tp-rest f {r} q =
+        let d : take (name .end - (first + 1)) (drop (first + 1) doc) ≡ drop (suc first - at) (span nameByte (drop at doc)) = name-from g (omega (arith, inside .0)) (omega (arith, inside .1)) ∙ rw add-one in
+        q ∙ rw d (sym (by-colons ∙ rw (e, ne-eqb first at f)))
+
+-- what answers every need of `is_tp_type`
+pub ruleset prefixes = (tp-none, tp-small, tp-inside, tp-first, tp-rest, needs)

@@ -14,7 +14,7 @@ use Rattle.references.specs.Unescape.{unescape}
 use Rattle.document.specs.Tags.{Attr, Shown, Checked, good, fault, also, member, check, lookup, isTpType, tpType}
 use Rattle.document.specs.Outcome.{Held, ValueIs, ValueFits, ValuesFit, ValuesAre}
 use Rattle.attributes.specs.One.{attrOf, kindFrom, Fit}
-use Rattle.attributes.specs.Lookup.{blank, nameIs, keyed, firstBy, valueOf, valueIn, valuesIn}
+use Rattle.attributes.specs.Lookup.{blank, nameIs, keyed, isTp, firstBy, valueOf, valueIn, valuesIn}
 use Rattle.attributes.specs.Outcome.{Fitted, attrsOf}
 use Rattle.attributes.specs.declared.Attribute.{Attribute}
 use Rattle.attributes.proofs.Checking.{name-within}
@@ -60,7 +60,7 @@ check-shown doc seen (y ∷ ys) ss e = go (member (attrOf doc y .name) seen) e (
 abbrev AllFit : List ℕ → ℕ → ℕ → List Attribute → Type 0
 AllFit doc from to ys = (k : ℕ) → k < length ys → Fit doc from to (getD ys k blank)
 
-module _ (p : List ℕ → Bool) (doc : List ℕ) (from to : ℕ) (b : to ≤ length doc) where
+module _ (q : Attribute → Bool) (doc : List ℕ) (from to : ℕ) (b : to ≤ length doc) where
   held : (y : Attribute) (s : Shown) → Fit doc from to y → s .attr ≡ attrOf doc y → unescape (s .attr .raw) ≡ text (s .value) → Held doc (valueOf (some y)) s
   held y s f e u = record {
     at = sym (ap (λ (a : Attr). a .valued) e);
@@ -70,27 +70,27 @@ module _ (p : List ℕ → Bool) (doc : List ℕ) (from to : ℕ) (b : to ≤ le
     shows = u;
   }
 
-  value-is : (ys : List Attribute) (ss : List Shown) → Showing doc ys ss → AllFit doc from to ys → ValueIs doc (valueIn p doc ys) (shownBy p ss)
+  -- what is asked of an attribute is asked of its name
+  value-is : (p : List ℕ → Bool) → ((y : Attribute) → Fit doc from to y → q y ≡ p (attrOf doc y .name)) → (ys : List Attribute) (ss : List Shown) → Showing doc ys ss → AllFit doc from to ys → ValueIs doc (valueIn q ys) (shownBy p ss)
   unfolding valueIn firstBy
-  value-is [] [] h f = refl
-  value-is [] (s ∷ ss) h f = absurd h
-  value-is (y ∷ ys) [] h f = absurd h
-  value-is (y ∷ ys) (s ∷ ss) h f =
+  value-is p w [] [] h f = refl
+  value-is p w [] (s ∷ ss) h f = absurd h
+  value-is p w (y ∷ ys) [] h f = absurd h
+  value-is p w (y ∷ ys) (s ∷ ss) h f =
       let g : Fit doc from to y = f 0 (omega arith) in
-      let n : nameIs p doc y ≡ p (attrOf doc y .name) = name-within p doc y (omega (arith, g .name)) in
       let e : p (s .attr .name) ≡ p (attrOf doc y .name) = ap (λ (a : Attr). p (a .name)) (h .0) in
-      rw (n, e) (go (p (attrOf doc y .name)) g (value-is ys ss (h .2) (λ k l. f (suc k) (omega arith))))
+      rw (w y g, e) (go (p (attrOf doc y .name)) g (value-is p w ys ss (h .2) (λ k l. f (suc k) (omega arith))))
     where
-      go : (t : Bool) → Fit doc from to y → ValueIs doc (valueIn p doc ys) (shownBy p ss) → ValueIs doc (valueOf (if t (some y) (firstBy (nameIs p doc) ys))) (if t (some s) (shownBy p ss))
+      go : (t : Bool) → Fit doc from to y → ValueIs doc (valueIn q ys) (shownBy p ss) → ValueIs doc (valueOf (if t (some y) (firstBy q ys))) (if t (some s) (shownBy p ss))
       go true g i = held y s g (h .0) (h .1)
       go false g i = i
 
-  value-fits : from ≤ to → (ys : List Attribute) → AllFit doc from to ys → ValueFits from to (valueIn p doc ys)
+  value-fits : from ≤ to → (ys : List Attribute) → AllFit doc from to ys → ValueFits from to (valueIn q ys)
   unfolding valueIn firstBy
   value-fits l [] f = record { until = omega arith; short = omega arith }
-  value-fits l (y ∷ ys) f = go (nameIs p doc y) (f 0 (omega arith)) (value-fits l ys (λ k b. f (suc k) (omega arith)))
+  value-fits l (y ∷ ys) f = go (q y) (f 0 (omega arith)) (value-fits l ys (λ k b. f (suc k) (omega arith)))
     where
-      go : (t : Bool) → Fit doc from to y → ValueFits from to (valueIn p doc ys) → ValueFits from to (valueOf (if t (some y) (firstBy (nameIs p doc) ys)))
+      go : (t : Bool) → Fit doc from to y → ValueFits from to (valueIn q ys) → ValueFits from to (valueOf (if t (some y) (firstBy q ys)))
       go true g i = record { until = g .value; short = g .short }
       go false g i = i
 
@@ -100,27 +100,27 @@ module _ {doc : List ℕ} {from to : ℕ} {xs : List Attribute} {n : ℕ} (g : F
       let e : length (take n xs) ≡ n = length-take-le n xs l in
       rw (getD-take n xs k blank (omega arith)) (g .rule k (omega arith))
 
-  fits-one : (p : List ℕ → Bool) → from ≤ to → ValueFits from to (valueIn p doc (take n xs))
-  fits-one p h = value-fits p doc from to b h (take n xs) all-fit
+  fits-one : (q : Attribute → Bool) → from ≤ to → ValueFits from to (valueIn q (take n xs))
+  fits-one q h = value-fits q doc from to b h (take n xs) all-fit
 
   pub values-fit : from ≤ to → ValuesFit from to (valuesIn doc (take n xs))
   unfolding valuesIn
   values-fit h = record {
-    name = fits-one (keyed (bytes "name")) h;
-    ty = fits-one (keyed (bytes "type")) h;
-    value = fits-one (keyed (bytes "value")) h;
-    access = fits-one (keyed (bytes "access")) h;
-    direction = fits-one (keyed (bytes "direction")) h;
-    suffix = fits-one (keyed (bytes "suffix")) h;
-    tp = fits-one isTpType h;
+    name = fits-one (nameIs (keyed (bytes "name")) doc) h;
+    ty = fits-one (nameIs (keyed (bytes "type")) doc) h;
+    value = fits-one (nameIs (keyed (bytes "value")) doc) h;
+    access = fits-one (nameIs (keyed (bytes "access")) doc) h;
+    direction = fits-one (nameIs (keyed (bytes "direction")) doc) h;
+    suffix = fits-one (nameIs (keyed (bytes "suffix")) doc) h;
+    tp = fits-one isTp h;
   }
 
   module _ {ss : List Shown} (c : check [] (attrsOf doc xs n) ≡ good ss) where
-    is-one : (p : List ℕ → Bool) → ValueIs doc (valueIn p doc (take n xs)) (shownBy p ss)
-    is-one p = value-is p doc from to b (take n xs) ss (check-shown doc [] (take n xs) ss c) all-fit
+    is-one : (q : Attribute → Bool) (p : List ℕ → Bool) → ((y : Attribute) → Fit doc from to y → q y ≡ p (attrOf doc y .name)) → ValueIs doc (valueIn q (take n xs)) (shownBy p ss)
+    is-one q p w = value-is q doc from to b p w (take n xs) ss (check-shown doc [] (take n xs) ss c) all-fit
 
-    is-keyed : (key : List ℕ) → ValueIs doc (valueIn (keyed key) doc (take n xs)) (lookup key ss)
-    is-keyed key = rw lookup-shown (is-one (keyed key))
+    is-keyed : (key : List ℕ) → ValueIs doc (valueIn (nameIs (keyed key) doc) (take n xs)) (lookup key ss)
+    is-keyed key = rw lookup-shown (is-one (nameIs (keyed key) doc) (keyed key) (λ y f. name-within (keyed key) doc y (omega (arith, f .name))))
 
     pub values-are : ValuesAre doc (valuesIn doc (take n xs)) ss
     unfolding valuesIn
@@ -131,5 +131,5 @@ module _ {doc : List ℕ} {from to : ℕ} {xs : List Attribute} {n : ℕ} (g : F
       access = is-keyed (bytes "access");
       direction = is-keyed (bytes "direction");
       suffix = is-keyed (bytes "suffix");
-      tp = rw tp-shown (is-one isTpType);
+      tp = rw tp-shown (is-one isTp isTpType (λ y f. f .tp));
     }

@@ -3,11 +3,12 @@
 use Prim.Native.Nat.{ℕ, _+_, _≤_, _<_}
 use mathlib.Core.Path.{_≡_}
 use mathlib.Core.List.{List}
+use mathlib.Core.Bool.{Bool}
 use lib.ListN.{length, take, drop}
 use Rattle.slices.specs.Bytes.{if, other, span, all}
 use Rattle.slices.specs.Run.{Run}
 use Rattle.references.specs.Unescape.{plain}
-use Rattle.document.specs.Tags.{Attr, Found, absent, found}
+use Rattle.document.specs.Tags.{Attr, Found, absent, found, isTpType}
 use Rattle.attributes.specs.declared.Attribute.{Attribute}
 use Rattle.attributes.specs.declared.ValueEnd.{ValueEnd}
 use Rattle.attributes.specs.declared.One.{One}
@@ -29,23 +30,25 @@ attrOf doc a = record {
 abbrev pub kindFrom : ℕ → List ℕ → ℕ
 kindFrom k v = if (all plain v) k 2
 
--- the struct's places end before the second place, its value is no longer than what is between the two, and its kind is right
+-- the struct's places end before the second place, its value is no longer than what is between the two, and its kind and its flag are right
 pub record Fit (doc : List ℕ) (from to : ℕ) (a : Attribute) : Type 0 where
   pub name : a .name + a .«name_len» ≤ to
   pub value : a .value + a .«value_len» ≤ to
   pub short : from + a .«value_len» ≤ to
   pub kind : a .kind ≡ kindFrom 1 (part doc (a .value) (a .«value_len»))
+  pub tp : a .tp ≡ isTpType (part doc (a .name) (a .«name_len»))
 
 -- the end of a value that begins at a place, up to a quote
 pub record Quotes (q : ℕ) (doc : List ℕ) (from : ℕ) (r : ValueEnd) : Type 0 where
   pub run : Run (other q) doc from (r .end)
   pub kind : r .kind ≡ kindFrom 1 (span (other q) (drop from doc))
 
--- a name stands before a place of a document within the limit
-pub record Named (doc : List ℕ) (name n at : ℕ) : Type 0 where
+-- a name stands before a place of a document within the limit, and is a tp type's or not
+pub record Named (doc : List ℕ) (name n : ℕ) (tp : Bool) (at : ℕ) : Type 0 where
   pub small : length doc ≤ 1048576
   pub inside : at ≤ length doc
   pub before : name + n ≤ at
+  pub type : tp ≡ isTpType (part doc name n)
 
 abbrev pub Onward : List ℕ → ℕ → One → Type 0
 Onward doc from One.Absent = Unit {0}

@@ -1,4 +1,4 @@
-// The usual tag: no more than 6 attributes, in an array of that many.
+// The usual tag: no more than 5 attributes, in an array of that many.
 ghost use Prim.Native.Nat.{_≤_};
 ghost use lib.ListN.{length};
 ghost use Rattle.scan.specs.Classes.{Classes};
@@ -31,14 +31,14 @@ const NO_VALUES: Values = Values {
 };
 
 // The first n of an array, which end at a place: lent as a slice.
-fn finish(doc: &[u8], attrs: [Attribute; 6], n: usize, keys: &[u8], at: usize) -> Attrs
-    requires { ⌜ (n ≤ 6) × Checkable (now doc) attrs n × KeyTable (now keys) ⌝ }
+fn finish(doc: &[u8], attrs: [Attribute; 5], n: usize, keys: &[u8], at: usize) -> Attrs
+    requires { ⌜ (n ≤ 5) × Checkable (now doc) attrs n × KeyTable (now keys) ⌝ }
     ensures { λ r. ⌜ Finishes (now (doc .entry)) attrs n «at» r ⌝ }
 {
     gathered::finish(doc, &attrs, n, keys, at)
 }
 
-// The attributes from a place on. Where there is a seventh they are gathered once more, in a larger array.
+// The attributes from a place on. Where there is a sixth they are gathered once more, in a larger array.
 pub fn gather(doc: &[u8], classes: &[u8; 256], keys: &[u8], from: usize) -> Attrs
     requires { ⌜ (from ≤ length (now doc)) × (length (now doc) ≤ 1048576) × Classes (now classes) × KeyTable (now keys) ⌝ }
     ensures { λ r. ⌜ Gathers (now (doc .entry)) from r ⌝ }
@@ -49,8 +49,9 @@ pub fn gather(doc: &[u8], classes: &[u8; 256], keys: &[u8], from: usize) -> Attr
         value: 0,
         value_len: 0,
         kind: 0,
+        tp: false,
     };
-    let mut attrs = [blank; 6];
+    let mut attrs = [blank; 5];
     let mut n = 0;
     let mut at = from;
     loop {
@@ -62,7 +63,7 @@ pub fn gather(doc: &[u8], classes: &[u8; 256], keys: &[u8], from: usize) -> Attr
                 return finish(doc, attrs, n, keys, at);
             }
             One::Found(a, end) => {
-                if 6 <= n {
+                if 5 <= n {
                     return many::gather(doc, classes, keys, from);
                 }
                 attrs[n] = a;

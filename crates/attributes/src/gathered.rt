@@ -7,7 +7,7 @@ ghost use Rattle.attributes.specs.Outcome.{Checkable, Weighs, Judges, Ch
 use crate::Attribute;
 use crate::AttributeCheck;
 use crate::Attrs;
-use crate::names::is_named;
+use crate::names::is_wanted;
 use crate::references_of;
 use document::Value;
 use document::Values;
@@ -23,12 +23,12 @@ fn first_named(
     tp: bool,
 ) -> Value
     requires { ⌜ n ≤ length (now attrs) ⌝ }
-    ensures { λ r. ⌜ Picks (wanted (now (keys .entry)) key len tp) (now (doc .entry)) (now (attrs .entry)) n r ⌝ }
+    ensures { λ r. ⌜ Picks (wanted (now (keys .entry)) key len tp (now (doc .entry))) (now (attrs .entry)) n r ⌝ }
 {
     let mut i: usize = 0;
     while i < n {
         let a = attrs[i];
-        if is_named(doc, a.name, a.name_len, keys, key, len, tp) {
+        if is_wanted(doc, a.name, a.name_len, a.tp, keys, key, len, tp) {
             return Value {
                 at: a.value,
                 len: a.value_len,

@@ -1,26 +1,30 @@
 // The attributes of a start tag: gathered, checked one by one, and looked up. `attributes` is the entry.
 ghost use mathlib.Core.Path.{_≡_};
-ghost use Prim.Native.Nat.{_+_, _≤_};
+ghost use Prim.Native.Nat.{_+_, _-_, _≤_};
 ghost use lib.ListN.{length, take, drop};
 ghost use Rattle.scan.specs.Classes.{Classes};
+ghost use Rattle.scan.specs.Colons.{Scanned};
 ghost use Rattle.references.specs.Unescape.{special};
-ghost use Rattle.document.specs.Tags.{attribute, equals, openQuote};
+ghost use Rattle.document.specs.Tags.{attribute, equals, openQuote, isTpType};
 ghost use Rattle.attributes.specs.One.{Quotes, Named, Finds};
 ghost use Rattle.attributes.specs.Outcome.{References, Gathers};
 use document::Values;
+use scan::Colons;
+use scan::Name;
 
 mod few;
 mod gathered;
 mod many;
 mod names;
 
-// An attribute: places and lengths of its name and its raw value; kind 1 the value is shown as it stands, 2 changed.
+// An attribute: places and lengths of its name and its raw value; kind 1 the value is shown as it stands, 2 changed; whether it is a tp type.
 pub struct Attribute {
     pub name: u32,
     pub name_len: u32,
     pub value: u32,
     pub value_len: u32,
     pub kind: u32,
+    pub tp: bool,
 }
 
 // What stands at a place: no attribute, or one and the place after it.
@@ -93,8 +97,8 @@ fn quoted(doc: &[u8], from: usize, quote: u8) -> ValueEnd
 }
 
 // At the opening quote of the value, after a name and `=`.
-fn quoted_value(doc: &[u8], name: usize, n: usize, at: usize) -> One
-    requires { ⌜ Named (now doc) name n at ⌝ }
+fn quoted_value(doc: &[u8], name: usize, n: usize, tp: bool, at: usize) -> One
+    requires { ⌜ Named (now doc) name n tp at ⌝ }
     ensures { λ r. ⌜ Finds (openQuote name (take n (drop name (now (doc .entry))))) (now (doc .entry)) at r ⌝ }
 {
     if doc.len() <= at {
@@ -114,6 +118,7 @@ fn quoted_value(doc: &[u8], name: usize, n: usize, at: usize) -> One
             value: value as u32,
             value_len: (end - value) as u32,
             kind: v.kind,
+            tp,
         };
         return One::Found(a, end + 1);
     }
@@ -121,8 +126,8 @@ fn quoted_value(doc: &[u8], name: usize, n: usize, at: usize) -> One
 }
 
 // At the `=` after a name.
-fn equals_at(doc: &[u8], classes: &[u8; 256], name: usize, n: usize, at: usize) -> One
-    requires { ⌜ Named (now doc) name n at × Classes (now classes) ⌝ }
+fn equals_at(doc: &[u8], classes: &[u8; 256], name: usize, n: usize, tp: bool, at: usize) -> One
+    requires { ⌜ Named (now doc) name n tp at × Classes (now classes) ⌝ }
     ensures { λ r. ⌜ Finds (equals name (take n (drop name (now (doc .entry))))) (now (doc .entry)) at r ⌝ }
 {
     if doc.len() <= at {
@@ -130,9 +135,28 @@ fn equals_at(doc: &[u8], classes: &[u8; 256], name: usize, n: usize, at: usize) 
     }
     if doc[at] == 61 {
         let open = scan::space_end(doc, classes, at + 1);
-        return quoted_value(doc, name, n, open);
+        return quoted_value(doc, name, n, tp, open);
     }
     One::Absent
+}
+
+// Whether the name that begins at a place is a tp type's: a prefix that is not empty, the first colon, then exactly `type`.
+fn is_tp_type(doc: &[u8], at: usize, name: Name) -> bool
+    requires { ⌜ Scanned (now doc) «at» name × (length (now doc) ≤ 1048576) ⌝ }
+    ensures { λ r. ⌜ r ≡ isTpType (take (name .end - «at») (drop «at» (now (doc .entry)))) ⌝ }
+{
+    let end = name.end;
+    let colons = name.colons;
+    match colons {
+        Colons::Absent => false,
+        Colons::Between(first, _) => {
+            if first == at {
+                return false;
+            }
+            let next = first + 1;
+            slices::equal(&doc[next..end], b"type")
+        }
+    }
 }
 
 // At the white space before a name.
@@ -140,16 +164,18 @@ fn attribute_at(doc: &[u8], classes: &[u8; 256], from: usize) -> One
     requires { ⌜ (from ≤ length (now doc)) × (length (now doc) ≤ 1048576) × Classes (now classes) ⌝ }
     ensures { λ r. ⌜ Finds attribute (now (doc .entry)) from r ⌝ }
 {
-    let name = scan::space_end(doc, classes, from);
-    if name <= from {
+    let start = scan::space_end(doc, classes, from);
+    if start <= from {
         return One::Absent;
     }
-    let end = scan::name_end(doc, classes, name);
-    if end <= name {
+    let name = scan::name_at(doc, classes, start);
+    let end = name.end;
+    if end <= start {
         return One::Absent;
     }
+    let tp = is_tp_type(doc, start, name);
     let at = scan::space_end(doc, classes, end);
-    equals_at(doc, classes, name, end - name, at)
+    equals_at(doc, classes, start, end - start, tp, at)
 }
 
 // Whether the references of a raw value are good.

@@ -1,4 +1,4 @@
-// A tag of more than 6 attributes: an array of 256, which is the limit.
+// A tag of more than 5 attributes: an array of 256, which is the limit.
 ghost use Prim.Native.Nat.{_≤_};
 ghost use lib.ListN.{length};
 ghost use Rattle.scan.specs.Classes.{Classes};
@@ -11,22 +11,25 @@ use crate::Attrs;
 use crate::One;
 use crate::equals_at;
 use crate::gathered;
+use crate::is_tp_type;
 
 // As the usual tag's function of that name. Each has one caller, so both are compiled in line, which is worth a twentieth.
 fn attribute_at(doc: &[u8], classes: &[u8; 256], from: usize) -> One
     requires { ⌜ (from ≤ length (now doc)) × (length (now doc) ≤ 1048576) × Classes (now classes) ⌝ }
     ensures { λ r. ⌜ Finds attribute (now (doc .entry)) from r ⌝ }
 {
-    let name = scan::space_end(doc, classes, from);
-    if name <= from {
+    let start = scan::space_end(doc, classes, from);
+    if start <= from {
         return One::Absent;
     }
-    let end = scan::name_end(doc, classes, name);
-    if end <= name {
+    let name = scan::name_at(doc, classes, start);
+    let end = name.end;
+    if end <= start {
         return One::Absent;
     }
+    let tp = is_tp_type(doc, start, name);
     let at = scan::space_end(doc, classes, end);
-    equals_at(doc, classes, name, end - name, at)
+    equals_at(doc, classes, start, end - start, tp, at)
 }
 
 // The first n of an array, which end at a place: lent as a slice.
@@ -48,6 +51,7 @@ pub fn gather(doc: &[u8], classes: &[u8; 256], keys: &[u8], from: usize) -> Attr
         value: 0,
         value_len: 0,
         kind: 0,
+        tp: false,
     };
     let mut attrs = [blank; 256];
     let mut n = 0;

@@ -5,6 +5,7 @@ pub mod Tags
 pub mod Tokens
 pub mod Rows
 pub mod Elements
+pub mod Prefixes
 pub mod Reading
 pub mod Whole
 pub mod Outcome

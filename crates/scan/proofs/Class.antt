@@ -10,7 +10,7 @@ use borrow.Author.Needs.{needs}
 use lib.Dec.{eqb}
 use lib.ListN.{length, getD}
 use Rattle.slices.specs.Bytes.{if}
-use Rattle.scan.specs.Classes.{Classes, classOf, white, nameByte, escapable}
+use Rattle.scan.specs.Classes.{Classes, classOf, white, ncNameByte, escapable}
 
 -- f at each of n numbers from i on
 abbrev tabulated : (ℕ → ℕ) → ℕ → ℕ → List ℕ
@@ -45,12 +45,12 @@ one false n e = rw e
 -- the test of each digit is the class
 module _ {t : List ℕ} (c : Classes t) {b : ℕ} (h : b < 256) where
   pub white-digit : eqb (getD t b 0 % 2) 1 ≡ white b
-  white-digit = sym (one (white b) (getD t b 0 % 2) (rw (c .rule b h) (digits (white b) (nameByte b) (escapable b) .0)))
+  white-digit = sym (one (white b) (getD t b 0 % 2) (rw (c .rule b h) (digits (white b) (ncNameByte b) (escapable b) .0)))
 
-  pub name-digit : eqb (getD t b 0 / 2 % 2) 1 ≡ nameByte b
-  name-digit = sym (one (nameByte b) (getD t b 0 / 2 % 2) (rw (c .rule b h) (digits (white b) (nameByte b) (escapable b) .1)))
+  pub name-digit : eqb (getD t b 0 / 2 % 2) 1 ≡ ncNameByte b
+  name-digit = sym (one (ncNameByte b) (getD t b 0 / 2 % 2) (rw (c .rule b h) (digits (white b) (ncNameByte b) (escapable b) .1)))
 
   pub escape-digit : eqb (getD t b 0 / 4 % 2) 1 ≡ escapable b
-  escape-digit = sym (one (escapable b) (getD t b 0 / 4 % 2) (rw (c .rule b h) (digits (white b) (nameByte b) (escapable b) .2)))
+  escape-digit = sym (one (escapable b) (getD t b 0 / 4 % 2) (rw (c .rule b h) (digits (white b) (ncNameByte b) (escapable b) .2)))
 
 pub ruleset classed = (white-digit, name-digit, escape-digit, needs)

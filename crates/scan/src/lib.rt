@@ -2,10 +2,11 @@
 ghost use mathlib.Core.Path.{_≡_};
 ghost use Prim.Native.Nat.{suc, pred, _+_, _^_, _≤_, _<_};
 ghost use lib.Dec.{eqb};
-ghost use lib.ListN.{length, drop};
+ghost use lib.ListN.{length, drop, getD};
 ghost use Rattle.slices.specs.Bytes.{if};
 ghost use Rattle.slices.specs.Run.{Run};
-ghost use Rattle.scan.specs.Classes.{Classes, white, nameByte, escapable};
+ghost use Rattle.scan.specs.Classes.{Classes, white, escapable, ncNameByte};
+ghost use Rattle.scan.specs.Colons.{Scanned};
 ghost use Rattle.scan.specs.Ignorable.{Mode, Scans, Ignores, Marks, quote, ends, seek, declarationIn, declared, ignorable};
 
 mod table;
@@ -22,6 +23,18 @@ pub enum Markup {
     Ignored(Scan),
 }
 
+// The places of a name's first and last colon, or that it has none.
+pub enum Colons {
+    Absent,
+    Between(usize, usize),
+}
+
+// A name: its end, and its colons.
+pub struct Name {
+    pub end: usize,
+    pub colons: Colons,
+}
+
 // The table, to be copied once and lent.
 pub fn classes() -> [u8; 256]
     ensures { λ r. ⌜ Classes r ⌝ }
@@ -36,9 +49,10 @@ fn is_white(classes: &[u8; 256], b: u8) -> bool
     classes[b as usize] % 2 == 1
 }
 
-fn is_name(classes: &[u8; 256], b: u8) -> bool
+// Whether a byte may stand in a name, and is no colon.
+fn is_nc_name(classes: &[u8; 256], b: u8) -> bool
     requires { ⌜ Classes (now classes) ⌝ }
-    ensures { λ r. ⌜ r ≡ nameByte b ⌝ }
+    ensures { λ r. ⌜ r ≡ ncNameByte b ⌝ }
 {
     classes[b as usize] / 2 % 2 == 1
 }
@@ -66,20 +80,64 @@ pub fn space_end(s: &[u8], classes: &[u8; 256], from: usize) -> usize
     at
 }
 
-// The end of the name from a place on.
-pub fn name_end(s: &[u8], classes: &[u8; 256], from: usize) -> usize
+// The end of the part of a name from a place on that has no colon.
+fn nc_name_end(s: &[u8], classes: &[u8; 256], from: usize) -> usize
     requires { ⌜ (from ≤ length (now s)) × Classes (now classes) ⌝ }
-    ensures { λ r. ⌜ Run nameByte (now (s .entry)) from r ⌝ }
+    ensures { λ r. ⌜ Run ncNameByte (now (s .entry)) from r ⌝ }
 {
     let mut at = from;
     while at < s.len() {
-        if is_name(classes, s[at]) {
+        if is_nc_name(classes, s[at]) {
             at += 1;
         } else {
             return at;
         }
     }
     at
+}
+
+// A name from its first colon on.
+fn prefixed(s: &[u8], classes: &[u8; 256], first: usize) -> Name
+    requires { ⌜ (first < length (now s)) × (getD (now s) first 0 ≡ 58) × Classes (now classes) ⌝ }
+    ensures { λ r. ⌜ Scanned (now (s .entry)) first r ⌝ }
+{
+    let mut last = first;
+    let mut at = nc_name_end(s, classes, first + 1);
+    while at < s.len() {
+        if s[at] != b':' {
+            return Name {
+                end: at,
+                colons: Colons::Between(first, last),
+            };
+        }
+        last = at;
+        at = nc_name_end(s, classes, last + 1);
+    }
+    Name {
+        end: at,
+        colons: Colons::Between(first, last),
+    }
+}
+
+// The name from a place on.
+pub fn name_at(s: &[u8], classes: &[u8; 256], from: usize) -> Name
+    requires { ⌜ (from ≤ length (now s)) × Classes (now classes) ⌝ }
+    ensures { λ r. ⌜ Scanned (now (s .entry)) from r ⌝ }
+{
+    let end = nc_name_end(s, classes, from);
+    if s.len() <= end {
+        return Name {
+            end,
+            colons: Colons::Absent,
+        };
+    }
+    if s[end] == b':' {
+        return prefixed(s, classes, end);
+    }
+    Name {
+        end,
+        colons: Colons::Absent,
+    }
 }
 
 // Past the first place of the key, or a fault where the search began.

@@ -1,6 +1,6 @@
 // The class of each byte.
 
-// 1 for white space, 2 for a name's byte, 4 for what is escaped, added up.
+// 1 for white space, 2 for a name's byte other than the colon, 4 for what is escaped, added up.
 pub const CLASSES: [u8; 256] = [
     2,
     2,
@@ -60,7 +60,7 @@ pub const CLASSES: [u8; 256] = [
     2,
     2,
     2,
-    2,
+    0,
     2,
     4,
     0,

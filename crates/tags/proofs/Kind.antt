@@ -1,19 +1,28 @@
--- The kind of a name: by its length, and by the place of its last colon.
+-- The kind of a name: by its length, and by its local name, which follows its last colon.
 -- Assumes nothing.
-use Prim.Native.Nat.{ℕ, zero, suc, _-_, _≤_, _<_}
-use mathlib.Core.Path.{_≡_, refl, sym, _∙_}
+use Prim.Native.Nat.{ℕ, suc, _-_, _≤_, _<_, _+_, _^_}
+use mathlib.Core.Path.{_≡_, refl, sym, _∙_, ap}
 use mathlib.Core.List.{List, [], _∷_}
 use mathlib.Core.Bool.{Bool, true, false}
 use borrow.Author.Needs.{needs}
-use borrow.Author.Tests.{ne-eqb, eqb-false}
+use borrow.Author.Tests.{eqb-false}
+use native.Mathlib.Numerals.{add-one}
 use native.Mathlib.Omega.{arith}
 use lib.Dec.{eqb}
-use lib.ListN.{length, take, drop, getD, length-drop, drop-of-length-le}
-use lib.Seq.{drop-cons, take-all}
-use Rattle.slices.specs.Bytes.{if, other, all, same}
+use lib.ListN.{length, take, drop}
+use Rattle.slices.specs.Bytes.{if, same, span}
 use Rattle.slices.proofs.Runs.{if-false, same-short}
+use Rattle.slices.proofs.Ends.{run-span}
+use Rattle.scan.specs.Classes.{nameByte}
+use Rattle.scan.specs.Colons.{colonsFrom, Scanned}
+use Rattle.scan.specs.declared.Colons.{Colons}
+use Rattle.scan.specs.declared.Colons.the-variants.{Absent, Between}
+use Rattle.scan.specs.declared.Name.{Name}
+use Rattle.scan.proofs.Prefixes.{Within, colons-within, name-from}
 use Rattle.document.specs.Elements.{localName, localKind, kindOf}
-use Rattle.tags.specs.Kinds.{numbered, exactKinds, localKinds, exactKind, Local}
+use Rattle.document.specs.Prefixes.{localStart}
+use Rattle.document.proofs.Prefixes.{local-name}
+use Rattle.tags.specs.Kinds.{numbered, exactKinds, localKinds, exactKind}
 
 -- a callee's answer decides
 module _ {t : Bool} (b : Bool) (e : t ≡ b) where
@@ -94,51 +103,50 @@ module _ (n : List ℕ) {k : ℕ} (e : k ≡ exactKind n) where
   unfolding kindOf
   kind-exact h = e ∙ in-list exactKinds (localKind (localName n)) n refl (λ q. h (e ∙ q))
 
-  pub kind-local : k ≡ 0 → {i r : ℕ} → Local n i → r ≡ localKind (take (length n - i) (drop i n)) → r ≡ kindOf n
+  pub kind-local : k ≡ 0 → {l : List ℕ} {r : ℕ} → l ≡ localName n → r ≡ localKind l → r ≡ kindOf n
   unfolding kindOf
-  kind-local h {i} l q =
-      q
-      ∙ rw (take-all (length n - i) (drop i n) (rw length-drop (omega arith)), l .is)
-      (sym (not-in-list exactKinds (localKind (localName n)) n refl (sym e ∙ h)))
-
--- going back from the end of a name: no colon from here on
-pub record Colonless (n : List ℕ) (i : ℕ) : Type 0 where
-  pub none : all (other 58) (drop i n) ≡ true
-  pub inside : i ≤ length n
-
--- a name with no colon is its own local name
-whole : (n : List ℕ) → all (other 58) n ≡ true → localName n ≡ n
-whole [] h = refl
-whole (b ∷ n) h = rw h
-
-with-colon : (n : List ℕ) (i : ℕ) → i < length n → getD n i 0 ≡ 58 → all (other 58) n ≡ false
-with-colon [] i h e = absurd (omega arith)
-with-colon (b ∷ n) zero h e = rw e
-with-colon (b ∷ n) (suc i) h e = rw (with-colon n i (omega arith) e) (if-false (other 58 b))
-
-after-colon : (n : List ℕ) (i : ℕ) → i < length n → getD n i 0 ≡ 58 → localName n ≡ localName (drop (suc i) n)
-after-colon [] i h e = absurd (omega arith)
-after-colon (b ∷ n) zero h e = rw e
-after-colon (b ∷ n) (suc i) h e = rw (with-colon (b ∷ n) (suc i) h e) (after-colon n i (omega arith) e)
-
-pub no-colon-yet : (n : List ℕ) → Colonless n (length n)
-no-colon-yet n = record { none = rw (drop-of-length-le n {i = length n} (omega arith)); inside = omega arith }
-
-module _ {n : List ℕ} {i : ℕ} (g : Colonless n i) (h : 0 < i) where
-  pub colon-here : getD n (i - 1) 0 ≡ 58 → Local n i
-  colon-here e =
-      let s : suc (i - 1) ≡ i = omega arith in
-      record { is = sym (after-colon n (i - 1) (omega arith) e ∙ rw s (whole (drop i n) (g .none))); within = g .inside }
-
-  pub no-colon-here : (getD n (i - 1) 0 ≡ 58 → ⊥) → Colonless n (i - 1)
-  no-colon-here e = record { none = go (i - 1) (omega arith) e; inside = omega arith }
-    where
-      go : (j : ℕ) → suc j ≡ i → (getD n j 0 ≡ 58 → ⊥) → all (other 58) (drop j n) ≡ true
-      go j s e = rw (drop-cons n j 0 (omega (arith, g .inside)), ne-eqb (getD n j 0) 58 e) (rw (← s) at (g .none))
-
-pub no-colon : {n : List ℕ} {i : ℕ} → Colonless n i → i ≤ 0 → Local n 0
-no-colon {n} {i} g h = let z : i ≡ 0 = omega arith in record { is = sym (whole n (rw z at (g .none))); within = omega arith }
-
-pub ruleset locals = (no-colon-yet, colon-here, no-colon-here, no-colon, needs)
+  kind-local h e′ q = q ∙ rw e′ (sym (not-in-list exactKinds (localKind (localName n)) n refl (sym e ∙ h)))
 
 pub ruleset kinds = (kind-exact, kind-local, needs)
+
+-- ---- the local name of the name that begins at a place
+
+start-within : (p e : ℕ) (c : Colons) → p ≤ e → Within p e c → (p ≤ localStart p c) × (localStart p c ≤ e)
+start-within p e Absent h w = (omega arith, h)
+start-within p e (Between first last) h w = (omega (arith, w .0, w .1), omega (arith, w .2))
+
+module _ {doc : List ℕ} {at : ℕ} {name : Name} (g : Scanned doc at name) where
+  long : at + length (span nameByte (drop at doc)) ≡ name .end
+  long = sym (g .run .ends)
+
+  inside : (at ≤ localStart at (name .colons)) × (localStart at (name .colons) ≤ name .end)
+  inside = rw (g .colons) (start-within at (name .end) (colonsFrom (span nameByte (drop at doc)) at) (g .run .onward) (rw long at (colons-within (span nameByte (drop at doc)) at)))
+
+  pub local-small : length doc ≤ 1048576 → localStart at (name .colons) < 2 ^ 64
+  local-small h = omega (arith, inside .1, g .run .within)
+
+  module _ {r : ℕ} (e : r ≡ localStart at (name .colons)) where
+    pub local-inside : r ≤ name .end
+    local-inside = rw e (inside .1)
+
+    pub local-is : take (name .end - r) (drop r doc) ≡ localName (take (name .end - at) (drop at doc))
+    local-is =
+        let d : localStart at (colonsFrom (span nameByte (drop at doc)) at) ≡ r = sym (e ∙ ap (localStart at) (g .colons)) in
+        name-from g (rw e (inside .0)) (rw e (inside .1)) ∙ rw (← run-span (g .run), local-name (span nameByte (drop at doc)) at, d)
+
+-- what answers every need of `kind_at`
+pub ruleset placed = (local-small, local-inside, local-is, needs)
+
+-- where it begins
+module _ (at : ℕ) {c : Colons} where
+  pub start-absent : c ≡ Absent → at ≡ localStart at c
+  start-absent e = rw e
+
+  pub start-between : {first last : ℕ} → c ≡ Between first last → last + 1 ≡ localStart at c
+  start-between {first} {last} e = rw e (add-one last)
+
+  pub start-small : {first last : ℕ} → c ≡ Between first last → localStart at c < 2 ^ 64 → last + 1 < 2 ^ 64
+  start-small {first} {last} e h = let g : suc last < 2 ^ 64 = rw e at h in omega (arith, g)
+
+-- what answers every need of `local_start`
+pub ruleset starts = (start-absent, start-between, start-small, needs)

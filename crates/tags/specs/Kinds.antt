@@ -1,12 +1,9 @@
--- The kind of a name by a list of names, and where the local name begins.
+-- The kind of a name by a list of names.
 -- Assumes nothing.
-use Prim.Native.Nat.{ℕ, _≤_}
-use mathlib.Core.Path.{_≡_}
+use Prim.Native.Nat.{ℕ}
 use mathlib.Core.List.{List, [], _∷_}
-use lib.ListN.{length, drop}
 use Rattle.slices.specs.Bytes.{if, bytes, same}
 use Rattle.document.specs.Kinds as kinds
-use Rattle.document.specs.Elements.{localName}
 
 -- the number beside the name in a list, or d
 abbrev pub numbered : List (List ℕ × ℕ) → ℕ → List ℕ → ℕ
@@ -39,8 +36,3 @@ localKinds =
 
 abbrev pub exactKind : List ℕ → ℕ
 exactKind n = numbered exactKinds 0 n
-
--- the local name begins at r
-pub record Local (n : List ℕ) (r : ℕ) : Type 0 where
-  pub is : drop r n ≡ localName n
-  pub within : r ≤ length n

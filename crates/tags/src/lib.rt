@@ -1,13 +1,15 @@
 // Tags: the kind of a name, closing tags, start tags, and the next token from a place on.
 ghost use mathlib.Core.Path.{_≡_};
-ghost use Prim.Native.Nat.{_+_, _≤_};
-ghost use lib.ListN.{length, drop};
+ghost use Prim.Native.Nat.{_+_, _≤_, _-_, _<_, _^_};
+ghost use lib.ListN.{length, drop, take};
 ghost use Rattle.slices.specs.Bytes.{if, same};
 ghost use Rattle.scan.specs.Classes.{Classes};
+ghost use Rattle.scan.specs.Colons.{Scanned};
 ghost use Rattle.document.specs.Tokens.{opening, closing, tag};
-ghost use Rattle.document.specs.Elements.{localKind, kindOf};
+ghost use Rattle.document.specs.Elements.{localKind, kindOf, localName};
+ghost use Rattle.document.specs.Prefixes.{localStart};
 ghost use Rattle.document.specs.Outcome.{Tokenises, Steps};
-ghost use Rattle.tags.specs.Kinds.{exactKind, Local};
+ghost use Rattle.tags.specs.Kinds.{exactKind};
 ghost use Rattle.tags.specs.Outcome.{TagStart, TagAt, Ends};
 use attributes::Attrs;
 use document::ClosingTag;
@@ -16,6 +18,8 @@ use document::Refusal;
 use document::StartTag;
 use document::Token;
 use document::kinds;
+use scan::Colons;
+use scan::Name;
 use scan::Scan;
 
 // Where a start tag's end was wanted, or whether it is `/>` and the place after it.
@@ -79,31 +83,38 @@ fn local_kind(name: &[u8]) -> u32
     }
 }
 
-// Where the local name begins: past the last colon.
-fn local_name(name: &[u8]) -> usize
-    ensures { λ r. ⌜ Local (now (name .entry)) r ⌝ }
-{
-    let mut i = name.len();
-    while 0 < i {
-        let before = i - 1;
-        if name[before] == b':' {
-            return i;
-        }
-        i = before;
-    }
-    0
-}
-
-// The kind of an element, by its name.
-pub fn kind_of(name: &[u8]) -> u32
+// The kind of an element, by its name and its local name.
+fn kind_of(name: &[u8], local: &[u8]) -> u32
+    requires { ⌜ now local ≡ localName (now name) ⌝ }
     ensures { λ r. ⌜ r ≡ kindOf (now (name .entry)) ⌝ }
 {
     let kind = exact_kind(name);
     if kind != 0 {
         return kind;
     }
-    let from = local_name(name);
-    local_kind(&name[from..])
+    local_kind(local)
+}
+
+// Where the local name begins of a name that begins at a place: past the last colon, or there.
+fn local_start(at: usize, colons: Colons) -> usize
+    requires { ⌜ localStart «at» colons < 2 ^ 64 ⌝ }
+    ensures { λ r. ⌜ r ≡ localStart «at» colons ⌝ }
+{
+    match colons {
+        Colons::Absent => at,
+        Colons::Between(_, last) => last + 1,
+    }
+}
+
+// The kind of the element whose name begins at a place.
+fn kind_at(doc: &[u8], at: usize, name: Name) -> u32
+    requires { ⌜ Scanned (now doc) «at» name × (length (now doc) ≤ 1048576) ⌝ }
+    ensures { λ r. ⌜ r ≡ kindOf (take (name .end - «at») (drop «at» (now (doc .entry)))) ⌝ }
+{
+    let end = name.end;
+    let colons = name.colons;
+    let local = local_start(at, colons);
+    kind_of(&doc[at..end], &doc[local..end])
 }
 
 // The closing tag whose `</` stands at a place: a name, white space, `>`.
@@ -112,7 +123,8 @@ fn closing_tag(doc: &[u8], classes: &[u8; 256], lt: usize) -> Token
     ensures { λ r. ⌜ TagAt (now (doc .entry)) lt (closing (drop (lt + 2) (now (doc .entry))) lt) r ⌝ }
 {
     let at = lt + 2;
-    let named = scan::name_end(doc, classes, at);
+    let name = scan::name_at(doc, classes, at);
+    let named = name.end;
     if named == at {
         return Token::Fault(4, lt + 1);
     }
@@ -162,7 +174,8 @@ fn start_tag(doc: &[u8], classes: &[u8; 256], lt: usize) -> Token
     ensures { λ r. ⌜ TagAt (now (doc .entry)) lt (opening (drop (lt + 1) (now (doc .entry))) lt) r ⌝ }
 {
     let at = lt + 1;
-    let named = scan::name_end(doc, classes, at);
+    let name = scan::name_at(doc, classes, at);
+    let named = name.end;
     if named == at {
         return Token::Fault(4, at);
     }
@@ -171,7 +184,7 @@ fn start_tag(doc: &[u8], classes: &[u8; 256], lt: usize) -> Token
         Attrs::All(from, values) => match tag_end(doc, classes, from) {
             TagEnd::Missing(place) => Token::Fault(4, place),
             TagEnd::Here(closes, end) => {
-                let kind = kind_of(&doc[at..named]);
+                let kind = kind_at(doc, at, name);
                 Token::Start(StartTag {
                     at,
                     len: named - at,

@@ -8,11 +8,7 @@ pub kind-of-spec : {M : Type 1} → statement M
 kind-of-spec =
     tie.close
     (tie.spec
+    (λ c κs. search kinds)
     (λ c. search kinds)
-    (λ c. search kinds)
-    (λ c. search kinds)
-    (λ c. search kinds)
-    (λ c. search kinds)
-    (λ c. search kinds)
-    (λ c. search kinds)
+    (λ c κs. search kinds)
     (λ c. search kinds))

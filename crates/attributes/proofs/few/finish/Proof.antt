@@ -68,7 +68,7 @@ use Rattle.attributes.proofs.few.finish.Code as code
 
 -- the array's length
 abbrev N : ℕ
-N = 6
+N = 5
 
 abbrev stayed : Stays (this.ended .signature .params) (this.ended .kept)
 stayed = (stay-dropped _ yes, (stay-dropped _ yes, (stay-dropped _ yes, (stay-dropped _ yes, (stay-dropped _ yes, tt)))))

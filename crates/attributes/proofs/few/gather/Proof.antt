@@ -7,7 +7,7 @@ use Rattle.attributes.proofs.few.gather.Statement.{statement}
 use Rattle.attributes.proofs.few.gather.Tie as tie
 
 abbrev Inv-loop : tie.InvT-loop
-Inv-loop doc classes keys from attrs₀ n₀ at₀ attrs n at = Gathering 6 doc from attrs n at
+Inv-loop doc classes keys from attrs₀ n₀ at₀ attrs n at = Gathering 5 doc from attrs n at
 
 abbrev μ-loop : tie.MeasureT-loop
 μ-loop doc classes keys from attrs₀ n₀ at₀ attrs n at = length doc - at

@@ -1,4 +1,4 @@
--- `attributes::gathered::first_named` meets its contract: a walk of its MIR, by hand, with a loop. All that the proof knows of `is_named` is that it meets its contract.
+-- `attributes::gathered::first_named` meets its contract: a walk of its MIR, by hand, with a loop. All that the proof knows of `is_wanted` is that it meets its contract.
 -- The loop's invariant is the whole context: the tokens, what each slice owns, and the locals. Its variant is a `Turn`, which has the index and what is known of it.
 -- In each turn what attrs owns is had twice: one copy is kept, and the other is looked into for the element, which is copied into a local.
 -- Nothing is had of a parameter at exit (`stay-dropped`), since nothing is said of one.
@@ -53,13 +53,13 @@ use Rattle.document.proofs.Value as S
 use Rattle.document.proofs.Value.Laws as S′
 use Rattle.attributes.specs.Lookup.{blank, wanted, valueOf, Picks}
 use Rattle.attributes.specs.declared.Attribute.{Attribute}
-use Rattle.attributes.proofs.First.{hit, Turn, turn-first, turn-hit, turn-more, turn-end}
+use Rattle.attributes.proofs.First.{Turn, turn-first, turn-hit, turn-more, turn-end}
 use Rattle.attributes.proofs.Attribute as T
 use Rattle.attributes.proofs.Attribute.Laws as T′
-use Rattle.attributes.proofs.names.is_named as callee
-use Rattle.attributes.proofs.names.is_named.Symbol as callee-def
-use Rattle.attributes.proofs.names.is_named.Symbol.{name as #is-named}
-use Rattle.attributes.proofs.names.is_named.Met as callee-thm
+use Rattle.attributes.proofs.names.is_wanted as callee
+use Rattle.attributes.proofs.names.is_wanted.Symbol as callee-def
+use Rattle.attributes.proofs.names.is_wanted.Symbol.{name as #is-wanted}
+use Rattle.attributes.proofs.names.is_wanted.Met as callee-thm
 use Rattle.attributes.proofs.gathered.first_named.Key.{name as #first-named}
 use Rattle.attributes.proofs.gathered.first_named as this
 use Rattle.attributes.proofs.gathered.first_named.Statement as stated
@@ -99,9 +99,9 @@ module _ {M : Type 1} (𝓤 : URA M) (H : Heap 𝓤) (A : Atoms 𝓤) (W : Given
   abbrev attrs : RefT (List Attribute)
   attrs = record { ptr = (b, o); name = γ; now = xs }
 
-  -- what is asked of a name
-  abbrev ask : List ℕ → Bool
-  ask = wanted (keys .now) key len tp
+  -- what is asked of an attribute
+  abbrev ask : Attribute → Bool
+  ask = wanted (keys .now) key len tp (doc .now)
 
   -- the machine values
   abbrev v₀ : Val
@@ -139,19 +139,19 @@ module _ {M : Type 1} (𝓤 : URA M) (H : Heap 𝓤) (A : Atoms 𝓤) (W : Given
   abbrev Has : List (Item 𝓤) → List (Item 𝓤)
   Has Γ = ‵ (flft κ₀ q₀) ∷ ‵ (flft κ₁ q₁) ∷ ‵ (flft κ₂ q₂) ∷ ‵ O₀ ∷ ‵ O₁ ∷ ‵ O₂ ∷ Γ
 
-  exits : (r : Value) → Picks ask (doc .now) xs n r → Is S.the-row r (res r ∷ []) → ent 𝓤 (⋆ 𝓤 H A (Has [])) (Post (res r))
+  exits : (r : Value) → Picks ask xs n r → Is S.the-row r (res r ∷ []) → ent 𝓤 (⋆ 𝓤 H A (Has [])) (Post (res r))
   exits r e made =
       qed W (Has []) ∵ suffices ! _ (ends-at 𝓤 H A this.ended stayed (this.clauses 𝓤 H A mem run) W bound (res r) r (tt, (tt, (tt, (tt, (tt, (tt, (tt, tt))))))) (tt, (tt, (tt, (tt, (tt, (tt, (tt, tt)))))))) $ says ! e $ keep ! (0 ∷ 1 ∷ 2 ∷ []) $
       nothing ! $ move ! (3 ∷ 0 ∷ []) $ join ! $ move ! (2 ∷ 0 ∷ []) $ join ! $ move ! (1 ∷ 0 ∷ []) $ join ! $ frame ! $
       nothing ! $ nothing ! $ fjoin ! $ nothing ! $ fjoin ! $ nothing ! $ fjoin ! $ nothing ! $ fjoin ! $ nothing ! $ fjoin ! $ nothing ! $ fjoin ! $ nothing ! $ fjoin ! $ frame ! $
       owned ! S.the-row (Is S.the-row) (LL.makes S.the-type S′.the-plain 𝓤 H A) r _ made $ done !
 
-  -- ---- the call of `is_named`, at the element a
+  -- ---- the call of `is_wanted`, at the element a
   abbrev passed : Attribute → Vals callee.signature (κ₀, (κ₂, tt))
-  passed a = (v₀ ∷ [], (vint w32 (a .name) ∷ [], (vint w32 (a .«name_len») ∷ [], (v₂ ∷ [], (vint w32 key ∷ [], (vint w32 len ∷ [], (vbool tp ∷ [], tt)))))))
+  passed a = (v₀ ∷ [], (vint w32 (a .name) ∷ [], (vint w32 (a .«name_len») ∷ [], (vbool (a .tp) ∷ [], (v₂ ∷ [], (vint w32 key ∷ [], (vint w32 len ∷ [], (vbool tp ∷ [], tt))))))))
 
   abbrev given′ : Attribute → Args callee.signature (κ₀, (κ₂, tt))
-  given′ a = (doc, (a .name, (a .«name_len», (keys, (key, (len, (tp, tt)))))))
+  given′ a = (doc, (a .name, (a .«name_len», (a .tp, (keys, (key, (len, (tp, tt))))))))
 
   abbrev to : Attribute → Callee 𝓤 H A mem run .Ghost
   to a = (((κ₀, (κ₂, tt)), (q₀, (q₂, tt)), tt, given′ a, passed a), tt)
@@ -165,16 +165,16 @@ module _ {M : Type 1} (𝓤 : URA M) (H : Heap 𝓤) (A : Atoms 𝓤) (W : Given
       move ! (4 ∷ []) $ use1 W (‵ O₂ ⊛ ‵ O₂) (shr-slice-copy 𝓤 H A W (named 2) κ₂ u8 .twice keys (v₂ ∷ [])) $ split ! $
       -- [O₂; O₂; O₀; O₀; κ₀; κ₂]
       nothing ! $ owned ! bool (Is bool) (bool-makes 𝓤 H A W) tp _ refl $ fjoin ! $ owned ! u32 (Is u32) (uint-makes 𝓤 H A W w32) len _ (refl, k₁) $ fjoin ! $
-      owned ! u32 (Is u32) (uint-makes 𝓤 H A W w32) key _ (refl, k₀) $ fjoin ! $ move ! (1 ∷ 0 ∷ []) $ fjoin ! $ owned ! u32 (Is u32) (uint-makes 𝓤 H A W w32) (a .«name_len») _ (refl, f₁) $ fjoin ! $
-      owned ! u32 (Is u32) (uint-makes 𝓤 H A W w32) (a .name) _ (refl, f₀) $ fjoin ! $ move ! (2 ∷ 0 ∷ []) $ fjoin ! $
+      owned ! u32 (Is u32) (uint-makes 𝓤 H A W w32) key _ (refl, k₀) $ fjoin ! $ move ! (1 ∷ 0 ∷ []) $ fjoin ! $ owned ! bool (Is bool) (bool-makes 𝓤 H A W) (a .tp) _ refl $ fjoin ! $
+      owned ! u32 (Is u32) (uint-makes 𝓤 H A W w32) (a .«name_len») _ (refl, f₁) $ fjoin ! $ owned ! u32 (Is u32) (uint-makes 𝓤 H A W w32) (a .name) _ (refl, f₀) $ fjoin ! $ move ! (2 ∷ 0 ∷ []) $ fjoin ! $
       -- [owns; O₂; O₀; κ₀; κ₂]
       nothing ! $ move ! (5 ∷ 0 ∷ []) $ join ! $ move ! (4 ∷ 0 ∷ []) $ join ! $ move ! (0 ∷ 1 ∷ []) $ join ! $ nothing ! $ move ! (1 ∷ 0 ∷ []) $ join ! $ frame ! $ move ! (1 ∷ 0 ∷ []) $ done !
 
-  said : (a : Attribute) (r : Bool) → ent 𝓤 (ensured 𝓤 H A callee.ended (callee.clauses 𝓤 H A mem run) (κ₀, (κ₂, tt)) (given′ a) tt r) (fact 𝓤 (r ≡ hit ask (doc .now) a))
-  said a r = exE 𝓤 _ (λ ws. snd∗ 𝓤 (sem 𝓤 H A (lasts callee.ended (κ₀, (κ₂, tt)) (given′ a) ws)) (fact 𝓤 (r ≡ hit ask (doc .now) a)))
+  said : (a : Attribute) (r : Bool) → ent 𝓤 (ensured 𝓤 H A callee.ended (callee.clauses 𝓤 H A mem run) (κ₀, (κ₂, tt)) (given′ a) tt r) (fact 𝓤 (r ≡ ask a))
+  said a r = exE 𝓤 _ (λ ws. snd∗ 𝓤 (sem 𝓤 H A (lasts callee.ended (κ₀, (κ₂, tt)) (given′ a) ws)) (fact 𝓤 (r ≡ ask a)))
 
   -- ---- the body, over the blocks of its locals
-  module _ (𝓣 : Tables 𝓤 H) (fm : FmC 𝓤 H (W .laws) (𝓣 .C)) (known : Triple 𝓤 (𝓣 .C #is-named) (Callee 𝓤 H A mem run)) (m : n ≤ length xs) (g : Room T.the-row (length xs)) (k₀ : key < 2 ^ 32) (k₁ : len < 2 ^ 32)
+  module _ (𝓣 : Tables 𝓤 H) (fm : FmC 𝓤 H (W .laws) (𝓣 .C)) (known : Triple 𝓤 (𝓣 .C #is-wanted) (Callee 𝓤 H A mem run)) (m : n ≤ length xs) (g : Room T.the-row (length xs)) (k₀ : key < 2 ^ 32) (k₁ : len < 2 ^ 32)
       (l₀ l₁ l₂ l₃ l₄ l₅ l₆ l₇ l₈ l₉ l₁₀ l₁₁ l₁₂ l₁₃ l₁₄ : ℕ) where
     abbrev τ₁ : Ty
     τ₁ = sliceTy (tyRef (named 0) imm (tyInt w8))
@@ -195,12 +195,12 @@ module _ {M : Type 1} (𝓤 : URA M) (H : Heap 𝓤) (A : Atoms 𝓤) (W : Given
     abbrev holds : Ty → ℕ → Val → List (Item 𝓤) → List (Item 𝓤)
     holds τ l v Γ = ‵ (fat fullShare τ l 0 v) ∷ ‵ (fdies τ l) ∷ Γ
 
-    abbrev I : Turn ask (doc .now) xs n → List (Item 𝓤)
+    abbrev I : Turn ask xs n → List (Item 𝓤)
     I t = Has (room tyBool l₁₄ (room T′.mir l₁₃ (room tyPtr l₁₂ (room (tyInt w64) l₁₁ (room tyBool l₁₀ (room T′.mir l₉
         (holds (tyInt w64) l₈ (vint w64 (t .i)) (holds tyBool l₇ (vbool tp) (holds (tyInt w32) l₆ (vint w32 len) (holds (tyInt w32) l₅ (vint w32 key)
         (holds τ₄ l₄ v₂ (holds (tyInt w64) l₃ (vint w64 n) (holds τ₂ l₂ v₁ (holds τ₁ l₁ v₀ (room S′.mir l₀ [])))))))))))))))
 
-    abbrev ≺ : Turn ask (doc .now) xs n → Turn ask (doc .now) xs n → Type 0
+    abbrev ≺ : Turn ask xs n → Turn ask xs n → Type 0
     ≺ t′ t = n - t′ .i < n - t .i
 
     -- what is to hold where the loop is left
@@ -208,11 +208,11 @@ module _ {M : Type 1} (𝓤 : URA M) (H : Heap 𝓤) (A : Atoms 𝓤) (W : Given
     Left = afterBlock 𝓤 H (afterSeq 𝓤 H (Wp 𝓤 H (𝓣 .C) (𝓣 .Λ) E mir.t-3 (atReturn 𝓤 H E Post)) (atReturn 𝓤 H E Post))
 
     -- and where a turn from t ends
-    abbrev After : Turn ask (doc .now) xs n → Out → SProp 𝓤
+    abbrev After : Turn ask xs n → Out → SProp 𝓤
     After t = afterTurn 𝓤 H (Below 𝓤 H A ≺ I t) Left
 
     -- the end: every local is room, and the result is returned
-    leaves : (r : Value) → Picks ask (doc .now) xs n r → Is S.the-row r (res r ∷ [])
+    leaves : (r : Value) → Picks ask xs n r → Is S.the-row r (res r ∷ [])
         → Sq W (Has (room tyBool l₁₄ (room T′.mir l₁₃ (room tyPtr l₁₂ (room (tyInt w64) l₁₁ (room tyBool l₁₀ (room T′.mir l₉ (room (tyInt w64) l₈ (room tyBool l₇ (room (tyInt w32) l₆ (room (tyInt w32) l₅
         (room τ₄ l₄ (room (tyInt w64) l₃ (room τ₂ l₂ (room τ₁ l₁ (room S′.mir l₀ [])))))))))))))))) (frees E (prop (Post (res r))))
     leaves r e made =
@@ -221,7 +221,7 @@ module _ {M : Type 1} (𝓤 : URA M) (H : Heap 𝓤) (A : Atoms 𝓤) (W : Given
         move ! (14 ∷ 15 ∷ []) $ free1 ! $ move ! (12 ∷ 13 ∷ []) $ free1 ! $ move ! (10 ∷ 11 ∷ []) $ free1 ! $ move ! (8 ∷ 9 ∷ []) $ free1 ! $ move ! (6 ∷ 7 ∷ []) $ free1 ! $ free0 ! $ by ! (exits r e made)
 
     -- past the last attribute: the loop is left, and nothing is found
-    ends : (t : Turn ask (doc .now) xs n) → ltb (t .i) n ≡ false → Sq W (I t) (runs (𝓣 .C) (𝓣 .Λ) E mir.turn-1 (anyQ (After t)))
+    ends : (t : Turn ask xs n) → ltb (t .i) n ≡ false → Sq W (I t) (runs (𝓣 .C) (𝓣 .Λ) E mir.turn-1 (anyQ (After t)))
     unfolding afterTurn
     ends t e =
         assigns ! (bin ! (load ! (from ! (stop !)) (look ! 18 refl)) (load ! (from ! (stop !)) (look ! 28 refl)) tt) (from ! (stop !)) (init ! 14 refl (tt, tt)) $
@@ -229,13 +229,13 @@ module _ {M : Type 1} (𝓤 : URA M) (H : Heap 𝓤) (A : Atoms 𝓤) (W : Given
         leaves-loop ! (load ! (from ! (stop !)) (look ! 14 refl)) $ exec ! (𝓣 .C) (𝓣 .Λ) E mir.t-3 (atRet E Post) $
         assigns ! (agg ! (and-then ! (lit ! tt) (and-then ! (lit ! tt) (and-then ! (lit ! tt) (no-more !))))) (from ! (stop !)) (init ! 34 refl (LL.lawful S.the-type S′.the-laws 𝓤 H A W .typed (valueOf none) _ made .0)) $
         returns ! (look ! 34 refl) $ forget ! 14 refl $ forget ! 18 refl $ forget ! 20 refl $ forget ! 22 refl $ forget ! 24 refl $ forget ! 26 refl $ forget ! 28 refl $ forget ! 30 refl $ forget ! 32 refl $ forget ! 34 refl $
-        leaves (valueOf none) (turn-end ask (doc .now) xs n m t (ltb-false (t .i) n e)) made
+        leaves (valueOf none) (turn-end ask xs n m t (ltb-false (t .i) n e)) made
       where
         made : Is S.the-row (valueOf none) (res (valueOf none) ∷ [])
         made = LL.owes S.the-type S′.the-laws (valueOf none) ((refl, lit< tt), ((refl, lit< tt), ((refl, lit< tt), tt)))
 
     -- a turn at an attribute
-    more : (t : Turn ask (doc .now) xs n) → ltb (t .i) n ≡ true → Sq W (I t) (runs (𝓣 .C) (𝓣 .Λ) E mir.turn-1 (anyQ (After t)))
+    more : (t : Turn ask xs n) → ltb (t .i) n ≡ true → Sq W (I t) (runs (𝓣 .C) (𝓣 .Λ) E mir.turn-1 (anyQ (After t)))
     unfolding afterTurn
     more t e =
         assigns ! (bin ! (load ! (from ! (stop !)) (look ! 18 refl)) (load ! (from ! (stop !)) (look ! 28 refl)) tt) (from ! (stop !)) (init ! 14 refl (tt, tt)) $
@@ -243,7 +243,7 @@ module _ {M : Type 1} (𝓤 : URA M) (H : Heap 𝓤) (A : Atoms 𝓤) (W : Given
         stays ! (load ! (from ! (stop !)) (look ! 14 refl)) $
         assigns ! (bin ! (load ! (from ! (stop !)) (look ! 18 refl)) (lit ! tt) scaled) (from ! (stop !)) (init ! 12 refl (tt, scaled)) $
         assigns ! (bin ! (load ! (from ! (fld ! refl (stop !))) (look-in ! 30 (sub ! 0 refl (whole !)))) (load ! (from ! (stop !)) (look ! 12 refl)) tt) (from ! (stop !)) (init ! 10 refl (tt, tt)) $
-        rewrite ! 10 (λ (p : ℕ). ‵ (fat fullShare tyPtr l₁₂ 0 (vptr b p))) (sym (place-is 20 o i)) refl $
+        rewrite ! 10 (λ (p : ℕ). ‵ (fat fullShare tyPtr l₁₂ 0 (vptr b p))) (sym (place-is 24 o i)) refl $
         -- what attrs owns is had twice, and of one copy the fractured borrow is kept
         move ! (4 ∷ []) $ use1 W (‵ O₁ ⊛ ‵ O₁) (shr-slice-copy 𝓤 H A W (named 1) κ₁ T.the-row .twice attrs (v₁ ∷ [])) $ split ! $ fsplit ! $ drop ! $ fsplit ! $ drop ! $ move ! (0 ∷ 3 ∷ []) $
         looks-slice ! tt T.the-row (Is T.the-row) (shows 𝓤 H A T.the-row) vals (LL.tells T.the-type T′.the-laws) (LL.copy T.the-type T′.the-copy 𝓤 H A W) xs b o (λ q′.
@@ -254,13 +254,14 @@ module _ {M : Type 1} (𝓤 : URA M) (H : Heap 𝓤) (A : Atoms 𝓤) (W : Given
         elem-back ! T.the-row q′ xs i blank (vals a) b o inside $ shuts-slice ! tt T.the-row q′ xs b o $
         -- [κ₁; the fractured borrow; O₁; κ₀; κ₂; O₀; O₂; _14; …]
         move ! (1 ∷ []) $ drop ! $ move ! (2 ∷ 3 ∷ 4 ∷ 5 ∷ []) $ group ! 4 $ use1 W (raw (Callee 𝓤 H A mem run .pre (to a)) ⊛ (‵ O₀ ⊛ ‵ O₂)) (goes k₀ k₁ a (p .1 .1 .0 .1) (p .1 .1 .1 .0 .1)) $ split ! $
-        -- [what `is_named` asks; O₀ and O₂; κ₁; O₁; _14; …]
+        -- [what `is_wanted` asks; O₀ and O₂; κ₁; O₁; _14; …]
         calls-at ! fm (Callee 𝓤 H A mem run) known (to a)
         (and-then ! (load ! (from ! (stop !)) (look ! 30 refl)) (and-then ! (load ! (from ! (fld ! refl (stop !))) (look-in ! 14 (sub ! 0 refl (whole !))))
-        (and-then ! (load ! (from ! (fld ! refl (stop !))) (look-in ! 14 (sub ! 1 refl (whole !)))) (and-then ! (load ! (from ! (stop !)) (look ! 24 refl))
-        (and-then ! (load ! (from ! (stop !)) (look ! 22 refl)) (and-then ! (load ! (from ! (stop !)) (look ! 20 refl)) (and-then ! (load ! (from ! (stop !)) (look ! 18 refl)) (no-more !)))))))) (λ u.
+        (and-then ! (load ! (from ! (fld ! refl (stop !))) (look-in ! 14 (sub ! 1 refl (whole !)))) (and-then ! (load ! (from ! (fld ! refl (stop !))) (look-in ! 14 (sub ! 5 refl (whole !))))
+        (and-then ! (load ! (from ! (stop !)) (look ! 24 refl))
+        (and-then ! (load ! (from ! (stop !)) (look ! 22 refl)) (and-then ! (load ! (from ! (stop !)) (look ! 20 refl)) (and-then ! (load ! (from ! (stop !)) (look ! 18 refl)) (no-more !))))))))) (λ u.
         use1 W (later (some (λ (r : Bool). ((‵ (flft κ₀ q₀) ⊛ (‵ (flft κ₂ q₂) ⊛ ‵ ftrue)) ⊛ ‵ (bool .own r (u ∷ []))) ⊛ raw (ensured 𝓤 H A callee.ended (callee.clauses 𝓤 H A mem run) (κ₀, (κ₂, tt)) (given′ a) tt r)))) (id⊢ 𝓤 _) $ await ! tt $ pick ! (λ r.
-        split ! $ move ! (1 ∷ []) $ use1 W (raw (fact 𝓤 (r ≡ hit ask (doc .now) a))) (said a r) $ heard ! (r ≡ hit ask (doc .now) a) (λ is. split ! $ move ! (1 ∷ []) $
+        split ! $ move ! (1 ∷ []) $ use1 W (raw (fact 𝓤 (r ≡ ask a))) (said a r) $ heard ! (r ≡ ask a) (λ is. split ! $ move ! (1 ∷ []) $
         facts ! bool (Is bool) (shows 𝓤 H A bool) r (u ∷ []) (λ is-u.
         -- [κ₀ and κ₂; O₀ and O₂; κ₁; O₁; _14; …]
         land ! (from ! (stop !)) (init ! 4 refl (bool-lawful 𝓤 H A W .typed r _ is-u .0)) $ rewrite ! 4 (λ (v : Val). ‵ (fat fullShare tyBool l₁₄ 0 v)) (ap only is-u ∙ ap vbool is) refl $
@@ -270,11 +271,11 @@ module _ {M : Type 1} (𝓤 : URA M) (H : Heap 𝓤) (A : Atoms 𝓤) (W : Given
         (and-then ! (load ! (from ! (fld ! refl (stop !))) (look-in ! 16 (sub ! 4 refl (whole !)))) (no-more !))))) (from ! (stop !)) (init ! 34 refl (LL.lawful S.the-type S′.the-laws 𝓤 H A W .typed (valueOf (just a)) _ (made p) .0)) $
         returns-within ! Post refl (look ! 34 refl) $ forget ! 6 refl $ forget ! 8 refl $ forget ! 10 refl $ forget ! 12 refl $ forget ! 14 refl $ forget ! 16 refl $ forget ! 18 refl $ forget ! 20 refl $ forget ! 22 refl $ forget ! 24 refl $
         forget ! 26 refl $ forget ! 28 refl $ forget ! 30 refl $ forget ! 32 refl $ forget ! 34 refl $
-        leaves (valueOf (just a)) (turn-hit ask (doc .now) xs n m t lt (is-true _ y)) (made p))
+        leaves (valueOf (just a)) (turn-hit ask xs n m t lt (is-true _ y)) (made p))
         (λ y. skips ! $ exec ! (𝓣 .C) (𝓣 .Λ) E bump (anyQ (After t)) $
         assigns-last ! (bin ! (load ! (from ! (stop !)) (look ! 18 refl)) (lit ! tt) next-fits) (from ! (stop !)) (store ! 18 refl (tt, next-fits)) $
         forget ! 6 refl $ forget ! 8 refl $ forget ! 10 refl $ forget ! 12 refl $ forget ! 14 refl $ forget ! 16 refl $
-        again ! ≺ I t (turn-more ask (doc .now) xs n m t lt (is-false _ y)) (omega (arith, lt)))))))))
+        again ! ≺ I t (turn-more ask xs n m t lt (is-false _ y)) (omega (arith, lt)))))))))
       where
         i : ℕ
         i = t .i
@@ -294,25 +295,25 @@ module _ {M : Type 1} (𝓤 : URA M) (H : Heap 𝓤) (A : Atoms 𝓤) (W : Given
         next-fits : Fits w64 (i + 1)
         next-fits = record { fits = omega (arith, inside, g .0) }
 
-        scaled : Fits w64 (i * 20)
+        scaled : Fits w64 (i * 24)
         scaled = record { fits = omega (arith, inside, g .1) }
 
         typed : Is T.the-row a (vals a) → Holds (hasTy T′.mir (LL.tuple-val T.the-type T′.the-laws (T.the-type .to a))) × WT (LL.tuple-val T.the-type T′.the-laws (T.the-type .to a))
         typed p = LL.lawful T.the-type T′.the-laws 𝓤 H A W .typed a (vals a) p .0
 
     -- a turn, by cases on the loop's test
-    turn : (t : Turn ask (doc .now) xs n) (y : Bool) → ltb (t .i) n ≡ y → Sq W (I t) (runs (𝓣 .C) (𝓣 .Λ) E mir.turn-1 (anyQ (After t)))
+    turn : (t : Turn ask xs n) (y : Bool) → ltb (t .i) n ≡ y → Sq W (I t) (runs (𝓣 .C) (𝓣 .Λ) E mir.turn-1 (anyQ (After t)))
     turn t true e = more t e
     turn t false e = ends t e
 
     falls : WellFounded ≺
-    falls = InvImage·wf (λ (t : Turn ask (doc .now) xs n). n - t .i) (Nat·lt-wfRel .wf)
+    falls = InvImage·wf (λ (t : Turn ask xs n). n - t .i) (Nat·lt-wfRel .wf)
 
-    looped : Sq W (I (turn-first ask (doc .now) xs n)) (runs (𝓣 .C) (𝓣 .Λ) E mir.t-2 (atRet E Post))
-    looped = first ! $ blocks ! $ loops ! 𝓣 ≺ falls I (λ t. turn t (ltb (t .i) n) refl) (turn-first ask (doc .now) xs n)
+    looped : Sq W (I (turn-first ask xs n)) (runs (𝓣 .C) (𝓣 .Λ) E mir.t-2 (atRet E Post))
+    looped = first ! $ blocks ! $ loops ! 𝓣 ≺ falls I (λ t. turn t (ltb (t .i) n) refl) (turn-first ask xs n)
 
   -- the MIR, up to the loop
-  walk : (𝓣 : Tables 𝓤 H) → FmC 𝓤 H (W .laws) (𝓣 .C) → Triple 𝓤 (𝓣 .C #is-named) (Callee 𝓤 H A mem run) → n ≤ length xs → Is (ShrSlice (named 0) κ₀ u8) doc (v₀ ∷ []) → Is (ShrSlice (named 1) κ₁ T.the-row) attrs (v₁ ∷ []) → n < 2 ^ 64
+  walk : (𝓣 : Tables 𝓤 H) → FmC 𝓤 H (W .laws) (𝓣 .C) → Triple 𝓤 (𝓣 .C #is-wanted) (Callee 𝓤 H A mem run) → n ≤ length xs → Is (ShrSlice (named 0) κ₀ u8) doc (v₀ ∷ []) → Is (ShrSlice (named 1) κ₁ T.the-row) attrs (v₁ ∷ []) → n < 2 ^ 64
       → Is (ShrSlice (named 2) κ₂ u8) keys (v₂ ∷ []) → key < 2 ^ 32 → len < 2 ^ 32
       → ent 𝓤 (onEntry 𝓤 H A this.signature (κ₀, (κ₁, (κ₂, tt))) (q₀, (q₁, (q₂, tt))) x at) (WpFn 𝓤 H (𝓣 .C) (𝓣 .Λ) code.function (v₀ ∷ v₁ ∷ vint w64 n ∷ v₂ ∷ vint w32 key ∷ vint w32 len ∷ vbool tp ∷ []) Post)
   walk 𝓣 fm known m p₀ p₁ f p₂ k₀ k₁ =
@@ -328,7 +329,7 @@ module _ {M : Type 1} (𝓤 : URA M) (H : Heap 𝓤) (A : Atoms 𝓤) (W : Given
       assigns ! (of-opd ! (lit ! tt)) (from ! (stop !)) (init ! 12 refl (tt, record { fits = lit< tt })) $ move ! (30 ∷ 31 ∷ 32 ∷ 33 ∷ 34 ∷ 35 ∷ []) $
       looped 𝓣 fm known m (p₁ .0 .1) k₀ k₁ l₀ l₁ l₂ l₃ l₄ l₅ l₆ l₇ l₈ l₉ l₁₀ l₁₁ l₁₂ l₁₃ l₁₄)))))))))))))))
 
-module _ {M : Type 1} (𝓤 : URA M) (H : Heap 𝓤) (A : Atoms 𝓤) (W : Given 𝓤 H A) (mem : Memory → SProp 𝓤) (run : Routine → Fun 𝓤) (𝓣 : Tables 𝓤 H) (known : Triple 𝓤 (𝓣 .C #is-named) (Callee 𝓤 H A mem run)) where
+module _ {M : Type 1} (𝓤 : URA M) (H : Heap 𝓤) (A : Atoms 𝓤) (W : Given 𝓤 H A) (mem : Memory → SProp 𝓤) (run : Routine → Fun 𝓤) (𝓣 : Tables 𝓤 H) (known : Triple 𝓤 (𝓣 .C #is-wanted) (Callee 𝓤 H A mem run)) where
   walks : Walks 𝓤 H A this.ended stayed (WpFn 𝓤 H (𝓣 .C) (𝓣 .Λ) code.function) (this.clauses 𝓤 H A mem run)
   walks = walked 𝓤 H A this.ended stayed (this.clauses 𝓤 H A mem run) (WpFn 𝓤 H (𝓣 .C) (𝓣 .Λ) code.function)
       (λ κs. (slice-vals, (slice-vals, (uint-vals w64, (slice-vals, (uint-vals w32, (uint-vals w32, (bool-vals, tt))))))))
@@ -359,4 +360,4 @@ first-named-spec 𝓤 H 𝓜 𝓖 𝓡 =
     entered 𝓤 H (tripleOf 𝓤 H (𝓖 .A) this.signature (this.spec 𝓤 H (𝓖 .A) (𝓜 .mem) (𝓡 .run)))
     (tables 𝓤 H 𝓜 𝓡 code.env .C) (tables 𝓤 H 𝓜 𝓡 code.env .Λ) #first-named code.function (code.unfolded 𝓤 H 𝓜 𝓡)
     (meets 𝓤 H (𝓖 .A) (givenOf 𝓤 H 𝓜 𝓖) (𝓜 .mem) (𝓡 .run) (tablesOf 𝓤 H 𝓜 (tables 𝓤 H 𝓜 𝓡 code.env))
-    (cited 𝓤 H (Callee 𝓤 H (𝓖 .A) (𝓜 .mem) (𝓡 .run)) 𝓜 𝓡 code.env #is-named callee-def.routine code.calls-attributes·names·is-named (callee-thm.met 𝓤 H 𝓜 𝓖 𝓡)))
+    (cited 𝓤 H (Callee 𝓤 H (𝓖 .A) (𝓜 .mem) (𝓡 .run)) 𝓜 𝓡 code.env #is-wanted callee-def.routine code.calls-attributes·names·is-wanted (callee-thm.met 𝓤 H 𝓜 𝓖 𝓡)))

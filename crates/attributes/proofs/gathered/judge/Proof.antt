@@ -154,7 +154,7 @@ module _ {M : Type 1} (𝓤 : URA M) (H : Heap 𝓤) (A : Atoms 𝓤) (W : Given
   to₁ = ((κs, (ql, (q₁, (qr, tt))), tt, given₁, passed₁), tt)
 
   abbrev Found : Value → Type 0
-  Found v = Picks (wanted (doc .now) (a .name) (a .«name_len») false) (doc .now) xs i v
+  Found v = Picks (wanted (doc .now) (a .name) (a .«name_len») false (doc .now)) xs i v
 
   asked₁ : i ≤ n → i < 2 ^ 64 → a .name < 2 ^ 32 → a .«name_len» < 2 ^ 32
       → ent 𝓤 (⋆ 𝓤 H A (‵ (flft κ₀ ql) ∷ ‵ (flft κ₁ q₁) ∷ ‵ (flft κ₀ qr) ∷ ‵ O₀ ∷ ‵ O₁ ∷ ‵ O₀ ∷ [])) (First 𝓤 H A mem run .pre to₁)
@@ -215,7 +215,7 @@ module _ {M : Type 1} (𝓤 : URA M) (H : Heap 𝓤) (A : Atoms 𝓤) (W : Given
 
     -- what was found is weighed
     weighs : (v : Value) (u w : Val) → Found v → Is T.the-row a (vals a)
-        → Sq W (‵ (flft κ₀ q₀) ∷ ‵ O₀ ∷ ‵ (U.the-row .own v (u ∷ [])) ∷ ‵ (flft κ₁ q₁) ∷ holds T′.mir l₈ va (holds tyPtr l₇ w (holds (tyInt w64) l₆ (vint w64 (i * 20)) (holds U′.mir l₅ u (holds T′.mir l₄ va Params)))))
+        → Sq W (‵ (flft κ₀ q₀) ∷ ‵ O₀ ∷ ‵ (U.the-row .own v (u ∷ [])) ∷ ‵ (flft κ₁ q₁) ∷ holds T′.mir l₈ va (holds tyPtr l₇ w (holds (tyInt w64) l₆ (vint w64 (i * 24)) (holds U′.mir l₅ u (holds T′.mir l₄ va Params)))))
         (runs (𝓣 .C) (𝓣 .Λ) E mir.t-6 (atRet E Post))
     weighs v u w f p =
         group ! 3 $ use1 W (raw (Weigh 𝓤 H A mem run .pre (to₂ v u))) (asked₂ v u (judge-asks lt can) p) $
@@ -233,7 +233,7 @@ module _ {M : Type 1} (𝓤 : URA M) (H : Heap 𝓤) (A : Atoms 𝓤) (W : Given
 
     -- the first with the name is looked for
     finds : (w : Val) → Is T.the-row a (vals a)
-        → Sq W (‵ (flft κ₀ q₀) ∷ ‵ (flft κ₁ q₁) ∷ ‵ O₀ ∷ ‵ O₁ ∷ holds T′.mir l₈ va (holds tyPtr l₇ w (holds (tyInt w64) l₆ (vint w64 (i * 20)) (room U′.mir l₅ (holds T′.mir l₄ va Params)))))
+        → Sq W (‵ (flft κ₀ q₀) ∷ ‵ (flft κ₁ q₁) ∷ ‵ O₀ ∷ ‵ O₁ ∷ holds T′.mir l₈ va (holds tyPtr l₇ w (holds (tyInt w64) l₆ (vint w64 (i * 24)) (room U′.mir l₅ (holds T′.mir l₄ va Params)))))
         (runs (𝓣 .C) (𝓣 .Λ) E mir.t-5 (atRet E Post))
     finds w p =
         -- the token is cut, and what doc owns is had three times: twice for the call, and once for `weigh`
@@ -259,7 +259,7 @@ module _ {M : Type 1} (𝓤 : URA M) (H : Heap 𝓤) (A : Atoms 𝓤) (W : Given
     reads =
         assigns ! (bin ! (load ! (from ! (stop !)) (look ! 14 refl)) (lit ! tt) scaled) (from ! (stop !)) (init ! 8 refl (tt, scaled)) $
         assigns ! (bin ! (load ! (from ! (fld ! refl (stop !))) (look-in ! 16 (sub ! 0 refl (whole !)))) (load ! (from ! (stop !)) (look ! 8 refl)) tt) (from ! (stop !)) (init ! 6 refl (tt, tt)) $
-        rewrite ! 6 (λ (p : ℕ). ‵ (fat fullShare tyPtr l₇ 0 (vptr b p))) (sym (place-is 20 o i)) refl $
+        rewrite ! 6 (λ (p : ℕ). ‵ (fat fullShare tyPtr l₇ 0 (vptr b p))) (sym (place-is 24 o i)) refl $
         -- what attrs owns is had twice, and of one copy the fractured borrow is kept
         move ! (3 ∷ []) $ use1 W (‵ O₁ ⊛ ‵ O₁) (shr-slice-copy 𝓤 H A W (named 1) κ₁ T.the-row .twice attrs (v₁ ∷ [])) $ split ! $ fsplit ! $ drop ! $ fsplit ! $ drop ! $ move ! (0 ∷ 3 ∷ []) $
         looks-slice ! tt T.the-row (Is T.the-row) (shows 𝓤 H A T.the-row) vals (LL.tells T.the-type T′.the-laws) (LL.copy T.the-type T′.the-copy 𝓤 H A W) xs b o (λ q′.
@@ -271,7 +271,7 @@ module _ {M : Type 1} (𝓤 : URA M) (H : Heap 𝓤) (A : Atoms 𝓤) (W : Given
         -- [κ₁; the fractured borrow; O₁; κ₀; O₀; _8; …]
         move ! (1 ∷ []) $ drop ! $ move ! (2 ∷ 0 ∷ 3 ∷ 1 ∷ []) $ finds _ p))
       where
-        scaled : Fits w64 (i * 20)
+        scaled : Fits w64 (i * 24)
         scaled = record { fits = omega (arith, lt, g .1) }
 
   -- the MIR, from its entry on

@@ -79,7 +79,7 @@ flag false = opdFalse
 -- a result of `first_named`: what it says, and that it is the value of its machine value
 record Got (keys doc : List ℕ) (xs : List Attribute) (n k l : ℕ) (tp : Bool) : Type 0 where
   r : Value
-  picks : Picks (wanted keys k l tp) doc xs n r
+  picks : Picks (wanted keys k l tp doc) xs n r
   made : Is S.the-row r (val r ∷ [])
 
 module _ {M : Type 1} (𝓤 : URA M) (H : Heap 𝓤) (A : Atoms 𝓤) (mem : Memory → SProp 𝓤) (run : Routine → Fun 𝓤) where
@@ -144,7 +144,7 @@ module _ {M : Type 1} (𝓤 : URA M) (H : Heap 𝓤) (A : Atoms 𝓤) (W : Given
     to = ((κs, (q₀, (q₁, (q₂, tt))), tt, given′, (v₀ ∷ [], (v₁ ∷ [], (vint w64 n ∷ [], (v₂ ∷ [], (vint w32 k ∷ [], (vint w32 l ∷ [], (vbool tp ∷ [], tt)))))))), tt)
 
     abbrev Says : Value → Type 0
-    Says r = Picks (wanted (keys .now) k l tp) (doc .now) (attrs .now) n r
+    Says r = Picks (wanted (keys .now) k l tp (doc .now)) (attrs .now) n r
 
     -- what it asks is had, and what the slices own is kept
     goes : n ≤ length (attrs .now) → n < 2 ^ 64 → k < 2 ^ 32 → l < 2 ^ 32
