@@ -10,10 +10,9 @@ use lib.Dec.{eqb, leb, ltb}
 use lib.ListN.{length, take, drop}
 use Rattle.slices.specs.Bytes.{same}
 use Rattle.utf8.specs.WhiteSpace.{trimStart, trimEnd}
-use Rattle.document.specs.Tags.{Shown}
 use Rattle.document.specs.Tokens.{Tag, Token, start, close, fault, end}
 use Rattle.document.specs.Rows.{Row, Tables, documented}
-use Rattle.document.specs.Elements.{kindOf, mayHold, among, bare, Opened, opens, refuses, opensAs}
+use Rattle.document.specs.Elements.{kindOf, mayHold, among, bare, Opened, opens, refuses, Keeping, opensAs}
 use Rattle.document.specs.Reading.{Definition, Purpose, ignored, captures, Frame, element, definition, passing, State, begun, reading, accepted, refused, nameOf, rowOf, parentOf, reasonOf, noted, frameOf, withRow, withWarning, closed, dropped, judged, passed, shut, tooDeep, opened, begins, unsupported, docstringIn, child, started, turn, step}
 use Rattle.document.specs.declared.Refusal.{Refusal}
 use Rattle.document.proofs.Tests.{either}
@@ -47,7 +46,7 @@ Kept i (reading fs u) = i .inside fs u
 Kept i (accepted u) = i .done u
 Kept i (refused x) = i .fault x
 
-module _ {A : Type 0} (keep : Shown → A) (doc : List ℕ) where
+module _ {A : Type 0} (keep : Keeping A) (doc : List ℕ) where
   -- the innermost element is closed: an element, a definition that is kept, one that is dropped; and if it was the root
   pub record Closes (i j : Known A) : Type 0 where
     pub element : (k : ℕ) (n : List ℕ) (r : ℕ) (fs : List Frame) (u : Tables A) → i .inside (element k n r ∷ fs) u → j .inside fs u
