@@ -211,8 +211,8 @@ module _ (doc : List ℕ) where
   ways (start t) c = record {
     closes = closes;
     moves = λ fs u h. h;
-    row = λ k r fs u c b e h. row-holds k t r fs (u .rows) b (rw e at (parented k (parentOf fs) t)) h;
-    own-row = λ k r fs u c b e h. row-holds k t r fs (u .rows) b (rw e at (parented k (parentOf fs) t)) h;
+    row = λ k r fs u c b n e h. row-holds k t r fs (u .rows) b (rw e at (parented k (parentOf fs) t)) h;
+    own-row = λ k r fs u c b n e h. row-holds k t r fs (u .rows) b (rw e at (parented k (parentOf fs) t)) h;
     refusal = λ k p x e. tt;
     deep = tt;
     warning = λ fs u c h. h;
@@ -239,20 +239,3 @@ module _ (doc : List ℕ) where
       let h : Holds [] (u .rows) = rw (a .reads) at
       (run-kept doc held ways (λ h. record { nested = record { before = λ k l. absurd (omega arith); ordered = λ i j m k x y z l. absurd (omega arith) }; inside = tt }) (λ u h. h) tt) in
       h .nested
-
--- ---- the words of rows
-
-pub parent-at : (n : ℕ) (rs : List (Row Shown)) (z : List ℕ) (i : ℕ) → i < length rs → parentAt (wordsFrom n rs ++ z) i ≡ parentIn rs i
-unfolding rowWords rowAt
-parent-at n [] z i l = absurd (omega arith)
-parent-at n (r ∷ rs) z zero l = refl
-parent-at n (r ∷ rs) z (suc i) l =
-    let m = n + length (rowText r) in
-    let rest = wordsFrom m rs ++ z in
-    let e : (rowWords n r ++ wordsFrom m rs) ++ z ≡ rowWords n r ++ rest = append-assoc (rowWords n r) (wordsFrom m rs) z in
-    let k : suc i * 16 + 1 ≡ 16 + (i * 16 + 1) = omega arith in
-    ap (λ (j : ℕ). getD (wordsFrom n (r ∷ rs) ++ z) j 0) k
-    ∙ sym (getD-drop 16 (wordsFrom n (r ∷ rs) ++ z) (i * 16 + 1) 0)
-    ∙ ap (λ (l : List ℕ). getD (drop 16 l) (i * 16 + 1) 0) e
-    ∙ ap (λ (l : List ℕ). getD l (i * 16 + 1) 0) (drop-at (rowWords n r) rest 16 (length-rowWords n r))
-    ∙ parent-at m rs z i (omega arith)
