@@ -1,25 +1,24 @@
 -- The rows of a state are in order, and those of the open elements stand one in another: every step keeps that. A row more stands in
 -- the innermost open element, after whose row no other has the same parent.
 -- Assumes nothing.
-use Prim.Native.Nat.{ℕ, zero, suc, _+_, _*_, _≤_, _<_}
+use Prim.Native.Nat.{ℕ, suc, _≤_, _<_}
 use mathlib.Core.Path.{_≡_, refl, ap, sym, _∙_}
-use mathlib.Core.List.{List, [], _∷_, _++_, append-assoc}
+use mathlib.Core.List.{List, [], _∷_, _++_}
 use native.Mathlib.Omega.{arith}
-use lib.ListN.{length, take, drop, getD, length-append}
-use lib.Seq.{length-take-le, drop-at, getD-drop}
+use lib.ListN.{length, take, length-append}
+use lib.Seq.{length-take-le}
 use Rattle.utf8.proofs.Sequences.{below}
 use Rattle.document.specs.Kinds.{definitions}
 use Rattle.document.specs.Tags.{Shown}
 use Rattle.document.specs.Tokens.{Tag, Token, start, close, fault, end}
-use Rattle.document.specs.Rows.{Row, Tables, rowText, rowWords, wordsFrom}
+use Rattle.document.specs.Rows.{Row, Tables}
 use Rattle.document.specs.Elements.{among, Opened, opens, refuses, opensAs}
 use Rattle.document.specs.Reading.{Definition, Frame, element, definition, passing, parentOf, notedIn, noted, frameOf}
 use Rattle.document.specs.Outcome.{whole}
 use Rattle.document.proofs.Tests.{either}
 use Rattle.document.proofs.Opens.{any-way}
 use Rattle.document.proofs.Steps.{Begins, Known, Closes, Ways}
-use Rattle.rows.proofs.Words.{length-documented, length-rowWords}
-use Rattle.items.specs.Order.{parentAt}
+use Rattle.rows.proofs.Words.{length-documented}
 use Rattle.accepted.proofs.Tokens.{Comes}
 use Rattle.accepted.proofs.Folding.{run-kept, Accepts}
 use Rattle.accepted.proofs.Entries.{Brief}
