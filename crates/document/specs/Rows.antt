@@ -13,7 +13,7 @@ pub record Doc : Type 0 where
   pub start : ℕ
   pub len : ℕ
 
--- kind (word 0), parent's row plus one, name (suffix), value or signature, tp type, docstring, word 14, place of the element's `<` (word 15)
+-- kind (word 0), parent's row plus one, name (suffix), value or signature, tp type, docstring, word 14, place of `<` (word 15)
 -- A is what a row keeps of an attribute: all of it, or the text that its value shows
 pub record Row (A : Type 0) : Type 0 where
   pub kind : ℕ

@@ -12,7 +12,7 @@ use Rattle.tables.specs.Triple.{shown}
 use Rattle.tables.specs.declared.Triple.{Triple}
 use Rattle.document.specs.Rows.{Doc, Row}
 
--- kind (word 0), parent's row plus one, name, value or signature, tp type, docstring, word 14, place of the element's `<` (word 15)
+-- kind (word 0), parent's row plus one, name, value or signature, tp type, docstring, word 14, place of `<` (word 15)
 pub record RowWords : Type 0 where
   pub kind : ℕ
   pub parent : ℕ
