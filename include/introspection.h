@@ -56,7 +56,8 @@ enum introspection_word {
     INTROSPECTION_WORD_TP_TYPE = 8,    /* triple: tp:type of property, arg, member */
     INTROSPECTION_WORD_DOCSTRING = 11, /* triple: docstring, of all kinds but annotation */
     INTROSPECTION_WORD_ACCESS = 14,    /* of a property */
-    INTROSPECTION_WORD_DIRECTION = 14  /* of an arg; word 15 is 0 */
+    INTROSPECTION_WORD_DIRECTION = 14, /* of an arg */
+    INTROSPECTION_WORD_POSITION = 15   /* of all kinds: the place of the element's `<` in the document */
 };
 
 /* Word 0 of a row. Rows stand in the order of the start tags. */
@@ -180,7 +181,8 @@ void introspection_unescape(const uint8_t *value, size_t value_length, uint8_t *
 /*
  * Writes the method, signal, annotation or arg of a row as XML, with the args and annotations in it; docstrings and tp
  * types are not written. document, text and rows are as introspection_read left them, with the rows of its answer as
- * rows_claimed; or made by the caller: the rows are checked first, and refused if they are not sound.
+ * rows_claimed; or made by the caller: the rows are checked first, and refused if they are not sound. Word 15 of a sound
+ * row is below document_length, so over an empty document no row is sound; it is not written.
  *
  * Each call checks every row claimed, so whoever writes many items of a large table hands over, for each item, a table
  * of a node, an interface and the item's own rows, with the parents' numbers moved.

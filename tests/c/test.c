@@ -220,6 +220,16 @@ static void the_hinge(void)
     CHECK(shows(&r, 10, INTROSPECTION_WORD_NAME, "Moved"));
     CHECK(stands(&r, 11, INTROSPECTION_KIND_ARG, 10));
     CHECK(word(&r, 11, INTROSPECTION_WORD_DIRECTION) == INTROSPECTION_DIRECTION_NONE);
+    /* each row says where its element began */
+    CHECK(word(&r, 0, INTROSPECTION_WORD_POSITION) == place_of(hinge, "<node "));
+    CHECK(word(&r, 1, INTROSPECTION_WORD_POSITION) == place_of(hinge, "<tp:struct "));
+    CHECK(word(&r, 2, INTROSPECTION_WORD_POSITION) == place_of(hinge, "<tp:member "));
+    CHECK(word(&r, 3, INTROSPECTION_WORD_POSITION) == place_of(hinge, "<interface "));
+    CHECK(word(&r, 4, INTROSPECTION_WORD_POSITION) == place_of(hinge, "<method "));
+    CHECK(word(&r, 5, INTROSPECTION_WORD_POSITION) == place_of(hinge, "<arg name=\"degrees\""));
+    CHECK(word(&r, 6, INTROSPECTION_WORD_POSITION) == place_of(hinge, "<annotation name=\"org.example.Label\""));
+    CHECK(word(&r, 9, INTROSPECTION_WORD_POSITION) == place_of(hinge, "<property "));
+    CHECK(word(&r, 10, INTROSPECTION_WORD_POSITION) == place_of(hinge, "<signal "));
     end_reading(&r);
 }
 
@@ -469,6 +479,10 @@ static void writing(void)
     WRITES(UINT64_MAX, 4, 99, INTROSPECTION_UNSOUND_ROWS, INTROSPECTION_MAX_ROWS, "");
     WRITES(r.rows_length / 16 + 1, 4, 99, INTROSPECTION_UNSOUND_ROWS, r.rows_length / 16, "");
     WRITES(13, 4, 99, INTROSPECTION_UNSOUND_ROWS, 12, "");
+    r.rows[6 * INTROSPECTION_ROW_WORDS + INTROSPECTION_WORD_POSITION] = (uint32_t)r.document_length - 1;
+    WRITES(12, 4, whole, 0, 0, WRITTEN_METHOD);
+    r.rows[6 * INTROSPECTION_ROW_WORDS + INTROSPECTION_WORD_POSITION] = (uint32_t)r.document_length;
+    WRITES(12, 4, whole, INTROSPECTION_UNSOUND_ROWS, 6, "");
     r.rows[5 * INTROSPECTION_ROW_WORDS + INTROSPECTION_WORD_PARENT] = 6;
     WRITES(12, 4, 99, INTROSPECTION_UNSOUND_ROWS, 5, "");
     end_reading(&r);

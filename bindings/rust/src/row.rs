@@ -28,6 +28,7 @@ pub(crate) mod word {
     pub(crate) const TP_TYPE: usize = 8;
     pub(crate) const DOCSTRING: usize = 11;
     pub(crate) const CHOICE: usize = 14;
+    pub(crate) const POSITION: usize = 15;
     pub(crate) const TRIPLES: [usize; 4] = [NAME, VALUE, TP_TYPE, DOCSTRING];
 }
 
@@ -62,6 +63,10 @@ impl<'d> Row<'d> {
 
     pub(crate) fn choice(self) -> u32 {
         self.words()[word::CHOICE]
+    }
+
+    pub(crate) fn position(self) -> usize {
+        self.words()[word::POSITION] as usize
     }
 
     /// The row after the last one that stands in this one.
@@ -116,7 +121,7 @@ impl<'d> Row<'d> {
     }
 }
 
-/// The same content: kind, what is shown, and the same below.
+/// The same content: kind, what is shown, and the same below. Places in the input are no content.
 impl PartialEq for Row<'_> {
     fn eq(&self, other: &Self) -> bool {
         let len = self.end() - self.index;
@@ -174,6 +179,11 @@ macro_rules! view {
             /// The row that it stands in, of those that the reader left.
             pub fn row(&self) -> usize {
                 self.0.index
+            }
+
+            /// The place of the `<` of its start tag in the input, a byte offset.
+            pub fn position(&self) -> usize {
+                self.0.position()
             }
         }
 

@@ -53,6 +53,11 @@ impl<'d> TypeDef<'d> {
     pub fn docstring(&self) -> Option<&'d str> {
         self.inner().docstring()
     }
+
+    /// The place of the `<` of its start tag in the input, a byte offset.
+    pub fn position(&self) -> usize {
+        self.inner().position()
+    }
 }
 
 view! {

@@ -252,6 +252,64 @@ fn mappings() {
 }
 
 #[test]
+fn positions() {
+    let document = antenna();
+    let begins = |position: usize, tag: &str| {
+        let text = std::str::from_utf8(&ANTENNA[position..]).unwrap();
+        assert!(text.starts_with(tag), "{tag} at {position}");
+    };
+    begins(document.root().position(), "<node name=\"/ground/antenna\"");
+    begins(
+        document.root().nodes().next().unwrap().position(),
+        "<node name=\"feed\"",
+    );
+    let antenna = interface(&document);
+    begins(
+        antenna.position(),
+        "<interface name=\"org.example.Antenna\"",
+    );
+    for method in antenna.methods() {
+        begins(
+            method.position(),
+            &format!("<method name=\"{}\"", method.name()),
+        );
+        for arg in method.args() {
+            begins(arg.position(), "<arg ");
+            assert!(arg.position() > method.position());
+        }
+    }
+    let moved = antenna.signals().next().unwrap();
+    begins(moved.position(), "<signal name=\"Moved\"");
+    let mode = antenna.properties().next().unwrap();
+    begins(mode.position(), "<property name=\"Mode\"");
+    let owner = antenna.annotations().next().unwrap();
+    begins(owner.position(), "<annotation name=\"org.example.Owner\"");
+
+    let types: Vec<_> = document.root().telepathy_types().collect();
+    let [TypeDef::SimpleType(degrees), TypeDef::Enum(mode), TypeDef::Struct(direction)] = types[..]
+    else {
+        panic!("{types:?}")
+    };
+    begins(degrees.position(), "<tp:simple-type name=\"Degrees\"");
+    begins(mode.position(), "<tp:enum name=\"Mode\"");
+    begins(direction.position(), "<tp:struct name=\"Direction\"");
+    let positions: Vec<_> = types.iter().map(|ty| ty.position()).collect();
+    assert_eq!(
+        positions,
+        [degrees.position(), mode.position(), direction.position()]
+    );
+    let parked = mode.values().next().unwrap();
+    begins(parked.position(), "<tp:enumvalue suffix=\"Parked\"");
+    let azimuth = direction.members().next().unwrap();
+    begins(azimuth.position(), "<tp:member name=\"Azimuth\"");
+    let Some(TypeDef::Mapping(readings)) = antenna.telepathy_types().next() else {
+        panic!("no mapping")
+    };
+    begins(readings.position(), "<tp:mapping name=\"Readings\"");
+    begins(readings.key().position(), "<tp:member name=\"Sensor\"");
+}
+
+#[test]
 fn content_is_compared() {
     let document = antenna();
     let text = std::str::from_utf8(ANTENNA).unwrap();
@@ -259,6 +317,7 @@ fn content_is_compared() {
     let other = Document::try_from(moved.as_str()).unwrap();
     assert_eq!(document, other);
     assert_eq!(document.root(), other.root());
+    assert_ne!(document.root().position(), other.root().position());
     assert_eq!(interface(&document), interface(&other));
 
     for (from, to) in [

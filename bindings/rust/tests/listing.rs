@@ -10,6 +10,10 @@ fn the_listing_document() {
     let interface = node.interfaces().next().unwrap();
     let method = interface.methods().next().unwrap();
     assert_eq!((node.row(), interface.row(), method.row()), (0, 1, 2));
+    assert_eq!(
+        (node.position(), interface.position(), method.position()),
+        (0, 6, 28)
+    );
     assert_eq!(node.name(), None);
     assert_eq!(interface.name(), "a.b");
     assert_eq!(method.name(), "M");

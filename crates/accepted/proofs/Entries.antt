@@ -36,9 +36,10 @@ pub record Brief : Type 0 where
   pub value : Option Shown
   pub tp : Option Shown
   pub word : ℕ
+  pub at : ℕ
 
 abbrev pub brief : Row Shown → Brief
-brief r = record { kind = r .kind; parent = r .parent; name = r .name; value = r .value; tp = r .tp; word = r .word }
+brief r = record { kind = r .kind; parent = r .parent; name = r .name; value = r .value; tp = r .tp; word = r .word; at = r .at }
 
 -- its name and value are sound
 abbrev pub Complete : Brief → Type 0
@@ -54,6 +55,7 @@ due k t =
 pub record Entry (k p : ℕ) (t : Tag) (r : Row Shown) : Type 0 where
   pub kind : r .kind ≡ k
   pub parent : r .parent ≡ p
+  pub at : r .at ≡ t .at
   pub doc : r .doc ≡ none
   pub tp : GoodIn (tpUse k) anyText (r .tp)
   pub word : validWord k (r .word) ≡ true
@@ -114,12 +116,12 @@ untyped-full k (some n) ty e = (refl, refl)
 
 module _ (p : ℕ) (t : Tag) where
   -- a row with no tp type, and no word
-  plain : {k : ℕ} (n v : Option Shown) → GoodIn (tpUse k) anyText none → validWord k 0 ≡ true → (due k t ≡ true → Complete (brief (row whole k p n v none 0))) → Entry k p t (row whole k p n v none 0)
-  plain n v a b f = record { kind = refl; parent = refl; doc = refl; tp = a; word = b; full = f }
+  plain : {k : ℕ} (n v : Option Shown) → GoodIn (tpUse k) anyText none → validWord k 0 ≡ true → (due k t ≡ true → Complete (brief (row whole t k p n v none 0))) → Entry k p t (row whole t k p n v none 0)
+  plain n v a b f = record { kind = refl; parent = refl; at = refl; doc = refl; tp = a; word = b; full = f }
 
-  definition-opens : (k : ℕ) → among k kinds ≡ true → among k (1 ∷ 2 ∷ 3 ∷ 4 ∷ 5 ∷ 6 ∷ 7 ∷ 8 ∷ 9 ∷ 10 ∷ 12 ∷ []) ≡ false → Entry k p t (row whole k p (attr (bytes "name") t) none none 0)
+  definition-opens : (k : ℕ) → among k kinds ≡ true → among k (1 ∷ 2 ∷ 3 ∷ 4 ∷ 5 ∷ 6 ∷ 7 ∷ 8 ∷ 9 ∷ 10 ∷ 12 ∷ []) ≡ false → Entry k p t (row whole t k p (attr (bytes "name") t) none none 0)
   definition-opens k e =
-      among-each (λ j. among j (1 ∷ 2 ∷ 3 ∷ 4 ∷ 5 ∷ 6 ∷ 7 ∷ 8 ∷ 9 ∷ 10 ∷ 12 ∷ []) ≡ false → Entry j p t (row whole j p (attr (bytes "name") t) none none 0)) k kinds e (
+      among-each (λ j. among j (1 ∷ 2 ∷ 3 ∷ 4 ∷ 5 ∷ 6 ∷ 7 ∷ 8 ∷ 9 ∷ 10 ∷ 12 ∷ []) ≡ false → Entry j p t (row whole t j p (attr (bytes "name") t) none none 0)) k kinds e (
         no,
         (
           no,
@@ -168,6 +170,7 @@ module _ (p : ℕ) (t : Tag) where
         property = λ c d a h e. record {
           kind = refl;
           parent = refl;
+          at = refl;
           doc = refl;
           tp = may-be anyText (tpType (t .attrs)) (λ s. refl);
           word = access-word a h;
@@ -178,13 +181,14 @@ module _ (p : ℕ) (t : Tag) where
         arg = λ c d e. record {
           kind = refl;
           parent = refl;
+          at = refl;
           doc = refl;
           tp = may-be anyText (tpType (t .attrs)) (λ s. refl);
           word = direction-word d;
           full = λ f. (may-be (validName 7) name (λ s. refl), some-there signature ty c);
         };
         typed = λ k c e.
-            among-each (λ j. Entry j p t (row whole j p name ty none 0)) k (8 ∷ 9 ∷ []) c
+            among-each (λ j. Entry j p t (row whole t j p name ty none 0)) k (8 ∷ 9 ∷ []) c
             (plain name ty refl refl (λ d. typed-full 8 name ty refl d), (plain name ty refl refl (λ d. typed-full 9 name ty refl d), tt));
         enumvalue = λ e. plain (attr (bytes "suffix") t) value refl refl λ d.
             let f = and-both (isThere (attr (bytes "suffix") t)) (isThere value) d in
@@ -192,6 +196,7 @@ module _ (p : ℕ) (t : Tag) where
         member = λ e. record {
           kind = refl;
           parent = refl;
+          at = refl;
           doc = refl;
           tp = may-be anyText (tpType (t .attrs)) (λ s. refl);
           word = refl;

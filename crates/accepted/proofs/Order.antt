@@ -1,25 +1,24 @@
 -- The rows of a state are in order, and those of the open elements stand one in another: every step keeps that. A row more stands in
 -- the innermost open element, after whose row no other has the same parent.
 -- Assumes nothing.
-use Prim.Native.Nat.{ℕ, zero, suc, _+_, _*_, _≤_, _<_}
+use Prim.Native.Nat.{ℕ, suc, _≤_, _<_}
 use mathlib.Core.Path.{_≡_, refl, ap, sym, _∙_}
-use mathlib.Core.List.{List, [], _∷_, _++_, append-assoc}
+use mathlib.Core.List.{List, [], _∷_, _++_}
 use native.Mathlib.Omega.{arith}
-use lib.ListN.{length, take, drop, getD, length-append}
-use lib.Seq.{length-take-le, drop-at, getD-drop}
+use lib.ListN.{length, take, length-append}
+use lib.Seq.{length-take-le}
 use Rattle.utf8.proofs.Sequences.{below}
 use Rattle.document.specs.Kinds.{definitions}
 use Rattle.document.specs.Tags.{Shown}
 use Rattle.document.specs.Tokens.{Tag, Token, start, close, fault, end}
-use Rattle.document.specs.Rows.{Row, Tables, rowText, rowWords, wordsFrom}
+use Rattle.document.specs.Rows.{Row, Tables}
 use Rattle.document.specs.Elements.{among, Opened, opens, refuses, opensAs}
 use Rattle.document.specs.Reading.{Definition, Frame, element, definition, passing, parentOf, notedIn, noted, frameOf}
 use Rattle.document.specs.Outcome.{whole}
 use Rattle.document.proofs.Tests.{either}
 use Rattle.document.proofs.Opens.{any-way}
 use Rattle.document.proofs.Steps.{Begins, Known, Closes, Ways}
-use Rattle.rows.proofs.Words.{length-documented, length-rowWords}
-use Rattle.items.specs.Order.{parentAt}
+use Rattle.rows.proofs.Words.{length-documented}
 use Rattle.accepted.proofs.Tokens.{Comes}
 use Rattle.accepted.proofs.Folding.{run-kept, Accepts}
 use Rattle.accepted.proofs.Entries.{Brief}
@@ -211,8 +210,8 @@ module _ (doc : List ℕ) where
   ways (start t) c = record {
     closes = closes;
     moves = λ fs u h. h;
-    row = λ k r fs u c b e h. row-holds k t r fs (u .rows) b (rw e at (parented k (parentOf fs) t)) h;
-    own-row = λ k r fs u c b e h. row-holds k t r fs (u .rows) b (rw e at (parented k (parentOf fs) t)) h;
+    row = λ k r fs u c b n e h. row-holds k t r fs (u .rows) b (rw e at (parented k (parentOf fs) t)) h;
+    own-row = λ k r fs u c b n e h. row-holds k t r fs (u .rows) b (rw e at (parented k (parentOf fs) t)) h;
     refusal = λ k p x e. tt;
     deep = tt;
     warning = λ fs u c h. h;
@@ -239,20 +238,3 @@ module _ (doc : List ℕ) where
       let h : Holds [] (u .rows) = rw (a .reads) at
       (run-kept doc held ways (λ h. record { nested = record { before = λ k l. absurd (omega arith); ordered = λ i j m k x y z l. absurd (omega arith) }; inside = tt }) (λ u h. h) tt) in
       h .nested
-
--- ---- the words of rows
-
-pub parent-at : (n : ℕ) (rs : List (Row Shown)) (z : List ℕ) (i : ℕ) → i < length rs → parentAt (wordsFrom n rs ++ z) i ≡ parentIn rs i
-unfolding rowWords rowAt
-parent-at n [] z i l = absurd (omega arith)
-parent-at n (r ∷ rs) z zero l = refl
-parent-at n (r ∷ rs) z (suc i) l =
-    let m = n + length (rowText r) in
-    let rest = wordsFrom m rs ++ z in
-    let e : (rowWords n r ++ wordsFrom m rs) ++ z ≡ rowWords n r ++ rest = append-assoc (rowWords n r) (wordsFrom m rs) z in
-    let k : suc i * 16 + 1 ≡ 16 + (i * 16 + 1) = omega arith in
-    ap (λ (j : ℕ). getD (wordsFrom n (r ∷ rs) ++ z) j 0) k
-    ∙ sym (getD-drop 16 (wordsFrom n (r ∷ rs) ++ z) (i * 16 + 1) 0)
-    ∙ ap (λ (l : List ℕ). getD (drop 16 l) (i * 16 + 1) 0) e
-    ∙ ap (λ (l : List ℕ). getD l (i * 16 + 1) 0) (drop-at (rowWords n r) rest 16 (length-rowWords n r))
-    ∙ parent-at m rs z i (omega arith)

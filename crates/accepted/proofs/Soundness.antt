@@ -26,7 +26,7 @@ use Rattle.accepted.proofs.Rows.{rowsFrom, rows-words}
 use Rattle.accepted.proofs.Entries.{GoodIn, Brief, brief, Complete}
 use Rattle.accepted.proofs.Docstrings.{DocIn, DocsIn, raw-formed}
 use Rattle.accepted.proofs.Frames.{Placed, Fine}
-use Rattle.accepted.proofs.States.{rowAt, Holds}
+use Rattle.accepted.proofs.States.{rowAt, AtTag, Holds}
 
 -- ---- places
 
@@ -69,9 +69,9 @@ module _ (doc x : List ℕ) (formed : illFormed doc ≡ length doc) where
   eight a b c d e f g h i j k l m n o p = rw (i, j, k, l, m, n, o, p)
 
   module _ (rows : List RowWords) (f : ℕ → Brief) (kinds : (j : ℕ) → kindAt rows j ≡ f j .kind) where
-    row-sound : (n i : ℕ) (r : Row Shown) → f i ≡ brief r → Fine f i → Complete (f i) → RowHeld doc r → DocIn doc (r .kind) (r .doc) → Within x n (rowText r) → soundRow doc x rows i (wordsOf n r) ≡ true
+    row-sound : (n i : ℕ) (r : Row Shown) → f i ≡ brief r → Fine f i → AtTag doc (f i) → Complete (f i) → RowHeld doc r → DocIn doc (r .kind) (r .doc) → Within x n (rowText r) → soundRow doc x rows i (wordsOf n r) ≡ true
     unfolding soundRow
-    row-sound n i r e a c h d w =
+    row-sound n i r e a o c h d w =
         let k = r .kind in
         let b : Placed (λ j. f j .kind) i k (r .parent) × GoodIn (tpUse k) anyText (r .tp) × (validWord k (r .word) ≡ true) = rw e at a in
         let v : GoodIn (nameUse k) (validName k) (r .name) × GoodIn (valueUse k) (validValue k) (r .value) = rw e at c in
@@ -83,7 +83,7 @@ module _ (doc x : List ℕ) (formed : illFormed doc ≡ length doc) where
         (good-doc k (r .doc) d)
         (doc-source (r .doc))
         (b .2)
-        refl
+        (lt-ltb (r .at) (length doc) ((rw e at o) .inside))
 
   -- ---- all rows
 
@@ -94,7 +94,7 @@ module _ (doc x : List ℕ) (formed : illFormed doc ≡ length doc) where
     none-bad n i [] e a v d w = omega arith
     none-bad n i (r ∷ ss) e a v d w =
         let s : soundRow doc x (rowsFrom 0 rs) i (wordsOf n r) ≡ true =
-        row-sound (rowsFrom 0 rs) (rowAt rs) (kind-at 0 rs) n i r (rw add-zero at (a 0)) (h .fine i (omega arith)) (h .frames i (omega arith)) (v .0) (d .0) (within-first (rowText r) (texts ss) w) in
+        row-sound (rowsFrom 0 rs) (rowAt rs) (kind-at 0 rs) n i r (rw add-zero at (a 0)) (h .fine i (omega arith)) (h .tags i (omega arith)) (h .frames i (omega arith)) (v .0) (d .0) (within-first (rowText r) (texts ss) w) in
         rw s
         (none-bad (n + length (rowText r)) (suc i) ss (omega arith) (λ j. let q : suc i + j ≡ i + suc j = omega arith in rw q (a (suc j))) (v .1) (d .1) (within-more (rowText r) (texts ss) w))
 

@@ -4,25 +4,27 @@ use Prim.Native.Nat.{ℕ, zero, suc, _<_}
 use mathlib.Core.Path.{_≡_, refl, ap, sym, _∙_}
 use mathlib.Core.List.{List, [], _∷_, _++_}
 use mathlib.Core.Option.{none}
-use mathlib.Core.Bool.{true}
+use mathlib.Core.Bool.{true, false}
 use borrow.Author.Tests.{not-true}
 use native.Mathlib.Omega.{arith}
 use lib.Dec.{eqb}
-use lib.ListN.{length, take, getD, length-append, List·getD-append}
+use lib.ListN.{length, take, drop, getD, length-append, List·getD-append}
 use lib.Seq.{length-take-le, getD-take, getD-append-seam}
+use Rattle.slices.specs.Bytes.{span, empty}
+use Rattle.scan.specs.Classes.{nameByte}
 use Rattle.utf8.specs.WellFormed.{illFormed}
 use Rattle.utf8.proofs.Sequences.{below}
 use Rattle.document.specs.Tags.{Shown}
 use Rattle.document.specs.Tokens.{Tag, Token, start, close, fault, end}
 use Rattle.document.specs.Rows.{Doc, Row, Tables, documented}
-use Rattle.document.specs.Elements.{opens, opensAs}
+use Rattle.document.specs.Elements.{kindOf, opens, opensAs}
 use Rattle.document.specs.Reading.{Definition, Purpose, captures, Frame, element, definition, passing, rowOf, parentOf, noted, frameOf}
 use Rattle.document.specs.Outcome.{whole}
 use Rattle.rows.proofs.Words.{length-documented}
 use Rattle.document.proofs.Tests.{never}
 use Rattle.document.proofs.Steps as steps
-use Rattle.document.proofs.Steps.{takesDocs, Begins, Known, Closes, Shuts, Ways}
-use Rattle.accepted.proofs.Tokens.{After, Before, Starts, Comes}
+use Rattle.document.proofs.Steps.{takesDocs, Begins, Named, Known, Closes, Shuts, Ways}
+use Rattle.accepted.proofs.Tokens.{After, Before, Opens, Starts, Comes}
 use Rattle.accepted.proofs.Folding.{run-kept, Accepts}
 use Rattle.accepted.proofs.Entries.{Brief, brief, Entry, start-opens}
 use Rattle.accepted.proofs.Docstrings.{DocsIn, docs-more, docs-first, docs-documented, content-good}
@@ -32,7 +34,7 @@ use Rattle.accepted.proofs.Entering.{begins-kind, placed-new, frames-en
 -- ---- row i of some rows
 
 abbrev pub blank : Row Shown
-blank = record { kind = 0; parent = 0; name = none; value = none; tp = none; doc = none; word = 0 }
+blank = record { kind = 0; parent = 0; name = none; value = none; tp = none; doc = none; word = 0; at = 0 }
 
 unfoldable pub rowAt : List (Row Shown) → ℕ → Brief
 rowAt rs i = brief (getD rs i blank)
@@ -57,11 +59,28 @@ at-documented zero d (r ∷ rs) (suc j) = refl
 at-documented (suc i) d (r ∷ rs) zero = refl
 at-documented (suc i) d (r ∷ rs) (suc j) = at-documented i d rs j
 
+-- the `<` of a row's element stands at the row's place, and the element's name follows it; it is a name of the row's kind, unless
+-- that is the root's
+pub record AtTag (doc : List ℕ) (b : Brief) : Type 0 where
+  pub inside : b .at < length doc
+  pub byte : getD doc (b .at) 0 ≡ 60
+  pub some : empty (span nameByte (drop (suc (b .at)) doc)) ≡ false
+  pub kind : 0 < b .parent → kindOf (span nameByte (drop (suc (b .at)) doc)) ≡ b .kind
+
+named-kind : (t : Tag) (k : ℕ) (fs : List Frame) → Named t k fs → 0 < parentOf fs → kindOf (t .name) ≡ k
+named-kind t k [] n l = absurd (omega arith)
+named-kind t k (f ∷ fs) n l = n
+
+at-tag : (doc : List ℕ) (t : Tag) (k : ℕ) (fs : List Frame) (r : Row Shown) → Opens doc (t .at) (t .name) → Named t k fs → Entry k (parentOf fs) t r → AtTag doc (brief r)
+at-tag doc t k fs r o n e =
+    rw (e .at, e .kind, e .parent) record { inside = o .inside; byte = o .byte; some = rw (o .named) (o .some); kind = λ l. rw (o .named) (named-kind t k fs n l) }
+
 module _ (doc : List ℕ) (formed : illFormed doc ≡ length doc) where
   -- rows while elements are open
   pub record Holds (fs : List Frame) (rs : List (Row Shown)) : Type 0 where
     pub fine : (i : ℕ) → i < length rs → Fine (rowAt rs) i
     pub docs : DocsIn doc rs
+    pub tags : (i : ℕ) → i < length rs → AtTag doc (rowAt rs i)
     pub frames : Frames doc (length rs) (rowAt rs) fs
 
   abbrev held : Known Shown
@@ -69,10 +88,11 @@ module _ (doc : List ℕ) (formed : illFormed doc ≡ length doc) where
 
   -- ---- a row more
 
-  row-holds : (k : ℕ) (t : Tag) (r : Row Shown) (fs : List Frame) (rs : List (Row Shown)) → Begins (length rs) k fs → Entry k (parentOf fs) t r → Holds fs rs → Holds (frameOf k t (length rs) ∷ noted k t fs) (rs ++ r ∷ [])
-  row-holds k t r fs rs b e h = record {
+  row-holds : (k : ℕ) (t : Tag) (r : Row Shown) (fs : List Frame) (rs : List (Row Shown)) → Begins (length rs) k fs → Entry k (parentOf fs) t r → AtTag doc (brief r) → Holds fs rs → Holds (frameOf k t (length rs) ∷ noted k t fs) (rs ++ r ∷ [])
+  row-holds k t r fs rs b e o h = record {
     fine = λ i l. below i n (λ m. fine-agree n f g a i m (h .fine i m)) (λ m. let x : n ≡ i = omega (arith, long) in rw (← x) last-fine);
     docs = docs-more doc rs r (e .doc) (h .docs);
+    tags = λ i l. below i n (λ m. rw (← a i m) (h .tags i m)) (λ m. let x : n ≡ i = omega (arith, long) in rw (← x, z) o);
     frames = rw long (frames-entered doc n f g a k t kind fs b (λ d. rw z (e .full d)) (h .frames));
   }
     where
@@ -109,13 +129,14 @@ module _ (doc : List ℕ) (formed : illFormed doc ≡ length doc) where
       record {
         fine = λ i l. fine-agree (d .row) (rowAt rs) (rowAt (take (d .row) rs)) (at-first (d .row) rs) i (omega (arith, m)) (h .fine i (omega (arith, m, h .frames .0)));
         docs = docs-first doc (d .row) rs (h .docs);
+        tags = λ i l. rw (← at-first (d .row) rs i (omega (arith, m))) (h .tags i (omega (arith, m, h .frames .0)));
         frames = rw m (frames-agree doc (d .row) (rowAt rs) (rowAt (take (d .row) rs)) fs (at-first (d .row) rs) (h .frames .4));
       }
 
   closes : Closes whole doc held held
   closes = record {
-    element = λ k n r fs u h. record { fine = h .fine; docs = h .docs; frames = h .frames .3 };
-    whole = λ d fs u e h. record { fine = h .fine; docs = h .docs; frames = frames-judged doc (length (u .rows)) (rowAt (u .rows)) d fs e (h .frames) };
+    element = λ k n r fs u h. record { fine = h .fine; docs = h .docs; tags = h .tags; frames = h .frames .3 };
+    whole = λ d fs u e h. record { fine = h .fine; docs = h .docs; tags = h .tags; frames = frames-judged doc (length (u .rows)) (rowAt (u .rows)) d fs e (h .frames) };
     broken = λ d fs u h. dropped-holds d fs (u .rows) h;
     root = λ u h. h;
   }
@@ -124,6 +145,7 @@ module _ (doc : List ℕ) (formed : illFormed doc ≡ length doc) where
   documented-holds i d fs rs k h = record {
     fine = λ j l. fine-agree (length rs) (rowAt rs) (rowAt (documented i d rs)) a j (omega (arith, m)) (h .fine j (omega (arith, m)));
     docs = k;
+    tags = λ j l. rw (← at-documented i d rs j) (h .tags j (omega (arith, m)));
     frames = rw m (frames-agree doc (length rs) (rowAt rs) (rowAt (documented i d rs)) fs a (h .frames));
   }
     where
@@ -135,7 +157,7 @@ module _ (doc : List ℕ) (formed : illFormed doc ≡ length doc) where
 
   -- the frames under the innermost
   popped : {p : Purpose} {ns : List (List ℕ)} {fs : List Frame} {rs : List (Row Shown)} → Holds (passing p ns ∷ fs) rs → Holds fs rs
-  popped h = record { fine = h .fine; docs = h .docs; frames = h .frames .1 }
+  popped h = record { fine = h .fine; docs = h .docs; tags = h .tags; frames = h .frames .1 }
 
   shuts : (lt q : ℕ) → Before doc lt → Shuts whole doc held held lt q
   unfolding rowAt
@@ -146,7 +168,7 @@ module _ (doc : List ℕ) (formed : illFormed doc ≡ length doc) where
         documented-holds r _ fs (u .rows)
         (docs-documented doc blank r _ (u .rows) (h .frames .0 .1) (content-good doc formed s lt (h .frames .0 .2) b) (h .docs))
         (popped h);
-    within = λ p n ns fs u h. record { fine = h .fine; docs = h .docs; frames = h .frames };
+    within = λ p n ns fs u h. record { fine = h .fine; docs = h .docs; tags = h .tags; frames = h .frames };
     another = tt;
     none = tt;
   }
@@ -163,18 +185,19 @@ module _ (doc : List ℕ) (formed : illFormed doc ≡ length doc) where
   starts t g = record {
     closes = closes;
     moves = λ fs u h. h;
-    row = λ k r fs u c b e h. row-holds k t r fs (u .rows) b (entry k r fs u b e) h;
-    own-row = λ k r fs u c b e h. row-holds k t r fs (u .rows) b (entry k r fs u b e) h;
+    row = λ k r fs u c b n e h. row-holds k t r fs (u .rows) b (entry k r fs u b e) (at-tag doc t k fs r (g .opens) n (entry k r fs u b e)) h;
+    own-row = λ k r fs u c b n e h. row-holds k t r fs (u .rows) b (entry k r fs u b e) (at-tag doc t k fs r (g .opens) n (entry k r fs u b e)) h;
     refusal = λ k p x e. tt;
     deep = tt;
     warning = λ fs u c h. h;
-    skips = λ fs u h. record { fine = h .fine; docs = h .docs; frames = (tt, h .frames) };
+    skips = λ fs u h. record { fine = h .fine; docs = h .docs; tags = h .tags; frames = (tt, h .frames) };
     docstring = λ f fs u d h. record {
       fine = h .fine;
       docs = h .docs;
+      tags = h .tags;
       frames = (aims (t .after) (g .after) (length (u .rows)) (rowAt (u .rows)) f fs d (h .frames), h .frames);
     };
-    within = λ p ns fs u h. record { fine = h .fine; docs = h .docs; frames = h .frames };
+    within = λ p ns fs u h. record { fine = h .fine; docs = h .docs; tags = h .tags; frames = h .frames };
   }
     where
       entry : (k : ℕ) (r : Row Shown) (fs : List Frame) (u : Tables Shown) → Begins (length (u .rows)) k fs → opensAs whole k (parentOf fs) t ≡ opens r → Entry k (parentOf fs) t r
@@ -191,4 +214,4 @@ module _ (doc : List ℕ) (formed : illFormed doc ≡ length doc) where
   pub accepts-holds : {u : Tables Shown} → Accepts doc u → Holds [] (u .rows)
   accepts-holds a =
       rw (a .reads) at
-      (run-kept doc held ways (λ h. record { fine = λ i l. absurd (omega arith); docs = tt; frames = λ i l. absurd (omega arith) }) (λ u h. h) tt)
+      (run-kept doc held ways (λ h. record { fine = λ i l. absurd (omega arith); docs = tt; tags = λ i l. absurd (omega arith); frames = λ i l. absurd (omega arith) }) (λ u h. h) tt)

@@ -1,8 +1,8 @@
--- What the tokens of a document say of it: the raw values of a start tag stand in the document, between quotes, and show
--- their texts; a start tag ends with `>`, and a closing tag begins with `<`.
+-- What the tokens of a document say of it: a start tag begins with `<` and its name; its raw values stand in the document, between
+-- quotes, and show their texts; it ends with `>`. A closing tag begins with `<`.
 -- Assumes nothing.
 use Prim.Native.Nat.{ℕ, zero, suc, _+_, _-_, _≤_, _<_}
-use mathlib.Core.Path.{_≡_, refl}
+use mathlib.Core.Path.{_≡_, refl, ap, _∙_}
 use mathlib.Core.List.{List, [], _∷_}
 use mathlib.Core.Bool.{Bool, true, false, _||_}
 use borrow.Author.Tests.{eqb-true, not-false}
@@ -53,7 +53,15 @@ abbrev pub AllHeld : List ℕ → List Shown → Type 0
 AllHeld doc [] = Unit {0}
 AllHeld doc (s ∷ ss) = Held doc s × AllHeld doc ss
 
+-- the `<` of a start tag stands at a place, and its name follows
+pub record Opens (doc : List ℕ) (at : ℕ) (n : List ℕ) : Type 0 where
+  pub inside : at < length doc
+  pub byte : getD doc at 0 ≡ 60
+  pub named : span nameByte (drop (suc at) doc) ≡ n
+  pub some : empty n ≡ false
+
 pub record Starts (doc : List ℕ) (t : Tag) : Type 0 where
+  pub opens : Opens doc (t .at) (t .name)
   pub attrs : AllHeld doc (t .attrs)
   pub after : After doc (t .after)
 
@@ -180,36 +188,36 @@ module _ (doc : List ℕ) where
   NextComes (more t q) = Comes doc t
   NextComes (last t) = Comes doc t
 
-  slash-comes : (at : ℕ) (n : List ℕ) (xs : List Shown) (l : List ℕ) (p : ℕ) → AllHeld doc xs → drop (suc p) doc ≡ l → NextComes (slashEnd at n xs l p)
-  slash-comes at n xs [] p h e = tt
-  slash-comes at n xs (b ∷ l) p h e =
+  slash-comes : (at : ℕ) (n : List ℕ) (xs : List Shown) (l : List ℕ) (p : ℕ) → Opens doc at n → AllHeld doc xs → drop (suc p) doc ≡ l → NextComes (slashEnd at n xs l p)
+  slash-comes at n xs [] p o h e = tt
+  slash-comes at n xs (b ∷ l) p o h e =
       either NextComes (eqb b 62)
-      (λ t. record { attrs = h; after = after-byte (suc p) b l e (omega (arith, eqb-true b 62 t)) })
+      (λ t. record { opens = o; attrs = h; after = after-byte (suc p) b l e (omega (arith, eqb-true b 62 t)) })
       (λ t. tt)
 
-  end-comes : (at : ℕ) (n : List ℕ) (xs : List Shown) (l : List ℕ) (p : ℕ) → AllHeld doc xs → drop p doc ≡ l → NextComes (tagEnd at n xs l p)
-  end-comes at n xs [] p h e = tt
-  end-comes at n xs (b ∷ l) p h e =
+  end-comes : (at : ℕ) (n : List ℕ) (xs : List Shown) (l : List ℕ) (p : ℕ) → Opens doc at n → AllHeld doc xs → drop p doc ≡ l → NextComes (tagEnd at n xs l p)
+  end-comes at n xs [] p o h e = tt
+  end-comes at n xs (b ∷ l) p o h e =
       either NextComes (eqb b 62)
-      (λ t. record { attrs = h; after = after-byte p b l e (omega (arith, eqb-true b 62 t)) })
-      (λ t. either NextComes (eqb b 47) (λ t. slash-comes at n xs l p h (next-left doc p b l e)) (λ t. tt))
+      (λ t. record { opens = o; attrs = h; after = after-byte p b l e (omega (arith, eqb-true b 62 t)) })
+      (λ t. either NextComes (eqb b 47) (λ t. slash-comes at n xs l p o h (next-left doc p b l e)) (λ t. tt))
 
-  shown-comes : (at : ℕ) (n : List ℕ) (c : Checked) (l : List ℕ) (p : ℕ) → Checks c → drop p doc ≡ l → NextComes (withShown at n c l p)
-  shown-comes at n (tags.fault k q) l p h e = tt
-  shown-comes at n (good xs) l p h e = end-comes at n xs (past white l) (p + length (span white l)) h (past-left doc white p l e)
+  shown-comes : (at : ℕ) (n : List ℕ) (c : Checked) (l : List ℕ) (p : ℕ) → Opens doc at n → Checks c → drop p doc ≡ l → NextComes (withShown at n c l p)
+  shown-comes at n (tags.fault k q) l p o h e = tt
+  shown-comes at n (good xs) l p o h e = end-comes at n xs (past white l) (p + length (span white l)) o h (past-left doc white p l e)
 
-  attrs-come : (at : ℕ) (n : List ℕ) (g : Gathered) → Gathers g → NextComes (withAttrs at n g)
-  attrs-come at n (gathered xs l p) h = shown-comes at n (check [] xs) l p (check-held [] xs (h .0)) (h .1)
-  attrs-come at n (tooMany p) h = tt
+  attrs-come : (at : ℕ) (n : List ℕ) (g : Gathered) → Opens doc at n → Gathers g → NextComes (withAttrs at n g)
+  attrs-come at n (gathered xs l p) o h = shown-comes at n (check [] xs) l p o (check-held [] xs (h .0)) (h .1)
+  attrs-come at n (tooMany p) o h = tt
 
-  opening-comes : (l : List ℕ) (at : ℕ) → drop (suc at) doc ≡ l → NextComes (opening l at)
+  opening-comes : (l : List ℕ) (at : ℕ) → at < length doc → getD doc at 0 ≡ 60 → drop (suc at) doc ≡ l → NextComes (opening l at)
   unfolding opening
-  opening-comes l at e =
+  opening-comes l at i h e =
       let n = span nameByte l in
       let p = suc at + length n in
       either NextComes (empty n)
       (λ t. tt)
-      (λ t. attrs-come at n (gather 256 (past nameByte l) p) (gather-stands 256 (past nameByte l) p (past-left doc nameByte (suc at) l e)))
+      (λ t. attrs-come at n (gather 256 (past nameByte l) p) (record { inside = i; byte = h; named = ap (span nameByte) e; some = t }) (gather-stands 256 (past nameByte l) p (past-left doc nameByte (suc at) l e)))
 
   close-comes : (at : ℕ) (n l : List ℕ) (p : ℕ) → Before doc at → NextComes (closeEnd at n l p)
   close-comes at n [] p h = tt
@@ -222,10 +230,10 @@ module _ (doc : List ℕ) where
       let m = past nameByte l in
       either NextComes (empty n) (λ t. tt) (λ t. close-comes at n (past white m) (suc (suc at) + length n + length (span white m)) h)
 
-  tag-comes : (l : List ℕ) (at : ℕ) → Before doc at → drop (suc at) doc ≡ l → NextComes (tag l at)
-  tag-comes [] at h e = tt
-  tag-comes (b ∷ l) at h e =
-      either NextComes (eqb b 47) (λ t. closing-comes l at h) (λ t. opening-comes (b ∷ l) at e)
+  tag-comes : (l : List ℕ) (at : ℕ) → at < length doc → getD doc at 0 ≡ 60 → drop (suc at) doc ≡ l → NextComes (tag l at)
+  tag-comes [] at i h e = tt
+  tag-comes (b ∷ l) at i h e =
+      either NextComes (eqb b 47) (λ t. closing-comes l at (record { inside = i; byte = omega arith })) (λ t. opening-comes (b ∷ l) at i h e)
 
   -- what is ignorable ends at a `<`, or at the end
   abbrev Meets : Scan → Type 0
@@ -257,7 +265,7 @@ module _ (doc : List ℕ) where
       ends (b ∷ m) p f s =
           let v = byte-left doc p b m f in
           let w : b ≡ 60 = eqb-true b 60 (not-false (eqb b 60) s) in
-          tag-comes m p (record { inside = v .0; byte = omega (arith, v .1) }) (next-left doc p b m f)
+          tag-comes m p (v .0) (v .1 ∙ w) (next-left doc p b m f)
 
       go : (s : Scan) → Meets s → Scanned at (at + length l) s → NextComes (pastIgnorable s l at)
       go (Fault n p) h w = tt

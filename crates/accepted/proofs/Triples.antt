@@ -64,7 +64,7 @@ wordsOf n r = record {
   tp = tripleOf (n + length (textOf (r .name)) + length (textOf (r .value))) (r .tp);
   doc = docOf (r .doc);
   word = r .word;
-  last = 0;
+  at = r .at;
 }
 
 pub row-words : (n : ℕ) (r : Row Shown) (rest : List ℕ) → rowOf (rowWords n r ++ rest) ≡ wordsOf n r

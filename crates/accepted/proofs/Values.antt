@@ -93,8 +93,8 @@ module _ (doc : List ℕ) where
   ways (start t) g = record {
     closes = closes;
     moves = λ fs u h. h;
-    row = λ k r fs u c b e h. row-held t g k (parentOf fs) r (u .rows) e h;
-    own-row = λ k r fs u c b e h. row-held t g k (parentOf fs) r (u .rows) e h;
+    row = λ k r fs u c b n e h. row-held t g k (parentOf fs) r (u .rows) e h;
+    own-row = λ k r fs u c b n e h. row-held t g k (parentOf fs) r (u .rows) e h;
     refusal = λ k p x e. tt;
     deep = tt;
     warning = λ fs u c h. h;

@@ -138,10 +138,10 @@ module _ (doc : List ℕ) (top : ℕ) where
         record {
           closes = closes (omega (arith, g .long)) (g .within);
           moves = λ fs u h. holds-on q l h;
-          row = λ k r fs u c b e h.
+          row = λ k r fs u c b n e h.
               let o : t .at + length (rowText r) < q = rw e at (start-opens t g k (parentOf fs)) in
               row-holds q k t r (omega (arith, g .long, g .since)) (omega (arith, g .since)) h;
-          own-row = λ k r fs u c b e h.
+          own-row = λ k r fs u c b n e h.
               let o : t .at + length (rowText r) < q = rw e at (start-opens t g k (parentOf fs)) in
               row-holds (q - 1) k t r (omega (arith, g .self c, g .since)) (omega (arith, g .since)) h;
           refusal = λ k p x e. rw e at (start-opens t g k p);

@@ -32,8 +32,8 @@ text-size : (o : Option Shown) → length (textOf (kept whole o)) ≤ size o
 text-size none = omega arith
 text-size (some s) = either (λ (l : List ℕ). length l ≤ length (s .value)) (all plain (s .attr .raw)) (λ t. omega arith) (λ t. omega arith)
 
-row-size : (k p : ℕ) (n v tp : Option Shown) (w : ℕ) → length (rowText (row whole k p n v tp w)) ≤ size n + size v + size tp
-row-size k p n v tp w =
+row-size : (t : Tag) (k p : ℕ) (n v tp : Option Shown) (w : ℕ) → length (rowText (row whole t k p n v tp w)) ≤ size n + size v + size tp
+row-size t k p n v tp w =
     rw (length-append, length-append) (omega (arith, text-size n, text-size v, text-size tp))
 
 -- ---- attributes of different names are different attributes
@@ -84,7 +84,7 @@ module _ {from top : ℕ} (t : Tag) {q : ℕ} (g : Starts from top t q) where
       (λ k w n v tp c.
       omega (
         arith,
-        row-size k p n v tp w,
+        row-size t k p n v tp w,
         g .text,
         three-sizes (c .first) (c .second) (c .apart) (c .first-plain) (c .second-plain) (t .attrs),
         from-size (attr (c .first) t) n (c .name),

@@ -13,13 +13,13 @@ use Rattle.names.specs.Names.{interfaceName, memberName, propertyName}
 use Rattle.names.specs.Signature.{signature}
 use Rattle.document.specs.Tags.{Shown, isTpType, tpType}
 use Rattle.document.specs.Tokens.{Tag}
-use Rattle.document.specs.Elements.{among, accessOf, directionOf, attr, bare, Opened, opens, refuses, row, required, valid, namedRow, propertyRow, annotationRow, directed, argRow, opensAs}
+use Rattle.document.specs.Elements.{among, accessOf, directionOf, attr, bare, Opened, opens, refuses, Keeping, row, required, valid, namedRow, propertyRow, annotationRow, directed, argRow, opensAs}
 use Rattle.document.specs.Reading.{isThere, isSome}
 use Rattle.document.proofs.Tests.{pairwise}
 
-module _ {A B : Type 0} (keep : Shown → A) (seen : Shown → B) (p : ℕ) (t : Tag) (P : ℕ → Opened A → Opened B → Type 0) where
+module _ {A B : Type 0} (keep : Keeping A) (seen : Keeping B) (p : ℕ) (t : Tag) (P : ℕ → Opened A → Opened B → Type 0) where
   abbrev pub OfRow : ℕ → Option Shown → Option Shown → Option Shown → ℕ → Type 0
-  OfRow k n v tp w = P k (opens (row keep k p n v tp w)) (opens (row seen k p n v tp w))
+  OfRow k n v tp w = P k (opens (row keep t k p n v tp w)) (opens (row seen t k p n v tp w))
 
   abbrev pub OfRefusal : ℕ → ℕ → ℕ → Type 0
   OfRefusal k n place = P k (refuses (bare n place)) (refuses (bare n place))
@@ -126,11 +126,11 @@ pub record Chosen (t : Tag) (n v o : Option Shown) : Type 0 where
   pub tp : From (tpType (t .attrs)) o
 
 -- what need be shown of each way, where it does not matter which
-module _ {A B : Type 0} (keep : Shown → A) (seen : Shown → B) (p : ℕ) (t : Tag) (P : Opened A → Opened B → Type 0) where
+module _ {A B : Type 0} (keep : Keeping A) (seen : Keeping B) (p : ℕ) (t : Tag) (P : Opened A → Opened B → Type 0) where
   pub any-way :
       ((n : ℕ) → among n (12 ∷ 13 ∷ 14 ∷ []) ≡ true → P (refuses (bare n (suc (t .at)))) (refuses (bare n (suc (t .at))))) →
       ((n : ℕ) → among n (15 ∷ 16 ∷ []) ≡ true → P (refuses (bare n (t .after))) (refuses (bare n (t .after)))) →
-      ((k w : ℕ) (n v tp : Option Shown) → Chosen t n v tp → P (opens (row keep k p n v tp w)) (opens (row seen k p n v tp w))) →
+      ((k w : ℕ) (n v tp : Option Shown) → Chosen t n v tp → P (opens (row keep t k p n v tp w)) (opens (row seen t k p n v tp w))) →
       (k : ℕ) → P (opensAs keep k p t) (opensAs seen k p t)
   any-way f g h =
       opens-way keep seen p t (λ k. P) (record {
@@ -152,8 +152,8 @@ module _ {A B : Type 0} (keep : Shown → A) (seen : Shown → B) (p : ℕ) (t :
       chosen : {n v tp : Option Shown} (i j : List ℕ) → same i j ≡ false → isTpType i ≡ false → isTpType j ≡ false → From (attr i t) n → From (attr j t) v → From (tpType (t .attrs)) tp → Chosen t n v tp
       chosen i j a b c x y z = record { first = i; second = j; apart = a; first-plain = b; second-plain = c; name = x; value = y; tp = z }
 
-      named : (k : ℕ) → P (opens (row keep k p (attr (bytes "name") t) none none 0)) (opens (row seen k p (attr (bytes "name") t) none none 0))
+      named : (k : ℕ) → P (opens (row keep t k p (attr (bytes "name") t) none none 0)) (opens (row seen t k p (attr (bytes "name") t) none none 0))
       named k = h k 0 _ _ _ (chosen (bytes "name") (bytes "type") refl refl refl (true, refl) (false, refl) (false, refl))
 
-      typed : (k w : ℕ) (b : Bool) → P (opens (row keep k p (attr (bytes "name") t) (attr (bytes "type") t) (if b (tpType (t .attrs)) none) w)) (opens (row seen k p (attr (bytes "name") t) (attr (bytes "type") t) (if b (tpType (t .attrs)) none) w))
+      typed : (k w : ℕ) (b : Bool) → P (opens (row keep t k p (attr (bytes "name") t) (attr (bytes "type") t) (if b (tpType (t .attrs)) none) w)) (opens (row seen t k p (attr (bytes "name") t) (attr (bytes "type") t) (if b (tpType (t .attrs)) none) w))
       typed k w b = h k w _ _ _ (chosen (bytes "name") (bytes "type") refl refl refl (true, refl) (true, refl) (b, refl))

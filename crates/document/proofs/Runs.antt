@@ -8,9 +8,9 @@ use mathlib.Core.List.{List, [], _∷_}
 use lib.ListN.{length, length-drop, drop}
 use lib.Seq.{drop-cons, drop-drop}
 use Rattle.scan.specs.Ignorable.{ignorable}
-use Rattle.document.specs.Tags.{Shown}
 use Rattle.document.specs.Tokens.{Token, end, more, last, next, tokensFrom, tokens}
 use Rattle.document.specs.Rows.{Tables}
+use Rattle.document.specs.Elements.{Keeping}
 use Rattle.document.specs.declared.Refusal.{Refusal}
 use Rattle.document.specs.Reading.{State, refused, accepted, step, fold, run}
 
@@ -22,7 +22,7 @@ taken (suc k) (b ∷ l) at h =
     let e : suc at + k ≡ at + suc k = omega arith in
     rw (← e) (taken k l (suc at) (omega arith))
 
-module _ {A : Type 0} (keep : Shown → A) (doc : List ℕ) (at : ℕ) (s : State A) where
+module _ {A : Type 0} (keep : Keeping A) (doc : List ℕ) (at : ℕ) (s : State A) where
   pub run-more : (t : Token) (q : ℕ) → next (drop at doc) at ≡ more t q → at < q → q ≤ length doc → run keep doc at s ≡ run keep doc q (step keep doc s t)
   unfolding run tokens
   run-more t q e m b =
@@ -44,7 +44,7 @@ module _ {A : Type 0} (keep : Shown → A) (doc : List ℕ) (at : ℕ) (s : Stat
       go [] e = let z : last (end at) ≡ last t = sym (next-nothing at) ∙ e in let y : end at ≡ t = cc in rw y
       go (b ∷ l) e = rw e
 
-module _ {A : Type 0} (keep : Shown → A) (doc : List ℕ) where
+module _ {A : Type 0} (keep : Keeping A) (doc : List ℕ) where
   stays-refused : (x : Refusal) (ts : List Token) → fold keep doc (refused x) ts ≡ refused x
   unfolding step
   stays-refused x [] = refl

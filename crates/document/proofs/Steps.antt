@@ -10,10 +10,9 @@ use lib.Dec.{eqb, leb, ltb}
 use lib.ListN.{length, take, drop}
 use Rattle.slices.specs.Bytes.{same}
 use Rattle.utf8.specs.WhiteSpace.{trimStart, trimEnd}
-use Rattle.document.specs.Tags.{Shown}
 use Rattle.document.specs.Tokens.{Tag, Token, start, close, fault, end}
 use Rattle.document.specs.Rows.{Row, Tables, documented}
-use Rattle.document.specs.Elements.{kindOf, mayHold, among, bare, Opened, opens, refuses, opensAs}
+use Rattle.document.specs.Elements.{kindOf, mayHold, among, bare, Opened, opens, refuses, Keeping, opensAs}
 use Rattle.document.specs.Reading.{Definition, Purpose, ignored, captures, Frame, element, definition, passing, State, begun, reading, accepted, refused, nameOf, rowOf, parentOf, reasonOf, noted, frameOf, withRow, withWarning, closed, dropped, judged, passed, shut, tooDeep, opened, begins, unsupported, docstringIn, child, started, turn, step}
 use Rattle.document.specs.declared.Refusal.{Refusal}
 use Rattle.document.proofs.Tests.{either}
@@ -34,6 +33,11 @@ abbrev pub Begins : ℕ → ℕ → List Frame → Type 0
 Begins n k [] = (n ≡ 0) × (k ≡ 1)
 Begins n k (f ∷ fs) = mayHold (kindIn f) k ≡ true
 
+-- its kind is that of its name, unless it is the root
+abbrev pub Named : Tag → ℕ → List Frame → Type 0
+Named t k [] = Unit {0}
+Named t k (f ∷ fs) = kindOf (t .name) ≡ k
+
 -- what is known: before the root, while elements are open, after the root, after a refusal
 pub record Known (A : Type 0) : Type 1 where
   pub first : Type 0
@@ -47,7 +51,7 @@ Kept i (reading fs u) = i .inside fs u
 Kept i (accepted u) = i .done u
 Kept i (refused x) = i .fault x
 
-module _ {A : Type 0} (keep : Shown → A) (doc : List ℕ) where
+module _ {A : Type 0} (keep : Keeping A) (doc : List ℕ) where
   -- the innermost element is closed: an element, a definition that is kept, one that is dropped; and if it was the root
   pub record Closes (i j : Known A) : Type 0 where
     pub element : (k : ℕ) (n : List ℕ) (r : ℕ) (fs : List Frame) (u : Tables A) → i .inside (element k n r ∷ fs) u → j .inside fs u
@@ -77,6 +81,7 @@ module _ {A : Type 0} (keep : Shown → A) (doc : List ℕ) where
         (k : ℕ) (r : Row A) (fs : List Frame) (u : Tables A) →
         t .self ≡ false →
         Begins (length (u .rows)) k fs →
+        Named t k fs →
         opensAs keep k (parentOf fs) t ≡ opens r →
         i .inside fs u →
         j .inside (frameOf k t (length (u .rows)) ∷ noted k t fs) (withRow r u)
@@ -84,6 +89,7 @@ module _ {A : Type 0} (keep : Shown → A) (doc : List ℕ) where
         (k : ℕ) (r : Row A) (fs : List Frame) (u : Tables A) →
         t .self ≡ true →
         Begins (length (u .rows)) k fs →
+        Named t k fs →
         opensAs keep k (parentOf fs) t ≡ opens r →
         i .inside fs u →
         m .inside (frameOf k t (length (u .rows)) ∷ noted k t fs) (withRow r u)
@@ -144,15 +150,15 @@ module _ {A : Type 0} (keep : Shown → A) (doc : List ℕ) where
   -- ---- start tags
 
   module _ {i m j : Known A} {t : Tag} (s : Starts i m j t) where
-    begins-kept : (k : ℕ) (fs : List Frame) (u : Tables A) → Begins (length (u .rows)) k fs → i .inside fs u → Kept j (begins keep doc k t fs u)
+    begins-kept : (k : ℕ) (fs : List Frame) (u : Tables A) → Begins (length (u .rows)) k fs → Named t k fs → i .inside fs u → Kept j (begins keep doc k t fs u)
     unfolding begins
-    begins-kept k fs u b h = go (opensAs keep k (parentOf fs) t) refl
+    begins-kept k fs u b n h = go (opensAs keep k (parentOf fs) t) refl
       where
         go : (o : Opened A) → opensAs keep k (parentOf fs) t ≡ o → Kept j (opened keep doc k t o fs u)
         go (opens r) e =
             either (Kept j) (t .self)
-            (λ c. own-kept (s .closes) k t (length (u .rows)) (noted k t fs) (withRow r u) (s .own-row k r fs u c b e h))
-            (λ c. either (Kept j) (tooDeep keep doc k fs) (λ d. s .deep) (λ d. s .row k r fs u c b e h))
+            (λ c. own-kept (s .closes) k t (length (u .rows)) (noted k t fs) (withRow r u) (s .own-row k r fs u c b n e h))
+            (λ c. either (Kept j) (tooDeep keep doc k fs) (λ d. s .deep) (λ d. s .row k r fs u c b n e h))
         go (refuses x) e = s .refusal k (parentOf fs) x e
 
     unsupported-kept : (fs : List Frame) (u : Tables A) → i .inside fs u → Kept j (unsupported keep doc t fs u)
@@ -169,7 +175,7 @@ module _ {A : Type 0} (keep : Shown → A) (doc : List ℕ) where
         let c = kindOf (t .name) in
         either (Kept j) (eqb c 14 && not (eqb (kindIn f) 6))
         (λ e. docstring-kept f fs u (d (second (eqb c 14) (not (eqb (kindIn f) 6)) e)) h)
-        (λ e. either (Kept j) (mayHold (kindIn f) c) (λ b. begins-kept c (f ∷ fs) u b h) (λ b. unsupported-kept (f ∷ fs) u h))
+        (λ e. either (Kept j) (mayHold (kindIn f) c) (λ b. begins-kept c (f ∷ fs) u b refl h) (λ b. unsupported-kept (f ∷ fs) u h))
       where
         second : (x y : Bool) → (x && y) ≡ true → y ≡ true
         second true y e = e
@@ -195,7 +201,7 @@ module _ {A : Type 0} (keep : Shown → A) (doc : List ℕ) where
 
     pub step-kept : (s : State A) (t : Token) → Steps i m j t → Kept i s → Kept j (step keep doc s t)
     unfolding step
-    step-kept begun (start t) k h = begins-kept (k .ways) 1 [] (record { rows = []; warnings = [] }) (refl, refl) (k .empty h)
+    step-kept begun (start t) k h = begins-kept (k .ways) 1 [] (record { rows = []; warnings = [] }) (refl, refl) tt (k .empty h)
     step-kept begun (close lt n q) k h = k .ways .none
     step-kept begun (fault n p) k h = k .ways
     step-kept begun (end p) k h = k .ways .0

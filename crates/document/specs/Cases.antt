@@ -65,7 +65,7 @@ cases =
     ∷ (document (bytes "<node><docstring> a </docstring><docstring/></node>"), tables (1 ∷ replicate 10 0 ++ (1 ∷ 18 ∷ 1 ∷ 0 ∷ 0 ∷ [])) [] [])
     ∷ (
       document (bytes "<node><interface name=\"a.b\"><method name=\"M\"/><x/></interface></node>"),
-      tables (node ++ (2 ∷ 1 ∷ 1 ∷ 23 ∷ 3 ∷ replicate 11 0) ++ (3 ∷ 2 ∷ 1 ∷ 42 ∷ 1 ∷ replicate 11 0)) [] (1 ∷ 46 ∷ 47 ∷ 1 ∷ []),
+      tables (node ++ (2 ∷ 1 ∷ 1 ∷ 23 ∷ 3 ∷ replicate 10 0) ++ (6 ∷ []) ++ (3 ∷ 2 ∷ 1 ∷ 42 ∷ 1 ∷ replicate 10 0) ++ (28 ∷ [])) [] (1 ∷ 46 ∷ 47 ∷ 1 ∷ []),
     )
     ∷ []
 

@@ -82,14 +82,23 @@ pub data Opened (A : Type 0) : Type 0 where
   opens : Row A → Opened A
   refuses : Refusal → Opened A
 
--- where of an attribute is kept what `keep` says; p is the parent's row plus one
-module _ {A : Type 0} (keep : Shown → A) where
+-- what a row keeps of an attribute and of the place of its element
+pub record Keeping (A : Type 0) : Type 0 where
+  pub attribute : Shown → A
+  pub place : ℕ → ℕ
+
+-- the reader keeps all
+abbrev pub whole : Keeping Shown
+whole = record { attribute = λ s. s; place = λ p. p }
+
+-- a row keeps what `keep` says; p is the parent's row plus one
+module _ {A : Type 0} (keep : Keeping A) where
   abbrev pub kept : Option Shown → Option A
   kept none = none
-  kept (some s) = some (keep s)
+  kept (some s) = some (keep .attribute s)
 
-  abbrev pub row : ℕ → ℕ → Option Shown → Option Shown → Option Shown → ℕ → Row A
-  row k p n v tp w = record { kind = k; parent = p; name = kept n; value = kept v; tp = kept tp; doc = none; word = w }
+  abbrev pub row : Tag → ℕ → ℕ → Option Shown → Option Shown → Option Shown → ℕ → Row A
+  row t k p n v tp w = record { kind = k; parent = p; name = kept n; value = kept v; tp = kept tp; doc = none; word = w; at = keep .place (t .at) }
 
   -- 12 at the element name if the attribute is missing
   abbrev pub required : Option Shown → Tag → (Shown → Opened A) → Opened A
@@ -102,7 +111,7 @@ module _ {A : Type 0} (keep : Shown → A) where
   -- interface, method, signal: name there, name good (13 at the element name)
   abbrev pub namedRow : (List ℕ → Bool) → ℕ → ℕ → Tag → Opened A
   namedRow good k p t =
-      required (attr (bytes "name") t) t λ n. valid (good (n .value)) 13 (suc (t .at)) (opens (row k p (some n) none none 0))
+      required (attr (bytes "name") t) t λ n. valid (good (n .value)) 13 (suc (t .at)) (opens (row t k p (some n) none none 0))
 
   -- the same, then type there, signature good (14), access there, access good (15 after the tag)
   abbrev pub propertyRow : ℕ → Tag → Opened A
@@ -113,12 +122,12 @@ module _ {A : Type 0} (keep : Shown → A) where
       valid (signature (s .value)) 14 (suc (t .at))
       (required (attr (bytes "access") t) t λ a.
       valid (not (eqb (accessOf (a .value)) 0)) 15 (t .after)
-      (opens (row kinds.property p (some n) (some s) (tpType (t .attrs)) (accessOf (a .value))))))
+      (opens (row t kinds.property p (some n) (some s) (tpType (t .attrs)) (accessOf (a .value))))))
 
   -- name, value
   abbrev pub annotationRow : ℕ → Tag → Opened A
   annotationRow p t =
-      required (attr (bytes "name") t) t λ n. required (attr (bytes "value") t) t λ v. opens (row kinds.annotation p (some n) (some v) none 0)
+      required (attr (bytes "name") t) t λ n. required (attr (bytes "value") t) t λ v. opens (row t kinds.annotation p (some n) (some v) none 0)
 
   -- a direction that is there is `in` or `out` (16 after the tag)
   abbrev pub directed : Option Shown → Tag → (ℕ → Opened A) → Opened A
@@ -130,20 +139,20 @@ module _ {A : Type 0} (keep : Shown → A) where
   argRow p t =
       required (attr (bytes "type") t) t λ s.
       valid (signature (s .value)) 14 (suc (t .at))
-      (directed (attr (bytes "direction") t) t λ d. opens (row kinds.arg p (attr (bytes "name") t) (some s) (tpType (t .attrs)) d))
+      (directed (attr (bytes "direction") t) t λ d. opens (row t kinds.arg p (attr (bytes "name") t) (some s) (tpType (t .attrs)) d))
 
   -- the row of an element of kind k
   unfoldable pub opensAs : ℕ → ℕ → Tag → Opened A
   opensAs k p t =
       let n = attr (bytes "name") t in
-      if (eqb k kinds.node) (opens (row kinds.node p n none none 0))
+      if (eqb k kinds.node) (opens (row t kinds.node p n none none 0))
       (if (eqb k kinds.interface) (namedRow interfaceName kinds.interface p t)
       (if (eqb k kinds.method) (namedRow memberName kinds.method p t)
       (if (eqb k kinds.property) (propertyRow p t)
       (if (eqb k kinds.signal) (namedRow memberName kinds.signal p t)
       (if (eqb k kinds.annotation) (annotationRow p t)
       (if (eqb k kinds.arg) (argRow p t)
-      (if (among k kinds.typed) (opens (row k p n (attr (bytes "type") t) none 0))
-      (if (eqb k kinds.enumvalue) (opens (row kinds.enumvalue p (attr (bytes "suffix") t) (attr (bytes "value") t) none 0))
-      (if (eqb k kinds.member) (opens (row kinds.member p n (attr (bytes "type") t) (tpType (t .attrs)) 0))
-      (opens (row k p n none none 0)))))))))))
+      (if (among k kinds.typed) (opens (row t k p n (attr (bytes "type") t) none 0))
+      (if (eqb k kinds.enumvalue) (opens (row t kinds.enumvalue p (attr (bytes "suffix") t) (attr (bytes "value") t) none 0))
+      (if (eqb k kinds.member) (opens (row t kinds.member p n (attr (bytes "type") t) (tpType (t .attrs)) 0))
+      (opens (row t k p n none none 0)))))))))))

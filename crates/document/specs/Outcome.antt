@@ -17,6 +17,7 @@ use Rattle.document.specs.Tags.{Shown, lookup, tpType}
 use Rattle.document.specs.Tokens.{Tag, start, close, fault, end, more, last, next}
 use Rattle.document.specs.Rows.{Row, Warning, Tables, wordsFrom, texts, warned}
 use Rattle.document.specs.Elements.{kindOf, among, heldBy, opens, refuses, opensAs}
+pub use Rattle.document.specs.Elements.{whole}
 use Rattle.document.specs.Reading as reading
 use Rattle.document.specs.Reading.{Purpose, Frame, element, State, refused, nameOf, parentOf, closed, withRow, shut, started, child, noted, begins, unsupported, docstringIn, passing, run}
 use Rattle.document.specs.declared.Value.{Value}
@@ -27,10 +28,6 @@ use Rattle.document.specs.declared.Answer.{Answer}
 use Rattle.document.specs.declared.Token.{Token}
 use Rattle.document.specs.declared.Next.{Next}
 use Rattle.document.specs.declared.Passed.{Passed}
-
--- the reader keeps all of an attribute
-abbrev pub whole : Shown → Shown
-whole s = s
 
 abbrev pub runs : List ℕ → ℕ → State Shown → State Shown
 runs doc at s = run whole doc at s

@@ -13,7 +13,7 @@ use Rattle.document.specs.Kinds as kinds
 use Rattle.document.specs.Tags.{Shown}
 use Rattle.document.specs.Tokens.{Tag, Token, start, close, fault, end, tokens}
 use Rattle.document.specs.Rows.{Doc, Row, Warning, Tables, documented}
-use Rattle.document.specs.Elements.{kindOf, mayHold, among, someSignature, attr, bare, Opened, opens, refuses, opensAs}
+use Rattle.document.specs.Elements.{kindOf, mayHold, among, someSignature, attr, bare, Opened, opens, refuses, Keeping, opensAs}
 use Rattle.document.specs.declared.Refusal.{Refusal}
 
 -- what was seen of a definition's enumvalues or members: how many, whether one is incomplete, whether the first one's type is basic
@@ -178,8 +178,8 @@ module _ {A : Type 0} where
   shut doc (definition d) fs t lt = closed fs (judged d t)
   shut doc (passing p ns) fs t lt = innerClosed ns (closed fs (passed doc p lt t)) (λ ms. reading (passing p ms ∷ fs) t)
 
--- reading, where of an attribute is kept what `keep` says
-module _ {A : Type 0} (keep : Shown → A) (doc : List ℕ) where
+-- reading, where rows keep what `keep` says
+module _ {A : Type 0} (keep : Keeping A) (doc : List ℕ) where
   -- 1,024 nodes may be open; the root is the first
   abbrev pub tooDeep : ℕ → List Frame → Bool
   tooDeep k fs = eqb k kinds.node && leb 1024 (length fs)

@@ -13,7 +13,7 @@ pub record Doc : Type 0 where
   pub start : ℕ
   pub len : ℕ
 
--- kind (word 0), parent's row plus one, name (suffix), value or signature, tp type, docstring, word 14
+-- kind (word 0), parent's row plus one, name (suffix), value or signature, tp type, docstring, word 14, place of `<` (word 15)
 -- A is what a row keeps of an attribute: all of it, or the text that its value shows
 pub record Row (A : Type 0) : Type 0 where
   pub kind : ℕ
@@ -23,6 +23,7 @@ pub record Row (A : Type 0) : Type 0 where
   pub tp : Option A
   pub doc : Option Doc
   pub word : ℕ
+  pub at : ℕ
 
 -- reason, place of `<`, element name
 pub record Warning : Type 0 where
@@ -36,7 +37,7 @@ pub record Tables (A : Type 0) : Type 0 where
 
 module _ {A : Type 0} where
   abbrev pub withDoc : Doc → Row A → Row A
-  withDoc d r = record { kind = r .kind; parent = r .parent; name = r .name; value = r .value; tp = r .tp; doc = some d; word = r .word }
+  withDoc d r = record { kind = r .kind; parent = r .parent; name = r .name; value = r .value; tp = r .tp; doc = some d; word = r .word; at = r .at }
 
   -- a docstring for row i
   abbrev pub documented : ℕ → Doc → List (Row A) → List (Row A)
@@ -69,7 +70,7 @@ rowWords n r =
     ++ triple (n + length (textOf (r .name))) (r .value)
     ++ triple (n + length (textOf (r .name)) + length (textOf (r .value))) (r .tp)
     ++ docTriple (r .doc)
-    ++ (r .word ∷ 0 ∷ [])
+    ++ (r .word ∷ r .at ∷ [])
 
 -- the words of rows before which n bytes of text stand, and their text
 abbrev pub wordsFrom : ℕ → List (Row Shown) → List ℕ

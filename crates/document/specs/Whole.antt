@@ -10,7 +10,7 @@ use Rattle.slices.specs.Bytes.{if}
 use Rattle.utf8.specs.WellFormed.{illFormed}
 use Rattle.document.specs.Tags.{Shown}
 use Rattle.document.specs.Rows.{Tables, wordsFrom, texts, warned}
-use Rattle.document.specs.Elements.{bare}
+use Rattle.document.specs.Elements.{bare, whole}
 use Rattle.document.specs.Reading.{State, begun, reading, accepted, refused, run}
 use Rattle.document.specs.declared.Verdict.{Verdict}
 use Rattle.document.specs.declared.Verdict.the-variants.{Refused, Accepted}
@@ -24,7 +24,7 @@ pub record Room : Type 0 where
 -- order: 2, 1, the first fault met while reading, 18 last
 unfoldable pub meaning : List ℕ → State Shown
 meaning doc =
-    let r = run (λ s. s) doc 0 begun in
+    let r = run whole doc 0 begun in
     let u = if (ltb (illFormed doc) (length doc)) (refused (bare 1 (illFormed doc))) r in
     if (ltb 1048576 (length doc)) (refused (bare 2 1048576)) u
 

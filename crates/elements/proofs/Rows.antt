@@ -43,20 +43,22 @@ kept-is doc v none h = h
 kept-is doc v (some s) h = h
 
 module _ {doc : List ℕ} {c : StartTag} {f : Fill} {h : Head} {name second tp : Value} (r : Ready doc c f) (a : ValueFits (c .at) (c .end) name) (b : ValueFits (c .at) (c .end) second) (d : ValueFits (c .at) (c .end) tp) where
-  pub row-fits : h .parent ≤ 1048576 → RowFits doc h name second tp f
-  row-fits p = record {
+  pub row-fits : h .parent ≤ 1048576 → h .at ≡ c .at → RowFits doc h name second tp f
+  row-fits p l = record {
     small = r .sound .small;
     named = omega (arith, a .until, r .fits .within);
     valued = omega (arith, b .until, r .fits .within);
     typed = omega (arith, d .until, r .fits .within);
     parent = p;
+    after = omega (arith, r .few);
+    place = omega (arith, r .sound .small, r .fits .inside, r .fits .within);
     rows = omega (arith, r .few, r .sound .small, r .fits .inside, r .fits .within);
     text = omega (arith, r .text, r .sound .small, r .fits .inside, r .fits .within);
   }
 
   -- a row that fits the tag's element
-  opened : {k p : ℕ} {rows rows′ text text′ : List ℕ} {g : Fill} → RowPut doc h name second tp f rows rows′ text text′ g → h .kind ≡ k → h .parent ≡ p → ((t : Tag) → TagIs doc c t → (n v y : Option Shown) × (opensAs whole k p t ≡ opens (row whole k p n v y (h .word))) × ValueIs doc name n × ValueIs doc second v × ValueIs doc tp y) → Opening doc k c p f rows rows′ text text′ (Answer.Done g)
-  opened {k} {p} {g = g} q e o i = record {
+  opened : {k p : ℕ} {rows rows′ text text′ : List ℕ} {g : Fill} → RowPut doc h name second tp f rows rows′ text text′ g → h .kind ≡ k → h .parent ≡ p → h .at ≡ c .at → ((t : Tag) → TagIs doc c t → (n v y : Option Shown) × (opensAs whole k p t ≡ opens (row whole t k p n v y (h .word))) × ValueIs doc name n × ValueIs doc second v × ValueIs doc tp y) → Opening doc k c p f rows rows′ text text′ (Answer.Done g)
+  opened {k} {p} {g = g} q e o l i = record {
     at = r .at;
     onward = (
       q .at,
@@ -68,7 +70,7 @@ module _ {doc : List ℕ} {c : StartTag} {f : Fill} {h : Head} {name second tp :
         text = omega (arith, q .at, r .at, q .most, r .text, a .short, b .short, d .short, r .fits .inside);
       },
     );
-    is = λ t z. let j = i t z in (row whole k p (j .0) (j .1) (j .2) (h .word), j .3, λ u w s. q .stands (row whole k p (j .0) (j .1) (j .2) (h .word)) u w (sym e) (sym o) refl refl (kept-is doc name (j .0) (j .4)) (kept-is doc second (j .1) (j .5)) (kept-is doc tp (j .2) (j .6)) s);
+    is = λ t z. let j = i t z in (row whole t k p (j .0) (j .1) (j .2) (h .word), j .3, λ u w s. q .stands (row whole t k p (j .0) (j .1) (j .2) (h .word)) u w (sym e) (sym o) refl (l ∙ z .at) refl (kept-is doc name (j .0) (j .4)) (kept-is doc second (j .1) (j .5)) (kept-is doc tp (j .2) (j .6)) s);
   }
 
 -- the tag's first fault
@@ -114,50 +116,50 @@ there doc key t {v} h e = value-there doc v (attr key t) h e
 module _ {doc : List ℕ} {c : StartTag} {f : Fill} (r : Ready doc c f) {p : ℕ} {rows rows′ text text′ : List ℕ} {g : Fill} where
   -- kinds whose attributes may be missing
   module _ {x y : Value} (a : Absent x) (b : Absent y) where
-    pub node-done : RowPut doc (record { kind = kinds.node; parent = p; word = 0 }) (c .values .name) x y f rows rows′ text text′ g → Opening doc kinds.node c p f rows rows′ text text′ (Answer.Done g)
+    pub node-done : RowPut doc (record { kind = kinds.node; parent = p; word = 0; at = c .at }) (c .values .name) x y f rows rows′ text text′ g → Opening doc kinds.node c p f rows rows′ text text′ (Answer.Done g)
     unfolding opensAs
     node-done q =
-        opened r (r .fits .values .name) (absent-fits r a) (absent-fits r b) q refl refl
+        opened r (r .fits .values .name) (absent-fits r a) (absent-fits r b) q refl refl refl
         (λ t z. (attr (bytes "name") t, none, none, refl, z .values .name, a .kind, b .kind))
 
-    pub untyped-done : {k : ℕ} → UntypedKind k → RowPut doc (record { kind = k; parent = p; word = 0 }) (c .values .name) x y f rows rows′ text text′ g → Opening doc k c p f rows rows′ text text′ (Answer.Done g)
+    pub untyped-done : {k : ℕ} → UntypedKind k → RowPut doc (record { kind = k; parent = p; word = 0; at = c .at }) (c .values .name) x y f rows rows′ text text′ g → Opening doc k c p f rows rows′ text text′ (Answer.Done g)
     untyped-done i q =
-        opened r (r .fits .values .name) (absent-fits r a) (absent-fits r b) q refl refl
+        opened r (r .fits .values .name) (absent-fits r a) (absent-fits r b) q refl refl refl
         (λ t z. (attr (bytes "name") t, none, none, i .is p t, z .values .name, a .kind, b .kind))
 
     -- a name that is there and good
-    pub named-done : {k : ℕ} {good : List ℕ → Bool} {ok : Bool} → NamedKind good k → (c .values .name .kind ≡ 0 → ⊥) → Tests good doc (c .values .name) ok → ok ≡ true → RowPut doc (record { kind = k; parent = p; word = 0 }) (c .values .name) x y f rows rows′ text text′ g → Opening doc k c p f rows rows′ text text′ (Answer.Done g)
+    pub named-done : {k : ℕ} {good : List ℕ → Bool} {ok : Bool} → NamedKind good k → (c .values .name .kind ≡ 0 → ⊥) → Tests good doc (c .values .name) ok → ok ≡ true → RowPut doc (record { kind = k; parent = p; word = 0; at = c .at }) (c .values .name) x y f rows rows′ text text′ g → Opening doc k c p f rows rows′ text text′ (Answer.Done g)
     named-done i n o e q =
-        opened r (r .fits .values .name) (absent-fits r a) (absent-fits r b) q refl refl
+        opened r (r .fits .values .name) (absent-fits r a) (absent-fits r b) q refl refl refl
         (λ t z.
         let s = there doc (bytes "name") t (z .values .name) n in
         (some (s .0), none, none, i .is p t ∙ rw (s .1, sym (o .is (s .0) (s .2)) ∙ e), s .2, a .kind, b .kind))
 
   module _ {x : Value} (a : Absent x) where
-    pub typed-done : {k : ℕ} → TypedKind k → RowPut doc (record { kind = k; parent = p; word = 0 }) (c .values .name) (c .values .ty) x f rows rows′ text text′ g → Opening doc k c p f rows rows′ text text′ (Answer.Done g)
+    pub typed-done : {k : ℕ} → TypedKind k → RowPut doc (record { kind = k; parent = p; word = 0; at = c .at }) (c .values .name) (c .values .ty) x f rows rows′ text text′ g → Opening doc k c p f rows rows′ text text′ (Answer.Done g)
     typed-done i q =
-        opened r (r .fits .values .name) (r .fits .values .ty) (absent-fits r a) q refl refl
+        opened r (r .fits .values .name) (r .fits .values .ty) (absent-fits r a) q refl refl refl
         (λ t z. (attr (bytes "name") t, attr (bytes "type") t, none, i .is p t, z .values .name, z .values .ty, a .kind))
 
-    pub enumvalue-done : RowPut doc (record { kind = kinds.enumvalue; parent = p; word = 0 }) (c .values .suffix) (c .values .value) x f rows rows′ text text′ g → Opening doc kinds.enumvalue c p f rows rows′ text text′ (Answer.Done g)
+    pub enumvalue-done : RowPut doc (record { kind = kinds.enumvalue; parent = p; word = 0; at = c .at }) (c .values .suffix) (c .values .value) x f rows rows′ text text′ g → Opening doc kinds.enumvalue c p f rows rows′ text text′ (Answer.Done g)
     unfolding opensAs
     enumvalue-done q =
-        opened r (r .fits .values .suffix) (r .fits .values .value) (absent-fits r a) q refl refl
+        opened r (r .fits .values .suffix) (r .fits .values .value) (absent-fits r a) q refl refl refl
         (λ t z. (attr (bytes "suffix") t, attr (bytes "value") t, none, refl, z .values .suffix, z .values .value, a .kind))
 
-    pub annotation-done : (c .values .name .kind ≡ 0 → ⊥) → (c .values .value .kind ≡ 0 → ⊥) → RowPut doc (record { kind = kinds.annotation; parent = p; word = 0 }) (c .values .name) (c .values .value) x f rows rows′ text text′ g → Opening doc kinds.annotation c p f rows rows′ text text′ (Answer.Done g)
+    pub annotation-done : (c .values .name .kind ≡ 0 → ⊥) → (c .values .value .kind ≡ 0 → ⊥) → RowPut doc (record { kind = kinds.annotation; parent = p; word = 0; at = c .at }) (c .values .name) (c .values .value) x f rows rows′ text text′ g → Opening doc kinds.annotation c p f rows rows′ text text′ (Answer.Done g)
     unfolding opensAs
     annotation-done n v q =
-        opened r (r .fits .values .name) (r .fits .values .value) (absent-fits r a) q refl refl
+        opened r (r .fits .values .name) (r .fits .values .value) (absent-fits r a) q refl refl refl
         (λ t z.
         let s = there doc (bytes "name") t (z .values .name) n in
         let w = there doc (bytes "value") t (z .values .value) v in
         (some (s .0), some (w .0), none, rw (s .1, w .1), s .2, w .2, a .kind))
 
-  pub member-done : RowPut doc (record { kind = kinds.member; parent = p; word = 0 }) (c .values .name) (c .values .ty) (c .values .tp) f rows rows′ text text′ g → Opening doc kinds.member c p f rows rows′ text text′ (Answer.Done g)
+  pub member-done : RowPut doc (record { kind = kinds.member; parent = p; word = 0; at = c .at }) (c .values .name) (c .values .ty) (c .values .tp) f rows rows′ text text′ g → Opening doc kinds.member c p f rows rows′ text text′ (Answer.Done g)
   unfolding opensAs
   member-done q =
-      opened r (r .fits .values .name) (r .fits .values .ty) (r .fits .values .tp) q refl refl
+      opened r (r .fits .values .name) (r .fits .values .ty) (r .fits .values .tp) q refl refl refl
       (λ t z. (attr (bytes "name") t, attr (bytes "type") t, tpType (t .attrs), refl, z .values .name, z .values .ty, z .values .tp))
 
 -- faults, at the element name
@@ -268,10 +270,10 @@ module _ {doc : List ℕ} {c : StartTag} {f : Fill} (r : Ready doc c f) {p : ℕ
               rw (s .1, s .3, w .1, sym (j .is (w .0) (w .2)) ∙ not-false y x, v .1, ← v .2, ← l .is (attr (bytes "access") t) (z .values .access), e)
               (ap (λ q. refuses (bare 15 q)) (sym (z .end))))
 
-          pub property-done : {rows rows′ text text′ : List ℕ} {g : Fill} → (word ≡ 4 → ⊥) → (word ≡ 0 → ⊥) → RowPut doc (record { kind = kinds.property; parent = p; word = word }) (c .values .name) (c .values .ty) (c .values .tp) f rows rows′ text text′ g → Opening doc kinds.property c p f rows rows′ text text′ (Answer.Done g)
+          pub property-done : {rows rows′ text text′ : List ℕ} {g : Fill} → (word ≡ 4 → ⊥) → (word ≡ 0 → ⊥) → RowPut doc (record { kind = kinds.property; parent = p; word = word; at = c .at }) (c .values .name) (c .values .ty) (c .values .tp) f rows rows′ text text′ g → Opening doc kinds.property c p f rows rows′ text text′ (Answer.Done g)
           unfolding opensAs
           property-done n e q =
-              opened r (r .fits .values .name) (r .fits .values .ty) (r .fits .values .tp) q refl refl
+              opened r (r .fits .values .name) (r .fits .values .ty) (r .fits .values .tp) q refl refl refl
               (λ t z.
               let s = h .is t z in
               let w = there doc (bytes "type") t (z .values .ty) m in
@@ -340,7 +342,7 @@ module _ {doc : List ℕ} {c : StartTag} {f : Fill} (r : Ready doc c f) where
         rw (w .1, sym (j .is (w .0) (w .2)) ∙ not-true y e) (ap (λ q. refuses (bare 14 q)) (sym (z .at))))
 
     module _ (x : not y ≡ false) {word : ℕ} (l : Directs doc (c .values .direction) word) where
-      typed : (p : ℕ) (t : Tag) → TagIs doc c t → (w : Shown) × Held doc (c .values .ty) w × (opensAs whole kinds.arg p t ≡ directed whole (attr (bytes "direction") t) t (λ d. opens (row whole kinds.arg p (attr (bytes "name") t) (some w) (tpType (t .attrs)) d)))
+      typed : (p : ℕ) (t : Tag) → TagIs doc c t → (w : Shown) × Held doc (c .values .ty) w × (opensAs whole kinds.arg p t ≡ directed whole (attr (bytes "direction") t) t (λ d. opens (row whole t kinds.arg p (attr (bytes "name") t) (some w) (tpType (t .attrs)) d)))
       unfolding opensAs
       typed p t z =
           let w = there doc (bytes "type") t (z .values .ty) m in
@@ -351,27 +353,27 @@ module _ {doc : List ℕ} {c : StartTag} {f : Fill} (r : Ready doc c f) where
           refused r
           (λ t z.
           typed p t z .2
-          ∙ direction-bad t (attr (bytes "direction") t) (λ d. opens (row whole kinds.arg p (attr (bytes "name") t) (some (typed p t z .0)) (tpType (t .attrs)) d)) (sym (l .is (attr (bytes "direction") t) (z .values .direction)) ∙ e)
+          ∙ direction-bad t (attr (bytes "direction") t) (λ d. opens (row whole t kinds.arg p (attr (bytes "name") t) (some (typed p t z .0)) (tpType (t .attrs)) d)) (sym (l .is (attr (bytes "direction") t) (z .values .direction)) ∙ e)
           ∙ ap (λ q. refuses (bare 16 q)) (sym (z .end)))
 
-      pub arg-done : {p : ℕ} {rows rows′ text text′ : List ℕ} {g : Fill} → (word ≡ 3 → ⊥) → RowPut doc (record { kind = kinds.arg; parent = p; word = word }) (c .values .name) (c .values .ty) (c .values .tp) f rows rows′ text text′ g → Opening doc kinds.arg c p f rows rows′ text text′ (Answer.Done g)
+      pub arg-done : {p : ℕ} {rows rows′ text text′ : List ℕ} {g : Fill} → (word ≡ 3 → ⊥) → RowPut doc (record { kind = kinds.arg; parent = p; word = word; at = c .at }) (c .values .name) (c .values .ty) (c .values .tp) f rows rows′ text text′ g → Opening doc kinds.arg c p f rows rows′ text text′ (Answer.Done g)
       arg-done {p} e q =
-          opened r (r .fits .values .name) (r .fits .values .ty) (r .fits .values .tp) q refl refl
+          opened r (r .fits .values .name) (r .fits .values .ty) (r .fits .values .tp) q refl refl refl
           (λ t z.
           let h = l .is (attr (bytes "direction") t) (z .values .direction) in (
             attr (bytes "name") t,
             some (typed p t z .0),
             tpType (t .attrs),
             typed p t z .2
-                ∙ direction-good t (attr (bytes "direction") t) (λ d. opens (row whole kinds.arg p (attr (bytes "name") t) (some (typed p t z .0)) (tpType (t .attrs)) d)) (λ i. e (h ∙ i))
-                ∙ ap (λ d. opens (row whole kinds.arg p (attr (bytes "name") t) (some (typed p t z .0)) (tpType (t .attrs)) d)) (sym h),
+                ∙ direction-good t (attr (bytes "direction") t) (λ d. opens (row whole t kinds.arg p (attr (bytes "name") t) (some (typed p t z .0)) (tpType (t .attrs)) d)) (λ i. e (h ∙ i))
+                ∙ ap (λ d. opens (row whole t kinds.arg p (attr (bytes "name") t) (some (typed p t z .0)) (tpType (t .attrs)) d)) (sym h),
             z .values .name,
             typed p t z .1,
             z .values .tp,
           ))
 
-pub typed-fits : {doc : List ℕ} {c : StartTag} {f : Fill} {h : Head} → Ready doc c f → h .parent ≤ 1048576 → RowFits doc h (c .values .name) (c .values .ty) (c .values .tp) f
-typed-fits r p = row-fits r (r .fits .values .name) (r .fits .values .ty) (r .fits .values .tp) p
+pub typed-fits : {doc : List ℕ} {c : StartTag} {f : Fill} {h : Head} → Ready doc c f → h .parent ≤ 1048576 → h .at ≡ c .at → RowFits doc h (c .values .name) (c .values .ty) (c .values .tp) f
+typed-fits r p l = row-fits r (r .fits .values .name) (r .fits .values .ty) (r .fits .values .tp) p l
 
 pub lies-ty : {doc : List ℕ} {c : StartTag} {f : Fill} → Ready doc c f → Lies doc (c .values .ty)
 lies-ty r = lies r (r .fits .values .ty)

@@ -26,11 +26,11 @@ pub record NamedKind (good : List ℕ → Bool) (k : ℕ) : Type 0 where
 
 -- simple-type and enum: name and type
 pub record TypedKind (k : ℕ) : Type 0 where
-  pub is : (p : ℕ) (t : Tag) → opensAs whole k p t ≡ opens (row whole k p (attr (bytes "name") t) (attr (bytes "type") t) none 0)
+  pub is : (p : ℕ) (t : Tag) → opensAs whole k p t ≡ opens (row whole t k p (attr (bytes "name") t) (attr (bytes "type") t) none 0)
 
 -- struct and mapping: name
 pub record UntypedKind (k : ℕ) : Type 0 where
-  pub is : (p : ℕ) (t : Tag) → opensAs whole k p t ≡ opens (row whole k p (attr (bytes "name") t) none none 0)
+  pub is : (p : ℕ) (t : Tag) → opensAs whole k p t ≡ opens (row whole t k p (attr (bytes "name") t) none none 0)
 
 -- the number of a direction: 0 absent, 3 neither `in` nor `out`
 abbrev pub directionWord : Option Shown → ℕ

@@ -40,6 +40,7 @@ pub fn node_row(
         kind: kinds::NODE,
         parent,
         word: 0,
+        at: c.at,
     };
     Answer::Done(rows::put_row(doc, rows, text, head, c.values.name, absent(), absent(), f))
 }
@@ -68,6 +69,7 @@ pub fn interface_row(
             kind: kinds::INTERFACE,
             parent,
             word: 0,
+            at: c.at,
         };
         return Answer::Done(rows::put_row(doc, rows, text, head, name, absent(), absent(), f));
     }
@@ -102,6 +104,7 @@ pub fn callable_row(
             kind,
             parent,
             word: 0,
+            at: c.at,
         };
         return Answer::Done(rows::put_row(doc, rows, text, head, name, absent(), absent(), f));
     }
@@ -141,6 +144,7 @@ pub fn annotation_row(
         kind: kinds::ANNOTATION,
         parent,
         word: 0,
+        at: c.at,
     };
     Answer::Done(rows::put_row(doc, rows, text, head, name, value, absent(), f))
 }
@@ -162,6 +166,7 @@ pub fn typed_row(
         kind,
         parent,
         word: 0,
+        at: c.at,
     };
     Answer::Done(rows::put_row(
         doc,
@@ -192,6 +197,7 @@ pub fn untyped_row(
         kind,
         parent,
         word: 0,
+        at: c.at,
     };
     Answer::Done(rows::put_row(doc, rows, text, head, c.values.name, absent(), absent(), f))
 }
@@ -212,6 +218,7 @@ pub fn enumvalue_row(
         kind: kinds::ENUMVALUE,
         parent,
         word: 0,
+        at: c.at,
     };
     Answer::Done(rows::put_row(
         doc,
@@ -241,6 +248,7 @@ pub fn member_row(
         kind: kinds::MEMBER,
         parent,
         word: 0,
+        at: c.at,
     };
     Answer::Done(rows::put_row(
         doc,
@@ -324,6 +332,7 @@ fn accessed_row(
         kind: kinds::PROPERTY,
         parent,
         word,
+        at: c.at,
     };
     Answer::Done(rows::put_row(doc, rows, text, head, v.name, v.ty, v.tp, f))
 }
@@ -390,6 +399,7 @@ pub fn arg_row(
         kind: kinds::ARG,
         parent,
         word,
+        at: c.at,
     };
     Answer::Done(rows::put_row(doc, rows, text, head, v.name, v.ty, v.tp, f))
 }

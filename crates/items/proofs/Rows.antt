@@ -71,7 +71,7 @@ pub record RowIs (d x : List ℕ) (rows : List RowWords) (i : ℕ) (r : RowWords
   pub doc : goodTriple d x (docUse (r .kind)) anyText (r .doc) ≡ true
   pub source : inDocument (r .doc) ≡ true
   pub word : validWord (r .kind) (r .word) ≡ true
-  pub last : eqb (r .last) 0 ≡ true
+  pub at : ltb (r .at) (length d) ≡ true
 
 pub row-parts : (d x : List ℕ) (rows : List RowWords) (i : ℕ) (r : RowWords) → soundRow d x rows i r ≡ true → RowIs d x rows i r
 unfolding soundRow
@@ -84,9 +84,9 @@ row-parts d x rows i r e =
     (goodTriple d x (docUse (r .kind)) anyText (r .doc))
     (inDocument (r .doc))
     (validWord (r .kind) (r .word))
-    (eqb (r .last) 0)
+    (ltb (r .at) (length d))
     e
-    (λ p n v t o s w l. record { placed = p; name = n; value = v; tp = t; doc = o; source = s; word = w; last = l })
+    (λ p n v t o s w l. record { placed = p; name = n; value = v; tp = t; doc = o; source = s; word = w; at = l })
   where
     go : {A : Type 0} (p n v t o s w l : Bool) → p && n && v && t && o && s && w && l ≡ true → (p ≡ true → n ≡ true → v ≡ true → t ≡ true → o ≡ true → s ≡ true → w ≡ true → l ≡ true → A) → A
     go p n v t o s w l e f =

@@ -48,6 +48,10 @@ arg p = rows ++ (7 ∷ p ∷ 0 ∷ 0 ∷ 0 ∷ 2 ∷ 3 ∷ 1 ∷ replicate 6 0 +
 abbrev pub annotation : List ℕ
 annotation = front ++ (6 ∷ 2 ∷ 1 ∷ 23 ∷ 3 ∷ 2 ∷ 0 ∷ 3 ∷ replicate 8 0)
 
+-- a node whose element began at a place; the document has 69 bytes
+abbrev pub begun : ℕ → List ℕ
+begun p = 1 ∷ replicate 14 0 ++ (p ∷ [])
+
 abbrev pub special : List ℕ
 special = bytes "<\"&s"
 
@@ -56,6 +60,8 @@ cases =
     (checks [] rows 3, said sound)
     ∷ (checks [] rows 0, said sound)
     ∷ (checks [] rows 4, said (unsound 3))
+    ∷ (checks [] (begun 68) 1, said sound)
+    ∷ (checks [] (begun 69) 1, said (unsound 0))
     ∷ (checks [] rows 262145, said (unsound 262144))
     ∷ (checks special (arg 3) 4, said sound)
     ∷ (checks special (arg 4) 4, said (unsound 3))

@@ -117,7 +117,7 @@ soundRow document text rows i r =
     && goodTriple document text (docUse k) anyText (r .doc)
     && inDocument (r .doc)
     && validWord k (r .word)
-    && eqb (r .last) 0
+    && ltb (r .at) (length document)
 
 -- the first bad row from row i on, or the number of rows
 abbrev pub firstBad : List ℕ → List ℕ → List RowWords → ℕ → List RowWords → ℕ

@@ -1,4 +1,4 @@
--- Rows and states seen through a function on what rows keep of an attribute.
+-- Rows and states seen through a function on what rows keep of an attribute; the places of their elements are left out.
 -- Assumes nothing.
 use Prim.Native.Nat.{ℕ}
 use mathlib.Core.List.{List, map}
@@ -13,7 +13,7 @@ module _ {A B : Type 0} (f : A → B) where
   over (some a) = some (f a)
 
   abbrev pub viewRow : Row A → Row B
-  viewRow r = record { kind = r .kind; parent = r .parent; name = over (r .name); value = over (r .value); tp = over (r .tp); doc = r .doc; word = r .word }
+  viewRow r = record { kind = r .kind; parent = r .parent; name = over (r .name); value = over (r .value); tp = over (r .tp); doc = r .doc; word = r .word; at = 0 }
 
   abbrev pub viewTables : Tables A → Tables B
   viewTables t = record { rows = map viewRow (t .rows); warnings = t .warnings }

@@ -12,7 +12,7 @@ use Rattle.tables.specs.Triple.{shown}
 use Rattle.tables.specs.declared.Triple.{Triple}
 use Rattle.document.specs.Rows.{Doc, Row}
 
--- kind (word 0), parent's row plus one, name, value or signature, tp type, docstring, words 14 and 15
+-- kind (word 0), parent's row plus one, name, value or signature, tp type, docstring, word 14, place of `<` (word 15)
 pub record RowWords : Type 0 where
   pub kind : ℕ
   pub parent : ℕ
@@ -21,7 +21,7 @@ pub record RowWords : Type 0 where
   pub tp : Triple
   pub doc : Triple
   pub word : ℕ
-  pub last : ℕ
+  pub at : ℕ
 
 -- source, start, length from word k on
 abbrev pub tripleAt : ℕ → List ℕ → Triple
@@ -48,7 +48,7 @@ rowOf ws = record {
   tp = tripleAt 8 ws;
   doc = tripleAt 11 ws;
   word = getD ws 14 0;
-  last = getD ws 15 0;
+  at = getD ws 15 0;
 }
 
 -- the first n rows
@@ -71,7 +71,7 @@ shownBy document text t = let s = some (shown document text t) in if (absent t) 
 abbrev pub docstringBy : Triple → Option Doc
 docstringBy t = let d : Doc = record { start = t .start; len = t .len } in if (absent t) none (some d)
 
--- a row with the bytes that it shows
+-- a row with the bytes that it shows; the place of its element is left out
 abbrev pub viewed : List ℕ → List ℕ → RowWords → Row (List ℕ)
 viewed document text r = record {
   kind = r .kind;
@@ -81,6 +81,7 @@ viewed document text r = record {
   tp = shownBy document text (r .tp);
   doc = docstringBy (r .doc);
   word = r .word;
+  at = 0;
 }
 
 -- the first n rows of a table, with the bytes that they show

@@ -17,7 +17,7 @@ use Rattle.document.specs.Reading.{Frame, closed, step, fold}
 use Rattle.document.proofs.Runs.{taken}
 use Rattle.items.specs.Written.{Pair, pairs, ending, tag, closingTag, concat, element}
 use Rattle.roundtrip.proofs.Tags.{Name, TagName, Keys, tagAt, tag-next, close-next}
-use Rattle.roundtrip.proofs.Held.{held, Row, State, table, inside}
+use Rattle.roundtrip.proofs.Held.{keeps, Row, State, table, inside}
 
 -- ---- one token
 
@@ -61,7 +61,7 @@ upto d (t ∷ ts) = let r = upto (deeper d t) ts in t ∷ still (deeper d t) r
 pub record Reads (b : List ℕ) (s s′ : State) : Type 0 where
   pub toks : ℕ → List Token
   pub lexed : (at : ℕ) (r : List ℕ) → tokens (b ++ r) at ≡ toks at ++ tokens r (at + length b)
-  pub folds : (doc : List ℕ) (at : ℕ) → fold held doc s (toks at) ≡ s′
+  pub folds : (doc : List ℕ) (at : ℕ) → fold keeps doc s (toks at) ≡ s′
 
 -- and that close just what they open
 pub record Passes (b : List ℕ) (s s′ : State) : Type 0 where
@@ -73,9 +73,9 @@ pub record Element (b : List ℕ) (s s′ : State) : Type 0 where
   pub passes : Passes b s s′
   pub whole : (at : ℕ) (ts : List Token) → upto 0 (passes .does .toks at ++ ts) ≡ passes .does .toks at
 
-pub fold-append : (doc : List ℕ) (s : State) (ts us : List Token) → fold held doc s (ts ++ us) ≡ fold held doc (fold held doc s ts) us
+pub fold-append : (doc : List ℕ) (s : State) (ts us : List Token) → fold keeps doc s (ts ++ us) ≡ fold keeps doc (fold keeps doc s ts) us
 fold-append doc s [] us = refl
-fold-append doc s (t ∷ ts) us = fold-append doc (step held doc s t) ts us
+fold-append doc s (t ∷ ts) us = fold-append doc (step keeps doc s t) ts us
 
 abbrev nothing : {s : State} → Reads [] s s
 nothing {s} = record { toks = λ at. []; lexed = λ at r. rw add-zero; folds = λ doc at. refl }
@@ -119,7 +119,7 @@ pub record Opens (k : ℕ) (n : List ℕ) (ps : List Pair) (s : State) (r : Row)
   pub name : TagName n
   pub keys : Keys [] ps
   pub few : length ps ≤ 256
-  pub enters : (doc : List ℕ) (at : ℕ) (self : Bool) → step held doc s (start (tagAt at n ps self)) ≡ entered k n self r fs rs ws
+  pub enters : (doc : List ℕ) (at : ℕ) (self : Bool) → step keeps doc s (start (tagAt at n ps self)) ≡ entered k n self r fs rs ws
 
 tag-name : (n : List ℕ) → TagName n → Name n
 tag-name [] h = h
@@ -129,7 +129,7 @@ pub same-self : (s : List ℕ) → same s s ≡ true
 same-self [] = refl
 same-self (a ∷ s) = rw (eq-eqb a a refl) (same-self s)
 
-closes : (doc : List ℕ) (k : ℕ) (n : List ℕ) (i : ℕ) (fs : List Frame) (rs : List Row) (ws : List Warning) (p q : ℕ) → step held doc (inside (reading.element k n i ∷ fs) rs ws) (close p n q) ≡ closed fs (table rs ws)
+closes : (doc : List ℕ) (k : ℕ) (n : List ℕ) (i : ℕ) (fs : List Frame) (rs : List Row) (ws : List Warning) (p q : ℕ) → step keeps doc (inside (reading.element k n i ∷ fs) rs ws) (close p n q) ≡ closed fs (table rs ws)
 unfolding step
 closes doc k n i fs rs ws p q = rw (same-self n)
 

@@ -1,6 +1,6 @@
 -- Equal bytes exactly for equal contents, and no content's bytes begin another's.
 -- Assumes nothing.
-use Prim.Native.Nat.{ℕ, _+_}
+use Prim.Native.Nat.{ℕ, suc, _+_}
 use native.Mathlib.Omega.{arith}
 use mathlib.Core.Path.{_≡_, refl, ap, _∙_, sym}
 use mathlib.Core.List.{List, [], _∷_, _++_, map, append-nil}
@@ -13,19 +13,19 @@ use Rattle.document.specs.Elements.{mayHold}
 use Rattle.document.specs.Reading as reading
 use Rattle.document.specs.Reading.{fold}
 use Rattle.items.specs.View.{over, viewRow}
-use Rattle.items.specs.Written.{Arg, Member, Item, annotated, argument, method, signal, Pair, named, argPairs, tag, element, writtenAnnotation, writtenArg, writtenMember, written}
+use Rattle.items.specs.Written.{Annotation, Arg, Member, Item, annotated, argument, method, signal, Pair, named, argPairs, tag, element, writtenAnnotation, writtenArg, writtenMember, written}
 use Rattle.items.specs.Content as shown
 use Rattle.items.specs.Content.{content}
-use Rattle.roundtrip.specs.Items.{rows, nodeRow}
+use Rattle.roundtrip.specs.Items.{annotationRows, argRows, argsRows, memberRows, rows, nodeRow}
 use Rattle.roundtrip.specs.Statement.{Told}
-use Rattle.roundtrip.proofs.Held.{Held, held, mark, Row, State, marked}
+use Rattle.roundtrip.proofs.Held.{Held, keeps, mark, Row, State, marked}
 use Rattle.roundtrip.proofs.Elements.{Element, upto}
 use Rattle.roundtrip.proofs.Items.{Good, kind, item-element}
 use Rattle.roundtrip.proofs.Content.{content-back}
 
 -- one element begins another: they lead from a state to one and the same
 one-end : {b d : List ℕ} {s s′ s″ : State} → Element b s s′ → Element d s s″ → (x : List ℕ) → d ≡ b ++ x → s′ ≡ s″
-one-end {b} {d} {s} e f x h = sym (e .passes .does .folds [] 0) ∙ ap (fold held [] s) same-tokens ∙ f .passes .does .folds [] 0
+one-end {b} {d} {s} e f x h = sym (e .passes .does .folds [] 0) ∙ ap (fold keeps [] s) same-tokens ∙ f .passes .does .folds [] 0
   where
     both : e .passes .does .toks 0 ++ tokens x (0 + length b) ≡ f .passes .does .toks 0 ++ tokens [] (0 + length d)
     both = sym (e .passes .does .lexed 0 x) ∙ ap (λ l. tokens l 0) (sym h ∙ sym (append-nil d)) ∙ f .passes .does .lexed 0 []
@@ -41,14 +41,43 @@ value-marked : (o : Option (List ℕ)) → over valueOf (over mark o) ≡ o
 value-marked none = refl
 value-marked (some v) = refl
 
-pub unmarked : (rs : List shown.Row) → map (viewRow valueOf) (map marked rs) ≡ rs
-unmarked [] = refl
-unmarked (r ∷ rs) =
+-- rows without places, as those of an item
+abbrev pub Placeless : List shown.Row → Type 0
+Placeless [] = Unit {0}
+Placeless (r ∷ rs) = (r .at ≡ 0) × Placeless rs
+
+both-placeless : (rs ss : List shown.Row) → Placeless rs → Placeless ss → Placeless (rs ++ ss)
+both-placeless [] ss h i = i
+both-placeless (r ∷ rs) ss h i = (h .0, both-placeless rs ss (h .1) i)
+
+annotations-placeless : (p : ℕ) (xs : List Annotation) → Placeless (annotationRows p xs)
+annotations-placeless p [] = tt
+annotations-placeless p (a ∷ xs) = (refl, annotations-placeless p xs)
+
+args-placeless : (p i : ℕ) (xs : List Arg) → Placeless (argsRows p i xs)
+args-placeless p i [] = tt
+args-placeless p i (a ∷ xs) =
+    both-placeless (argRows p i a) (argsRows p (i + length (argRows p i a)) xs) (refl, annotations-placeless (suc i) (a .annotations)) (args-placeless p (i + length (argRows p i a)) xs)
+
+member-placeless : (k p i : ℕ) (m : Member) → Placeless (memberRows k p i m)
+member-placeless k p i m =
+    (refl, both-placeless (argsRows (suc i) (suc i) (m .args)) (annotationRows (suc i) (m .annotations)) (args-placeless (suc i) (suc i) (m .args)) (annotations-placeless (suc i) (m .annotations)))
+
+pub item-placeless : (p i : ℕ) (c : Item) → Placeless (rows p i c)
+item-placeless p i (annotated a) = (refl, tt)
+item-placeless p i (argument a) = (refl, annotations-placeless (suc i) (a .annotations))
+item-placeless p i (method m) = member-placeless 3 p i m
+item-placeless p i (signal m) = member-placeless 5 p i m
+
+pub unmarked : (rs : List shown.Row) → Placeless rs → map (viewRow valueOf) (map marked rs) ≡ rs
+unmarked [] h = refl
+unmarked (r ∷ rs) h =
     let n = value-marked (r .name) in
     let v = value-marked (r .value) in
     let t = value-marked (r .tp) in
-    let e = unmarked rs in
-    λ j. record { kind = r .kind; parent = r .parent; name = n j; value = v j; tp = t j; doc = r .doc; word = r .word } ∷ e j
+    let e = unmarked rs (h .1) in
+    let o = sym (h .0) in
+    λ j. record { kind = r .kind; parent = r .parent; name = n j; value = v j; tp = t j; doc = r .doc; word = r .word; at = o j } ∷ e j
 
 rowsIn : State → List Row
 rowsIn reading.begun = []
@@ -70,7 +99,7 @@ unfolding rowsIn
 meet k c d i j g h x e =
     let s = one-end (item-element k c i g [] 0 [] (marked nodeRow ∷ []) []) (item-element k d j h [] 0 [] (marked nodeRow ∷ []) []) x e in
     let r : map marked (nodeRow ∷ rows 1 1 c) ≡ map marked (nodeRow ∷ rows 1 1 d) = ap rowsIn s in
-    item-of c d (sym (unmarked (nodeRow ∷ rows 1 1 c)) ∙ ap (map (viewRow valueOf)) r ∙ unmarked (nodeRow ∷ rows 1 1 d))
+    item-of c d (sym (unmarked (nodeRow ∷ rows 1 1 c) (refl, item-placeless 1 1 c)) ∙ ap (map (viewRow valueOf)) r ∙ unmarked (nodeRow ∷ rows 1 1 d) (refl, item-placeless 1 1 d))
 
 -- an arg and a method or a signal, which stand in no element both, differ in their second byte
 second : (b : ℕ) (n : List ℕ) (ps : List Pair) (cs : List (List ℕ)) (x : List ℕ) → getD (element (b ∷ n) ps cs ++ x) 1 0 ≡ b

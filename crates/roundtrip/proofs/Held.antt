@@ -1,4 +1,5 @@
--- What is kept of an attribute here: its raw bytes and the text that they show. So rows and states have no places in them.
+-- What rows keep here: of an attribute its raw bytes and the text that they show, of an element's place nothing. So rows and states
+-- have no places in them.
 -- Assumes nothing.
 use Prim.Native.Nat.{ℕ}
 use mathlib.Core.List.{List}
@@ -6,6 +7,7 @@ use Rattle.references.specs.Escape.{escape}
 use Rattle.document.specs.Tags.{Shown}
 use Rattle.document.specs.Rows as rows
 use Rattle.document.specs.Rows.{Warning, Tables}
+use Rattle.document.specs.Elements.{Keeping}
 use Rattle.document.specs.Reading as reading
 use Rattle.document.specs.Reading.{Frame}
 use Rattle.items.specs.Content as content
@@ -17,6 +19,9 @@ pub record Held : Type 0 where
 
 abbrev pub held : Shown → Held
 held s = record { raw = s .attr .raw; value = s .value }
+
+abbrev pub keeps : Keeping Held
+keeps = record { attribute = held; place = λ p. 0 }
 
 -- what is written for a text
 abbrev pub mark : List ℕ → Held

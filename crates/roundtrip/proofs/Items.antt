@@ -18,7 +18,7 @@ use Rattle.items.specs.Content as shown
 use Rattle.items.specs.Written.{Pair, Annotation, Arg, Direction, no-direction, inward, outward, Member, Item, annotated, argument, method, signal, named, argPairs, writtenAnnotation, writtenArg, writtenMember, written}
 use Rattle.roundtrip.specs.Items.{code, bareRow, annotationRow, annotationRows, argRow, argRows, argsRows, memberRows, rows}
 use Rattle.roundtrip.proofs.Tags.{Keys, tagAt}
-use Rattle.roundtrip.proofs.Held.{held, Row, marked, inside}
+use Rattle.roundtrip.proofs.Held.{keeps, Row, marked, inside}
 use Rattle.roundtrip.proofs.Elements.{Element, Children, childless, child, entered, Opens, an-element}
 
 abbrev annotationPairs : Annotation → List Pair
@@ -26,7 +26,7 @@ annotationPairs a = named (a .name) ∷ record { key = bytes "value"; value = a 
 
 -- in an element of kind k with row i, where an annotation may stand
 module _ (k : ℕ) (h : mayHold k 6 ≡ true) (n : List ℕ) (i : ℕ) (fs : List Frame) (ws : List Warning) where
-  annotation-enters : (a : Annotation) (rs : List Row) (doc : List ℕ) (at : ℕ) (self : Bool) → step held doc (inside (element k n i ∷ fs) rs ws) (start (tagAt at (bytes "annotation") (annotationPairs a) self)) ≡ entered 6 (bytes "annotation") self (marked (annotationRow (suc i) a)) (element k n i ∷ fs) rs ws
+  annotation-enters : (a : Annotation) (rs : List Row) (doc : List ℕ) (at : ℕ) (self : Bool) → step keeps doc (inside (element k n i ∷ fs) rs ws) (start (tagAt at (bytes "annotation") (annotationPairs a) self)) ≡ entered 6 (bytes "annotation") self (marked (annotationRow (suc i) a)) (element k n i ∷ fs) rs ws
   unfolding step kindOf begins opensAs
   annotation-enters a rs doc at true = rw h
   annotation-enters a rs doc at false = rw h
@@ -59,7 +59,7 @@ regroup rs x y z = simp (map-append, append-assoc)
 
 -- in an element of kind k with row i, where an arg may stand
 module _ (k : ℕ) (h : mayHold k 7 ≡ true) (n : List ℕ) (i : ℕ) (fs : List Frame) (ws : List Warning) where
-  arg-enters : (m : Option (List ℕ)) (t : List ℕ) (d : Direction) → signature t ≡ true → (rs : List Row) (doc : List ℕ) (at : ℕ) (self : Bool) → step held doc (inside (element k n i ∷ fs) rs ws) (start (tagAt at (bytes "arg") (argPairs m t d) self)) ≡ entered 7 (bytes "arg") self (marked (bareRow 7 (suc i) m (some t) (code d))) (element k n i ∷ fs) rs ws
+  arg-enters : (m : Option (List ℕ)) (t : List ℕ) (d : Direction) → signature t ≡ true → (rs : List Row) (doc : List ℕ) (at : ℕ) (self : Bool) → step keeps doc (inside (element k n i ∷ fs) rs ws) (start (tagAt at (bytes "arg") (argPairs m t d) self)) ≡ entered 7 (bytes "arg") self (marked (bareRow 7 (suc i) m (some t) (code d))) (element k n i ∷ fs) rs ws
   unfolding step kindOf begins opensAs
   arg-enters none t no-direction e rs doc at true = rw (h, e)
   arg-enters none t no-direction e rs doc at false = rw (h, e)
@@ -112,14 +112,14 @@ module _ (k : ℕ) (n : List ℕ) (i : ℕ) (fs : List Frame) (ws : List Warning
   method-opens : mayHold k 3 ≡ true → (m : List ℕ) → memberName m ≡ true → (rs : List Row) → Opens 3 (bytes "method") (named m ∷ []) (inside (element k n i ∷ fs) rs ws) (marked (bareRow 3 (suc i) (some m) none 0)) (element k n i ∷ fs) rs ws
   method-opens h m e rs = record { name = (refl, refl, refl, refl); keys = (refl, refl, tt); few = omega arith; enters = enters }
     where
-      enters : (doc : List ℕ) (at : ℕ) (self : Bool) → step held doc (inside (element k n i ∷ fs) rs ws) (start (tagAt at (bytes "method") (named m ∷ []) self)) ≡ entered 3 (bytes "method") self (marked (bareRow 3 (suc i) (some m) none 0)) (element k n i ∷ fs) rs ws
+      enters : (doc : List ℕ) (at : ℕ) (self : Bool) → step keeps doc (inside (element k n i ∷ fs) rs ws) (start (tagAt at (bytes "method") (named m ∷ []) self)) ≡ entered 3 (bytes "method") self (marked (bareRow 3 (suc i) (some m) none 0)) (element k n i ∷ fs) rs ws
       enters doc at true = unfold step kindOf begins opensAs in rw (h, e)
       enters doc at false = unfold step kindOf begins opensAs in rw (h, e)
 
   signal-opens : mayHold k 5 ≡ true → (m : List ℕ) → memberName m ≡ true → (rs : List Row) → Opens 5 (bytes "signal") (named m ∷ []) (inside (element k n i ∷ fs) rs ws) (marked (bareRow 5 (suc i) (some m) none 0)) (element k n i ∷ fs) rs ws
   signal-opens h m e rs = record { name = (refl, refl, refl, refl); keys = (refl, refl, tt); few = omega arith; enters = enters }
     where
-      enters : (doc : List ℕ) (at : ℕ) (self : Bool) → step held doc (inside (element k n i ∷ fs) rs ws) (start (tagAt at (bytes "signal") (named m ∷ []) self)) ≡ entered 5 (bytes "signal") self (marked (bareRow 5 (suc i) (some m) none 0)) (element k n i ∷ fs) rs ws
+      enters : (doc : List ℕ) (at : ℕ) (self : Bool) → step keeps doc (inside (element k n i ∷ fs) rs ws) (start (tagAt at (bytes "signal") (named m ∷ []) self)) ≡ entered 5 (bytes "signal") self (marked (bareRow 5 (suc i) (some m) none 0)) (element k n i ∷ fs) rs ws
       enters doc at true = unfold step kindOf begins opensAs in rw (h, e)
       enters doc at false = unfold step kindOf begins opensAs in rw (h, e)
 

@@ -1,4 +1,4 @@
--- What a reader keeps of an attribute changes nothing else: a view of its state is the state of the reader that keeps the view.
+-- What a reader keeps in rows changes nothing else: a view of its state is the state of the reader that keeps the view, and no places.
 -- Assumes nothing.
 use Prim.Native.Nat.{ℕ, zero, suc}
 use mathlib.Core.Path.{_≡_, refl, ap, _∙_}
@@ -12,7 +12,7 @@ use Rattle.utf8.specs.WhiteSpace.{trimStart, trimEnd}
 use Rattle.document.specs.Tags.{Shown}
 use Rattle.document.specs.Tokens.{Tag, Token, start, close, fault, end, tokens}
 use Rattle.document.specs.Rows.{Doc, Row, Tables, documented}
-use Rattle.document.specs.Elements.{kindOf, mayHold, Opened, opens, refuses, kept, row, opensAs}
+use Rattle.document.specs.Elements.{kindOf, mayHold, Opened, opens, refuses, Keeping, kept, row, opensAs}
 use Rattle.document.specs.Reading.{Definition, Purpose, ignored, captures, Frame, element, definition, passing, State, begun, reading, accepted, refused, nameOf, parentOf, reasonOf, noted, frameOf, withRow, closed, judged, captured, passed, shut, tooDeep, entered, opened, begins, unsupported, docstringIn, child, started, turn, root, inside, step, fold, run}
 use Rattle.document.proofs.Opens.{any-way}
 use Rattle.items.specs.View.{over, viewRow, viewTables, view}
@@ -61,9 +61,9 @@ module _ {A B : Type 0} (f : A → B) where
   viewOpened (opens r) = opens (viewRow f r)
   viewOpened (refuses x) = refuses x
 
-module _ {A B : Type 0} (f : A → B) (keep : Shown → A) where
-  abbrev seen : Shown → B
-  seen s = f (keep s)
+module _ {A B : Type 0} (f : A → B) (keep : Keeping A) where
+  abbrev seen : Keeping B
+  seen = record { attribute = λ s. f (keep .attribute s); place = λ p. 0 }
 
   view-kept : (o : Option Shown) → over f (kept keep o) ≡ kept seen o
   view-kept none = refl
@@ -71,12 +71,12 @@ module _ {A B : Type 0} (f : A → B) (keep : Shown → A) where
 
   -- ---- the row of a tag
 
-  view-row : (k p : ℕ) (n v tp : Option Shown) (w : ℕ) → viewOpened f (opens (row keep k p n v tp w)) ≡ opens (row seen k p n v tp w)
-  view-row k p n v tp w = λ j. opens (record { kind = k; parent = p; name = view-kept n j; value = view-kept v j; tp = view-kept tp j; doc = none; word = w })
+  view-row : (t : Tag) (k p : ℕ) (n v tp : Option Shown) (w : ℕ) → viewOpened f (opens (row keep t k p n v tp w)) ≡ opens (row seen t k p n v tp w)
+  view-row t k p n v tp w = λ j. opens (record { kind = k; parent = p; name = view-kept n j; value = view-kept v j; tp = view-kept tp j; doc = none; word = w; at = 0 })
 
   view-opens : (p : ℕ) (t : Tag) (k : ℕ) → viewOpened f (opensAs keep k p t) ≡ opensAs seen k p t
   view-opens p t k =
-      any-way keep seen p t (λ o o′. viewOpened f o ≡ o′) (λ n h. refl) (λ n h. refl) (λ k w n v tp c. view-row k p n v tp w) k
+      any-way keep seen p t (λ o o′. viewOpened f o ≡ o′) (λ n h. refl) (λ n h. refl) (λ k w n v tp c. view-row t k p n v tp w) k
 
   -- ---- steps
 

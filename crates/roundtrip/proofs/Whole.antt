@@ -21,7 +21,7 @@ use Rattle.document.specs.Tags.{Shown}
 use Rattle.document.specs.Rows as tables
 use Rattle.document.specs.Rows.{Tables, texts}
 use Rattle.document.specs.Tokens.{tokens, start}
-use Rattle.document.specs.Elements.{kindOf, mayHold, opensAs}
+use Rattle.document.specs.Elements.{kindOf, mayHold, whole, opensAs}
 use Rattle.document.specs.Reading as states
 use Rattle.document.specs.Reading.{begun, accepted, begins, step, run}
 use Rattle.document.specs.Whole.{Room, meaning, read}
@@ -30,10 +30,10 @@ use Rattle.items.specs.Written.{Item, named, tag, closingTag, element, written}
 use Rattle.roundtrip.specs.Items.{rows, nodeRow, interfaceRow, values, referenced}
 use Rattle.roundtrip.specs.Statement.{around, Fits}
 use Rattle.roundtrip.proofs.Tags.{tagAt}
-use Rattle.roundtrip.proofs.Held.{Held, held, State, marked, table, inside}
+use Rattle.roundtrip.proofs.Held.{Held, held, keeps, State, marked, table, inside}
 use Rattle.roundtrip.proofs.Elements.{Reads, Element, entered, Opens, an-element, child, childless, fold-append}
 use Rattle.roundtrip.proofs.Items.{Good, kind, item-element}
-use Rattle.roundtrip.proofs.Equal.{valueOf, unmarked}
+use Rattle.roundtrip.proofs.Equal.{valueOf, item-placeless, unmarked}
 use Rattle.roundtrip.proofs.SoundRows.{AllFormed}
 use Rattle.roundtrip.proofs.Texts.{whole-written}
 use Rattle.roundtrip.proofs.Keeping.{view-run}
@@ -44,7 +44,7 @@ use Rattle.roundtrip.proofs.Room.{sizes, texts-size, table-size}
 abbrev holding : List ℕ → Item → List ℕ
 holding n c = element (bytes "node") [] (element (bytes "interface") (named n ∷ []) (written c ∷ []) ∷ [])
 
-node-enters : (doc : List ℕ) (at : ℕ) (self : Bool) → step held doc begun (start (tagAt at (bytes "node") [] self)) ≡ entered 1 (bytes "node") self (marked nodeRow) [] [] []
+node-enters : (doc : List ℕ) (at : ℕ) (self : Bool) → step keeps doc begun (start (tagAt at (bytes "node") [] self)) ≡ entered 1 (bytes "node") self (marked nodeRow) [] [] []
 unfolding step begins opensAs
 node-enters doc at true = refl
 node-enters doc at false = refl
@@ -56,7 +56,7 @@ abbrev inNode : List states.Frame
 inNode = states.element 1 (bytes "node") 0 ∷ []
 
 module _ (n : List ℕ) (h : interfaceName n ≡ true) where
-  interface-enters : (doc : List ℕ) (at : ℕ) (self : Bool) → step held doc (inside inNode (marked nodeRow ∷ []) []) (start (tagAt at (bytes "interface") (named n ∷ []) self)) ≡ entered 2 (bytes "interface") self (marked (interfaceRow n)) inNode (marked nodeRow ∷ []) []
+  interface-enters : (doc : List ℕ) (at : ℕ) (self : Bool) → step keeps doc (inside inNode (marked nodeRow ∷ []) []) (start (tagAt at (bytes "interface") (named n ∷ []) self)) ≡ entered 2 (bytes "interface") self (marked (interfaceRow n)) inNode (marked nodeRow ∷ []) []
   unfolding step begins opensAs kindOf mayHold
   interface-enters doc at true = rw h
   interface-enters doc at false = rw h
@@ -95,14 +95,14 @@ spelled n c e =
     ∙ ap (λ l. bytes "<node><interface name=\"" ++ l) (regroup (escape n) (written c) (closingTag (bytes "interface")) (closingTag (bytes "node")))
 
 -- bytes that lead from a state to another do so in a run, whatever follows
-read-on : {b : List ℕ} {s s′ : State} → Reads b s s′ → (doc r : List ℕ) → doc ≡ b ++ r → run held doc 0 s ≡ states.fold held doc s′ (tokens r (0 + length b))
+read-on : {b : List ℕ} {s s′ : State} → Reads b s s′ → (doc r : List ℕ) → doc ≡ b ++ r → run keeps doc 0 s ≡ states.fold keeps doc s′ (tokens r (0 + length b))
 unfolding run
 read-on {b} {s} x doc r e =
-    ap (λ l. states.fold held doc s (tokens l 0)) e
+    ap (λ l. states.fold keeps doc s (tokens l 0)) e
     ∙ rw (x .lexed 0 r, fold-append doc s (x .toks 0) (tokens r (0 + length b)), x .folds doc 0)
 
 module _ (n : List ℕ) (h : interfaceName n ≡ true) (c : Item) (i : mayHold 2 (kind c) ≡ true) (g : Good c) where
-  run-held : run held (around n (written c)) 0 begun ≡ accepted (table (map marked (nodeRow ∷ interfaceRow n ∷ rows 2 2 c)) [])
+  run-held : run keeps (around n (written c)) 0 begun ≡ accepted (table (map marked (nodeRow ∷ interfaceRow n ∷ rows 2 2 c)) [])
   unfolding tokens step
   run-held =
       read-on (holding-element n h c i g .passes .does) (around n (written c)) [] (spelled n c (same-escaped n h) ∙ sym (append-nil (holding n c)))
@@ -135,7 +135,7 @@ shown-held (r ∷ rs) =
     let v = text-held (r .value) in
     let t = text-held (r .tp) in
     let e = shown-held rs in
-    λ j. record { kind = r .kind; parent = r .parent; name = a j; value = v j; tp = t j; doc = r .doc; word = r .word } ∷ e j
+    λ j. record { kind = r .kind; parent = r .parent; name = a j; value = v j; tp = t j; doc = r .doc; word = r .word; at = 0 } ∷ e j
 
 -- what the reader answers: its rows show the node, the interface and the item's rows
 pub record Answers (doc : List ℕ) (room : Room) (name : List ℕ) (c : Item) : Type 0 where
@@ -154,12 +154,12 @@ module _ (n : List ℕ) (h : interfaceName n ≡ true) (c : Item) (i : mayHold 2
   well-formed : illFormed doc ≡ length doc
   well-formed = formed (whole-around n h (written c) (whole-written c w))
 
-  means-run : meaning doc ≡ run (λ s. s) doc 0 begun
+  means-run : meaning doc ≡ run whole doc 0 begun
   unfolding meaning
   means-run = rw (le-ltb 1048576 (length doc) (f .short), well-formed, le-ltb (length doc) (length doc) (omega arith))
 
-  found : (t : Tables Shown) × (run (λ s. s) doc 0 begun ≡ accepted t) × (viewTables held t ≡ table (map marked (nodeRow ∷ interfaceRow n ∷ rows 2 2 c)) [])
-  found = accepted-view (run (λ s. s) doc 0 begun) _ (view-run held (λ s. s) doc 0 begun ∙ run-held n h c i g)
+  found : (t : Tables Shown) × (run whole doc 0 begun ≡ accepted t) × (viewTables held t ≡ table (map marked (nodeRow ∷ interfaceRow n ∷ rows 2 2 c)) [])
+  found = accepted-view (run whole doc 0 begun) _ (view-run held whole doc 0 begun ∙ run-held n h c i g)
 
   held-rows : map (viewRow held) (found .0 .rows) ≡ map marked (nodeRow ∷ interfaceRow n ∷ rows 2 2 c)
   held-rows = ap (λ u. u .rows) (found .2)
@@ -190,7 +190,7 @@ module _ (n : List ℕ) (h : interfaceName n ≡ true) (c : Item) (i : mayHold 2
     means = means-run ∙ found .1;
     reads = fits;
     silent = no-warnings;
-    shows = shown-held (found .0 .rows) ∙ ap (map (viewRow valueOf)) held-rows ∙ unmarked (nodeRow ∷ interfaceRow n ∷ rows 2 2 c);
+    shows = shown-held (found .0 .rows) ∙ ap (map (viewRow valueOf)) held-rows ∙ unmarked (nodeRow ∷ interfaceRow n ∷ rows 2 2 c) (refl, (refl, item-placeless 2 2 c));
     many = row-count;
     text = text-size;
   }

@@ -15,7 +15,7 @@ code inward = 1
 code outward = 2
 
 abbrev pub bareRow : ℕ → ℕ → Option (List ℕ) → Option (List ℕ) → ℕ → Row
-bareRow k p n v w = record { kind = k; parent = p; name = n; value = v; tp = none; doc = none; word = w }
+bareRow k p n v w = record { kind = k; parent = p; name = n; value = v; tp = none; doc = none; word = w; at = 0 }
 
 -- p is the parent's row plus one, and i the number of the first row
 abbrev pub annotationRow : ℕ → Annotation → Row

@@ -1,6 +1,6 @@
 -- Lent buffers that stand for tables: with a row more, a warning more, a docstring; and with the last rows given back.
 -- Assumes nothing.
-use Prim.Native.Nat.{ℕ, _+_, _-_, _≤_, _<_}
+use Prim.Native.Nat.{ℕ, suc, _+_, _-_, _≤_, _<_}
 use mathlib.Core.Path.{_≡_, refl, sym, ap, _∙_}
 use mathlib.Core.List.{List, [], _∷_, _++_}
 use mathlib.Core.Option.{none}
@@ -30,12 +30,13 @@ text-counted {f = f} s = s .text .many ∙ mul-one (f .text)
 -- ---- a row more
 
 module _ {doc : List ℕ} {name second tp : Value} {m : ℕ} {t t₁ t₂ t₃ : List ℕ} {a b c : Placed} (p : Places doc name m t t₁ a) (q : Places doc second (a .text) t₁ t₂ b) (s : Places doc tp (b .text) t₂ t₃ c) (row : Row Shown) (n : ValueIs doc name (row .name)) (v : ValueIs doc second (row .value)) (y : ValueIs doc tp (row .tp)) where
-  row-words : (h : Head) → row .kind ≡ h .kind → row .parent ≡ h .parent → row .word ≡ h .word → row .doc ≡ none → rowWords m row ≡ placed h a b c
+  row-words : (h : Head) → row .kind ≡ h .kind → row .parent ≡ h .parent → row .word ≡ h .word → h .at ≡ suc (row .at) → row .doc ≡ none → rowWords m row ≡ placed h a b c
   unfolding rowWords
-  row-words h k e w d =
+  row-words h k e w o d =
+      let l : row .at ≡ h .at - 1 = omega arith in
       let i : m + length (textOf (row .name)) ≡ a .text = sym (p .puts (row .name) n .counts) in
       let j : a .text + length (textOf (row .value)) ≡ b .text = sym (q .puts (row .value) v .counts) in
-      rw (k, e, w, d, i, j, p .words (row .name) n, q .words (row .value) v, s .words (row .tp) y)
+      rw (k, e, w, l, d, i, j, p .words (row .name) n, q .words (row .value) v, s .words (row .tp) y)
 
   row-text : Puts (rowText row) m t t₃ (c .text)
   row-text = puts-then (puts-then (p .puts (row .name) n) (q .puts (row .value) v)) (s .puts (row .tp) y)
@@ -47,10 +48,10 @@ row-put {h = h} {f = f} p q s g = record {
   warnings = refl;
   least = omega (arith, p .least, q .least, s .least);
   most = omega (arith, p .most, q .most, s .most);
-  stands = λ row u w k e o d x v y z.
+  stands = λ row u w k e o l d x v y z.
       let m : 0 + length (texts (u .rows)) ≡ f .text = omega (arith, text-counted z) in
       record {
-        rows = rw (wordsFrom-more 0 (u .rows) row, m, row-words p q s row x v y h k e o d) (g .stands (wordsFrom 0 (u .rows)) (z .rows));
+        rows = rw (wordsFrom-more 0 (u .rows) row, m, row-words p q s row x v y h k e o l d) (g .stands (wordsFrom 0 (u .rows)) (z .rows));
         many = length-append (u .rows) (row ∷ []) ∙ omega (arith, z .many, g .counts);
         warnings = z .warnings;
         text = rw (texts-more (u .rows) row) (row-text p q s row x v y .stands (texts (u .rows)) (z .text));

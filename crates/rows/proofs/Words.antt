@@ -89,7 +89,7 @@ length-front : (n : ℕ) (r : Row Shown) → length (front n r) ≡ 11
 unfolding front
 length-front n r = simp (length-append, length-triple)
 
-at-docstring : (n : ℕ) (r : Row Shown) (rest : List ℕ) → rowWords n r ++ rest ≡ front n r ++ (docTriple (r .doc) ++ (r .word ∷ 0 ∷ rest))
+at-docstring : (n : ℕ) (r : Row Shown) (rest : List ℕ) → rowWords n r ++ rest ≡ front n r ++ (docTriple (r .doc) ++ (r .word ∷ r .at ∷ rest))
 unfolding front rowWords
 at-docstring n r rest = simp append-assoc
 
@@ -125,8 +125,8 @@ module _ (d : Doc) where
       at-docstring n (withDoc d r) rest
       ∙ sym
       (ap (λ (l : List ℕ). withDocstring 0 (d .start) (d .len) l) (at-docstring n r rest)
-      ∙ sets-after (1 ∷ d .start ∷ d .len ∷ []) (front n r) (docTriple (r .doc) ++ (r .word ∷ 0 ∷ rest)) 0 11 (omega (arith, length-front n r))
-      ∙ ap (λ (l : List ℕ). front n r ++ l) (put-docTriple (r .doc) (d .start) (d .len) (r .word ∷ 0 ∷ rest)))
+      ∙ sets-after (1 ∷ d .start ∷ d .len ∷ []) (front n r) (docTriple (r .doc) ++ (r .word ∷ r .at ∷ rest)) 0 11 (omega (arith, length-front n r))
+      ∙ ap (λ (l : List ℕ). front n r ++ l) (put-docTriple (r .doc) (d .start) (d .len) (r .word ∷ r .at ∷ rest)))
   wordsFrom-documented (suc i) n (r ∷ rs) =
       rw (wordsFrom-documented i (n + length (rowText r)) rs)
       (sym (sets-after (1 ∷ d .start ∷ d .len ∷ []) (rowWords n r) (wordsFrom (n + length (rowText r)) rs) (i * 16 + 11) (suc i * 16 + 11) (omega (arith, length-rowWords n r))))

@@ -1,6 +1,6 @@
 -- What the functions say: a row or a warning more in the lent tables.
 -- Assumes nothing.
-use Prim.Native.Nat.{ℕ, suc, _+_, _*_, _≤_, _<_}
+use Prim.Native.Nat.{ℕ, suc, _+_, _-_, _*_, _≤_, _<_}
 use mathlib.Core.Path.{_≡_}
 use mathlib.Core.List.{List, [], _∷_}
 use mathlib.Core.Option.{Option, none}
@@ -25,7 +25,7 @@ pub record Places (doc : List ℕ) (v : Value) (n : ℕ) (before after : List �
 -- the words of a row with three values that are placed, and no docstring
 abbrev pub placed : Head → Placed → Placed → Placed → List ℕ
 placed h a b c =
-    h .kind ∷ h .parent ∷ a .source ∷ a .start ∷ a .len ∷ b .source ∷ b .start ∷ b .len ∷ c .source ∷ c .start ∷ c .len ∷ 0 ∷ 0 ∷ 0 ∷ h .word ∷ 0 ∷ []
+    h .kind ∷ h .parent ∷ a .source ∷ a .start ∷ a .len ∷ b .source ∷ b .start ∷ b .len ∷ c .source ∷ c .start ∷ c .len ∷ 0 ∷ 0 ∷ 0 ∷ h .word ∷ (h .at - 1) ∷ []
 
 -- the bounds within which every word of a row fits
 pub record RowFits (doc : List ℕ) (h : Head) (name second tp : Value) (f : Fill) : Type 0 where
@@ -34,6 +34,8 @@ pub record RowFits (doc : List ℕ) (h : Head) (name second tp : Value) (f : Fil
   pub valued : second .at + second .len ≤ length doc
   pub typed : tp .at + tp .len ≤ length doc
   pub parent : h .parent ≤ 1048576
+  pub after : 0 < h .at
+  pub place : h .at ≤ 1048576
   pub rows : f .rows < 1048576
   pub text : f .text ≤ 3 * 1048576
 
@@ -49,6 +51,7 @@ pub record RowPut (doc : List ℕ) (h : Head) (name second tp : Value) (f : Fill
       → row .kind ≡ h .kind
       → row .parent ≡ h .parent
       → row .word ≡ h .word
+      → h .at ≡ suc (row .at)
       → row .doc ≡ none
       → ValueIs doc name (row .name)
       → ValueIs doc second (row .value)

@@ -6,11 +6,12 @@ ghost use Rattle.rows.specs.Outcome.{Places, placed, RowFits, RowPut, Wa
 use document::Fill;
 use document::Value;
 
-// A row's kind, its parent's row plus one, and its word 14.
+// A row's kind, its parent's row plus one, its word 14, and the place of the element's name, after `<`.
 pub struct Head {
     pub kind: u32,
     pub parent: usize,
     pub word: u32,
+    pub at: usize,
 }
 
 // The triple of a value, and how many bytes of text there are after it.
@@ -53,7 +54,7 @@ fn place(doc: &[u8], text: &mut [u8], v: Value, n: usize) -> Placed
 
 // Adds the words of a row where a whole one has room, and counts it in any case.
 fn put_placed(rows: &mut [u32], n: usize, head: Head, a: Placed, b: Placed, c: Placed) -> usize
-    requires { ⌜ (n < 1048576) × (head .parent ≤ 1048576) ⌝ }
+    requires { ⌜ (n < 1048576) × (head .parent ≤ 1048576) × (0 < head .at) × (head .at ≤ 1048576) ⌝ }
     ensures { λ r. ⌜ Put 16 (placed head a b c) n (now (rows .entry)) (now (rows .exit)) r ⌝ }
 {
     let row = [
@@ -72,7 +73,7 @@ fn put_placed(rows: &mut [u32], n: usize, head: Head, a: Placed, b: Placed, c: P
         0,
         0,
         head.word,
-        0,
+        (head.at - 1) as u32,
     ];
     tables::put_words(rows, n, &row)
 }

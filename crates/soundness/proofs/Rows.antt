@@ -93,7 +93,7 @@ pub ruleset texts = (no-name, name-and-value, no-tp, tp-and-doc, needs)
 
 -- a row's clauses, as the code takes them
 module _ (d x : List ℕ) (rows : List RowWords) (i : ℕ) (r : RowWords) where
-  grouped : soundRow d x rows i r ≡ placed rows i r && goodFront d x r && goodBack d x r && validWord (r .kind) (r .word) && eqb (r .last) 0
+  grouped : soundRow d x rows i r ≡ placed rows i r && goodFront d x r && goodBack d x r && validWord (r .kind) (r .word) && ltb (r .at) (length d)
   unfolding soundRow goodFront goodBack goodDoc
   grouped =
       go
@@ -104,7 +104,7 @@ module _ (d x : List ℕ) (rows : List RowWords) (i : ℕ) (r : RowWords) where
       (goodTriple d x (docUse (r .kind)) anyText (r .doc))
       (inDocument (r .doc))
       (validWord (r .kind) (r .word))
-      (eqb (r .last) 0)
+      (ltb (r .at) (length d))
     where
       go : (p n v t o s w l : Bool) → p && n && v && t && o && s && w && l ≡ p && (n && v) && (t && (o && s)) && w && l
       go false n v t o s w l = refl
@@ -130,7 +130,7 @@ module _ (d x ws : List ℕ) (i : ℕ) where
     pub bad-word : not w ≡ true → RowSound d x ws i false
     bad-word q = record { is = λ n l. sym (grouped d x (rowsOf n ws) i (rowOf (drop (i * 16) ws)) ∙ rw (word ∙ not-true w q, and-false)) }
 
-    pub last-word : {m f b : Bool} {z : ℕ} → Placed ws i m → not m ≡ false → Front d x ws i f → not f ≡ false → Back d x ws i b → not b ≡ false → not w ≡ false → Word ws i 15 z → RowSound d x ws i (eqb z 0)
+    pub last-word : {m f b : Bool} {z : ℕ} → Placed ws i m → not m ≡ false → Front d x ws i f → not f ≡ false → Back d x ws i b → not b ≡ false → not w ≡ false → Word ws i 15 z → RowSound d x ws i (ltb z (length d))
     last-word {m} {f} {b} p o g h j q u y = record {
       is = λ n l.
           sym

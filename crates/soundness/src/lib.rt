@@ -79,7 +79,7 @@ fn sound_row<'a>(document: &'a [u8], text: &'a [u8], rows: &[u32], i: usize) -> 
     if !kinds::valid_word(items::word(rows, i, 0), items::word(rows, i, 14)) {
         return false;
     }
-    items::word(rows, i, 15) == 0
+    (items::word(rows, i, 15) as usize) < document.len()
 }
 
 // The first bad row, or n.

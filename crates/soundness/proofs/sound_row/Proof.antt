@@ -19,4 +19,5 @@ sound-row-spec =
     (λ c. search whole)
     (λ c. search whole)
     (λ c. search whole)
+    (λ c. search whole)
     (λ c. search whole))
