@@ -27,6 +27,7 @@ use Rattle.accepted.proofs.Values.{accepts-held}
 use Rattle.accepted.proofs.Triples.{Within}
 use Rattle.accepted.proofs.Rows.{rows-words, rows-show}
 use Rattle.accepted.proofs.States.{accepts-holds}
+use Rattle.accepted.proofs.Members.{accepts-enough}
 use Rattle.accepted.proofs.Soundness.{words-sound}
 
 -- a text, and what stands after it
@@ -43,7 +44,7 @@ module _ (doc : List ℕ) (t : Tables Shown) (e : meaning doc ≡ accepted t) (y
   tables-sound =
       let a = meaning-accepts doc t e in
       let f = a .sound .utf8 in
-      words-sound doc (texts (t .rows) ++ y) f (t .rows) (accepts-holds doc f a) z (omega (arith, bounds.room doc e .few, a .sound .small)) (accepts-held doc a) (from-start (texts (t .rows)) y)
+      words-sound doc (texts (t .rows) ++ y) f (t .rows) (accepts-holds doc f a) (accepts-enough doc a) (accepts-held doc a) (from-start (texts (t .rows)) y) z (omega (arith, bounds.room doc e .few, a .sound .small))
 
 -- ---- with the room lent
 
