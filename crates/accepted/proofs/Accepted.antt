@@ -18,10 +18,11 @@ use Rattle.document.specs.declared.Verdict.the-variants.{Accepted}
 use Rattle.items.specs.Words.{rowsShown}
 use Rattle.items.specs.View.{viewRow, textShown}
 use Rattle.items.specs.Sound.{sound, soundness}
-use Rattle.items.specs.Order.{InOrder}
+use Rattle.items.specs.Order.{DocumentOrder}
+use Rattle.items.proofs.Order.{document-in-order}
 use Rattle.bounds.proofs.Whole as bounds
-use Rattle.accepted.specs.Tables.{RowsInOrder}
-use Rattle.accepted.proofs.Order.{accepts-nested, parent-at}
+use Rattle.accepted.specs.Tables.{RowsInDocumentOrder, RowsInOrder}
+use Rattle.accepted.proofs.Order.{accepts-follow, words-ordered}
 use Rattle.accepted.proofs.Folding.{meaning-accepts}
 use Rattle.accepted.proofs.Values.{accepts-held}
 use Rattle.accepted.proofs.Triples.{Within}
@@ -74,21 +75,21 @@ module _ (doc : List ℕ) (r : Room) (t : Tables Shown) (e : read doc r ≡ acce
       rw e
       (tables-sound doc t read-accepts (replicate (r .text - length (texts (t .rows))) 0) (replicate (r .rows - length (wordsFrom 0 (t .rows))) 0))
 
--- ---- in order
+-- ---- in document order
 
-ordered : (doc : List ℕ) (t : Tables Shown) → meaning doc ≡ accepted t → (z : List ℕ) (i : ℕ) → InOrder (wordsFrom 0 (t .rows) ++ z) (length (t .rows)) i
-ordered doc t e z i j m k a b c l u v w =
-    let n = accepts-nested doc (meaning-accepts doc t e) in
-    let p = parent-at 0 (t .rows) z in
-    n .ordered i j m k a b c l (sym (p j (omega arith)) ∙ u) (sym (p m (omega arith)) ∙ v) (sym (p k l) ∙ w)
+ordered : (doc : List ℕ) (t : Tables Shown) → meaning doc ≡ accepted t → (z : List ℕ) → DocumentOrder (wordsFrom 0 (t .rows) ++ z) (length (t .rows))
+ordered doc t e z = words-ordered (t .rows) z (accepts-follow doc (meaning-accepts doc t e))
 
-pub rows-in-order : RowsInOrder
-rows-in-order doc rows warnings text room n x w s = go (read doc room) refl (s .verdict) (s .rows-left)
+pub rows-in-document-order : RowsInDocumentOrder
+rows-in-document-order doc rows warnings text room n x w s = go (read doc room) refl (s .verdict) (s .rows-left)
   where
-    go : (r : State Shown) → read doc room ≡ r → Accepted n x w ≡ verdictOf r → rows ≡ rowsLeft room r → (i : ℕ) → InOrder rows n i
+    go : (r : State Shown) → read doc room ≡ r → Accepted n x w ≡ verdictOf r → rows ≡ rowsLeft room r → DocumentOrder rows n
     go begun q e f = let z : _≡_ {A = ℕ} 0 1 = cc in absurd (omega arith)
     go (reading fs u) q e f = let z : _≡_ {A = ℕ} 0 1 = cc in absurd (omega arith)
     go (accepted t) q e f =
         let l : n ≡ length (t .rows) = cc in
         rw (f, l) (ordered doc t (read-accepts doc room t q) (replicate (room .rows - length (wordsFrom 0 (t .rows))) 0))
     go (refused y) q e f = let z : _≡_ {A = ℕ} 0 1 = cc in absurd (omega arith)
+
+pub rows-in-order : RowsInOrder
+rows-in-order doc rows warnings text room n x w s = document-in-order rows n (rows-in-document-order doc rows warnings text room n x w s)

@@ -22,15 +22,15 @@ use Rattle.items.specs.Sound.{membersOf, keyed, anyMember, counted}
 use Rattle.items.specs.Order.{parentAt, Under, DocumentOrder}
 use Rattle.items.proofs.Rows.{length-rowsOf, row-at, row-word}
 use Rattle.items.proofs.Words.{word-in}
-use Rattle.items.proofs.Order.{Falling, under-up, under-before, order-falls, run-ends}
+use Rattle.items.proofs.Order.{Falls, under-up, under-before, follow-falls, run-ends}
 use Rattle.soundness.specs.Outcome.{Follows, Orders, Member, membersFrom, NextMember, Keyed, Counted}
 
 -- ---- document order
 
 -- a walk up from row k, which stands at u, a row plus one
 pub record Walk (ws : List ℕ) (k p u : ℕ) : Type 0 where
-  pub down : Under ws p u → Under ws p k
-  pub up : Under ws p k → Under ws p u
+  pub down : Under (parentAt ws) p u → Under (parentAt ws) p k
+  pub up : Under (parentAt ws) p k → Under (parentAt ws) p u
   pub within : u ≤ k
 
 pub walk-begins : (ws : List ℕ) (k p : ℕ) → Walk ws k p k
@@ -39,7 +39,7 @@ walk-begins ws k p = record { down = λ h. h; up = λ h. h; within = omega arith
 module _ {ws : List ℕ} {k p u : ℕ} (o : DocumentOrder ws k) (g : Walk ws k p u) where
   -- each step goes to a smaller row
   pub walk-falls : {w : ℕ} → p < u → Word ws (u - 1) 1 w → w < u
-  walk-falls h a = omega (arith, order-falls o .falls (u - 1) (omega (arith, g .within)), a .is)
+  walk-falls h a = omega (arith, follow-falls (parentAt ws) k (o .under) (u - 1) (omega (arith, g .within)), a .is)
 
   pub walk-more : {w : ℕ} → p < u → Word ws (u - 1) 1 w → Walk ws k p w
   walk-more {w} h a =
@@ -54,7 +54,7 @@ module _ {ws : List ℕ} {k p u : ℕ} (o : DocumentOrder ws k) (g : Walk ws k p
   pub walk-ends : u ≤ p → Word ws k 1 p → Follows ws k (eqb u p)
   walk-ends h a = record {
     is = λ e. let z : u ≡ p = eqb-true u p e in rw (← a .is) (g .down (rw z Under.itself));
-    exact = λ q. eq-eqb u p (omega (arith, h, under-before (order-falls o) (g .up (rw (a .is) q)) (g .within)));
+    exact = λ q. eq-eqb u p (omega (arith, h, under-before k (follow-falls (parentAt ws) k (o .under)) (g .up (rw (a .is) q)) (g .within)));
   }
 
 pub ruleset walks = (walk-begins, walk-falls, walk-more, walk-ends, needs)
@@ -115,10 +115,10 @@ module _ (ws : List ℕ) (n i : ℕ) where
       rw e at (members-skip (n - k) k (omega arith) (λ m a b. h m a (omega arith))) ∙ members-past n (omega arith)
 
   -- the members of row i stand after it
-  pub members-after : i < n → Falling ws (suc i) → membersOf (suc i) (rowsOf n ws) ≡ membersFrom ws n i (suc i)
+  pub members-after : i < n → Falls (parentAt ws) (suc i) → membersOf (suc i) (rowsOf n ws) ≡ membersFrom ws n i (suc i)
   members-after l f =
       rw zero-add at
-      (members-skip (suc i) 0 (omega arith) (λ m a b e. absurd (omega (arith, f .falls m (omega arith)))))
+      (members-skip (suc i) 0 (omega arith) (λ m a b e. absurd (omega (arith, f m (omega arith)))))
 
 -- ---- the next member
 
@@ -149,7 +149,7 @@ module _ {ws : List ℕ} {n i from k : ℕ} (g : Seeking ws n i from k) where
     pub seek-run-ends : {o : Bool} {p : ℕ} → Orders ws n o → o ≡ true → Word ws k 1 p → p ≤ i → NextMember ws n i from n
     seek-run-ends o e p h =
         nowhere
-        (g .same ∙ members-none ws n i k (omega arith) (run-ends (o .is e) i k (g .onward) (omega (arith, p .is))))
+        (g .same ∙ members-none ws n i k (omega arith) (run-ends (parentAt ws) n (o .is e .under) i k (g .onward) (omega (arith, p .is))))
 
     module _ {b : Bool} (m : Member ws i k b) where
       pub seek-found : b ≡ true → NextMember ws n i from k

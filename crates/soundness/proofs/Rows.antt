@@ -19,7 +19,7 @@ use Rattle.items.specs.Words.{RowWords, wordAt, Word, tripleAt, TripleIs, rowOf
 use Rattle.items.specs.Sound.{kindAt, placed, goodTriple, nameUse, valueUse, tpUse, docUse, validName, validValue, anyText, inDocument, validWord, goodRow, soundRow, firstBad, sound, unsound, soundness}
 use Rattle.items.specs.Order.{parentAt}
 use Rattle.items.proofs.Rows.{row-at, row-word, rows-past, kind-at, before-it, row-parts}
-use Rattle.items.proofs.Order.{falling-more}
+use Rattle.items.proofs.Order.{Falls, falls-more}
 use Rattle.items.proofs.Words.{word-in}
 use Rattle.soundness.specs.declared.Soundness.{Soundness}
 use Rattle.soundness.specs.Outcome.{goodDoc, goodFront, goodBack, Placed, Front, Back, RowGood, Counted, RowSound, Judges}
@@ -165,7 +165,7 @@ module _ {d x ws : List ℕ} {n i : ℕ} {b : Bool} (l : i < n) (g : RowGood d x
     is = λ f.
         let e : goodRow d x (rowsOf n ws) i (rowOf (drop (i * 16) ws)) ≡ true = sym (g .is n l) ∙ not-false b q in
         let h = rw (row-word i 1 ws) at (good-placed d x (rowsOf n ws) i (rowOf (drop (i * 16) ws)) e) in
-        c .is ∙ rw (e, members-after ws n i l (falling-more {ws = ws} (record { falls = f }) h));
+        c .is ∙ rw (e, members-after ws n i l (falls-more (parentAt ws) i f h));
   }
 
 pub ruleset sound-rows = (row-bad, row-counted, needs)
@@ -176,7 +176,7 @@ pub ruleset sound-rows = (row-bad, row-counted, needs)
 pub record Checking (d x ws : List ℕ) (n i : ℕ) : Type 0 where
   pub left : firstBad d x (rowsOf n ws) 0 (rowsOf n ws) ≡ firstBad d x (rowsOf n ws) i (drop i (rowsOf n ws))
   pub inside : i ≤ n
-  pub before : (k : ℕ) → k < i → parentAt ws k ≤ k
+  pub before : Falls (parentAt ws) i
 
 pub check-begins : (d x ws : List ℕ) (n : ℕ) → Checking d x ws n 0
 check-begins d x ws n = record { left = refl; inside = omega arith; before = λ k l. absurd (omega arith) }
@@ -198,7 +198,7 @@ module _ {d x ws : List ℕ} {n i : ℕ} (g : Checking d x ws n i) where
         record {
           left = g .left ∙ rw (add-one, row-at n i ws h, e);
           inside = omega arith;
-          before = λ k l. falling-more {ws = ws} (record { falls = g .before }) p .falls k (omega arith);
+          before = λ k l. falls-more (parentAt ws) i (g .before) p k (omega arith);
         }
 
 pub ruleset checks = (check-begins, check-ends, check-stops, check-more, needs)

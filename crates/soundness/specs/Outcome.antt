@@ -60,8 +60,8 @@ pub record RowGood (document text ws : List ℕ) (i : ℕ) (r : Bool) : Type 0 w
 
 -- whether row k's parent is the row before it, or above that, where the rows before it are in document order; whether n rows are
 pub record Follows (ws : List ℕ) (k : ℕ) (r : Bool) : Type 0 where
-  pub is : r ≡ true → Under ws (parentAt ws k) k
-  pub exact : Under ws (parentAt ws k) k → r ≡ true
+  pub is : r ≡ true → Under (parentAt ws) (parentAt ws k) k
+  pub exact : Under (parentAt ws) (parentAt ws k) k → r ≡ true
 
 pub record Orders (ws : List ℕ) (n : ℕ) (r : Bool) : Type 0 where
   pub is : r ≡ true → DocumentOrder ws n
