@@ -2,7 +2,7 @@
 -- after them in the buffers lent.
 -- Assumes nothing.
 use Prim.Native.Nat.{ℕ, _-_, _/_}
-use mathlib.Core.Path.{_≡_, refl, sym, _∙_}
+use mathlib.Core.Path.{_≡_, refl}
 use mathlib.Core.List.{List, [], _++_, map}
 use mathlib.Core.Bool.{Bool, true, false, _||_}
 use native.Mathlib.Omega.{arith}

@@ -5,9 +5,8 @@ use Prim.Native.Nat.{ℕ, zero, suc, _≤_, _<_}
 use mathlib.Core.Path.{_≡_, refl, ap, sym, _∙_}
 use mathlib.Core.List.{List, [], _∷_, _++_}
 use mathlib.Core.Option.{Option, none, some}
-use mathlib.Core.Bool.{Bool, true, false, _&&_, and-false}
+use mathlib.Core.Bool.{Bool, true, false}
 use borrow.Author.Tests.{eqb-true, eqb-false, ne-eqb, eq-eqb}
-use native.Mathlib.Numerals.{add-one}
 use native.Mathlib.Omega.{arith}
 use lib.Dec.{eqb}
 use lib.ListN.{length, take, length-append}
@@ -21,7 +20,7 @@ use Rattle.document.specs.Tags.{Shown}
 use Rattle.document.specs.Tokens.{Tag, Token, start, close, fault, end}
 use Rattle.document.specs.Rows.{Doc, Row, Tables, documented}
 use Rattle.document.specs.Elements.{among, mayHold, attr, kept, Opened, opens, refuses, opensAs}
-use Rattle.document.specs.Reading.{Parts, Definition, Frame, element, definition, passing, parentOf, isSome, partsReason, reasonOf, partOf, notedIn, noted, frameOf}
+use Rattle.document.specs.Reading.{Definition, Frame, element, definition, passing, parentOf, isSome, partsReason, reasonOf, partOf, notedIn, noted, frameOf}
 use Rattle.document.specs.Outcome.{whole}
 use Rattle.document.proofs.Tests.{never, either, among-each}
 use Rattle.document.proofs.Steps.{Begins, Known, Closes, Ways}

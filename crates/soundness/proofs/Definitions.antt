@@ -3,22 +3,21 @@
 use Prim.Native.Nat.{ℕ, zero, suc, _+_, _*_, _-_, _≤_, _<_}
 use mathlib.Core.Path.{_≡_, refl, sym, ap, _∙_}
 use mathlib.Core.List.{List, [], _∷_}
-use mathlib.Core.Bool.{Bool, true, false, not, _&&_, and-false}
+use mathlib.Core.Bool.{Bool, true, false, not, and-false}
 use borrow.Author.Needs.{needs}
 use borrow.Author.Tests.{eq-eqb, ne-eqb, eqb-true, le-ltb, lt-ltb, not-true, not-false}
 use native.Mathlib.Nat.{add-zero, zero-add}
 use native.Mathlib.Numerals.{add-one}
 use native.Mathlib.Omega.{arith}
-use lib.Dec.{eqb, ltb, leb}
-use lib.ListN.{length, drop, getD, drop-of-length-le}
-use Rattle.slices.specs.Bytes.{if}
+use lib.Dec.{eqb, ltb}
+use lib.ListN.{drop, getD, drop-of-length-le}
 use Rattle.utf8.proofs.Sequences.{below}
 use Rattle.names.specs.Signature.{basicSignature}
 use Rattle.tables.specs.Triple.{shown}
 use Rattle.tables.specs.declared.Triple.{Triple}
 use Rattle.document.specs.Kinds as kinds
 use Rattle.items.specs.Words.{RowWords, Word, TripleIs, rowOf, rowsOf, isChild}
-use Rattle.items.specs.Sound.{membersOf, keyed, anyMember, counted}
+use Rattle.items.specs.Sound.{membersOf, counted}
 use Rattle.items.specs.Order.{parentAt, Under, DocumentOrder}
 use Rattle.items.proofs.Rows.{length-rowsOf, row-at, row-word}
 use Rattle.items.proofs.Words.{word-in}
