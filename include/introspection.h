@@ -184,8 +184,9 @@ void introspection_unescape(const uint8_t *value, size_t value_length, uint8_t *
  * members is not, nor a mapping that has not exactly two members, the first with a basic signature.
  *
  * Each call checks every row claimed, in time in proportion to them where they stand in the order that
- * introspection_read leaves, else up to the mappings times the rows. So whoever writes many items of a large table hands over, for each item, a table
- * of a node, an interface and the item's own rows, with the parents' numbers moved.
+ * introspection_read leaves, else up to the structs and mappings times the rows. So whoever writes many items of a
+ * large table hands over, for each item, a table of a node, an interface and the item's own rows, with the parents'
+ * numbers moved.
  *
  * answer: number, place, bytes written. Refusals: 2, 19, 20, 21. To learn the size, call with output_length 0: the
  * number is then 21 and the place the bytes needed.
