@@ -182,10 +182,13 @@ void introspection_unescape(const uint8_t *value, size_t value_length, uint8_t *
  * Writes the method, signal, annotation or arg of a row as XML, with the args and annotations in it; docstrings and tp
  * types are not written. document, text and rows are as introspection_read left them, with the rows of its answer as
  * rows_claimed; or made by the caller: the rows are checked first, and refused if they are not sound. Word 15 of a sound
- * row is below document_length, so over an empty document no row is sound; it is not written.
+ * row is below document_length, so over an empty document no row is sound; it is not written. A struct without members is
+ * not sound, nor a mapping that has not exactly two members, the first with a basic signature.
  *
- * Each call checks every row claimed, so whoever writes many items of a large table hands over, for each item, a table
- * of a node, an interface and the item's own rows, with the parents' numbers moved.
+ * Each call checks every row claimed, in time in proportion to them where they stand in the order that
+ * introspection_read leaves, else up to the structs and mappings times the rows. So whoever writes many items of a
+ * large table hands over, for each item, a table of a node, an interface and the item's own rows, with the parents'
+ * numbers moved.
  *
  * answer: number, place, bytes written. Refusals: 2, 19, 20, 21. To learn the size, call with output_length 0: the
  * number is then 21 and the place the bytes needed.

@@ -18,17 +18,19 @@ use Rattle.document.specs.declared.Verdict.the-variants.{Accepted}
 use Rattle.items.specs.Words.{RowWords, wordAt, rowsShown}
 use Rattle.items.specs.View.{viewRow, textShown}
 use Rattle.items.specs.Sound.{sound, soundness}
-use Rattle.items.specs.Order.{InOrder}
+use Rattle.items.specs.Order.{DocumentOrder}
+use Rattle.items.proofs.Order.{document-in-order}
 use Rattle.items.proofs.Rows.{row-word}
 use Rattle.bounds.proofs.Whole as bounds
-use Rattle.accepted.specs.Tables.{RowsInOrder, Begins, RowsBegin}
-use Rattle.accepted.proofs.Order.{accepts-nested}
+use Rattle.accepted.specs.Tables.{RowsInOrder, Begins, RowsBegin, RowsInDocumentOrder}
+use Rattle.accepted.proofs.Order.{accepts-follow, words-ordered}
 use Rattle.accepted.proofs.Folding.{meaning-accepts}
 use Rattle.accepted.proofs.Values.{accepts-held}
 use Rattle.accepted.proofs.Triples.{Within}
 use Rattle.accepted.proofs.Rows.{rows-words, rows-show, row-back}
 use Rattle.accepted.proofs.Frames.{Placed}
 use Rattle.accepted.proofs.States.{blank, rowAt, accepts-holds}
+use Rattle.accepted.proofs.Members.{accepts-enough}
 use Rattle.accepted.proofs.Soundness.{words-sound}
 
 -- a text, and what stands after it
@@ -45,7 +47,7 @@ module _ (doc : List ℕ) (t : Tables Shown) (e : meaning doc ≡ accepted t) (y
   tables-sound =
       let a = meaning-accepts doc t e in
       let f = a .sound .utf8 in
-      words-sound doc (texts (t .rows) ++ y) f (t .rows) (accepts-holds doc f a) z (omega (arith, bounds.room doc e .few, a .sound .small)) (accepts-held doc a) (from-start (texts (t .rows)) y)
+      words-sound doc (texts (t .rows) ++ y) f (t .rows) (accepts-holds doc f a) (accepts-enough doc a) (accepts-held doc a) (from-start (texts (t .rows)) y) z (omega (arith, bounds.room doc e .few, a .sound .small))
 
 -- ---- with the room lent
 
@@ -100,16 +102,16 @@ of-rows P h doc rows warnings text room n x w s = go (read doc room) refl (s .ve
         rw (f, l) (h doc t (read-accepts doc room t q) (replicate (room .rows - length (wordsFrom 0 (t .rows))) 0))
     go (refused y) q e f = let z : _≡_ {A = ℕ} 0 1 = cc in absurd (omega arith)
 
--- ---- in order
+-- ---- in document order
 
-ordered : (doc : List ℕ) (t : Tables Shown) → meaning doc ≡ accepted t → (z : List ℕ) (i : ℕ) → InOrder (wordsFrom 0 (t .rows) ++ z) (length (t .rows)) i
-ordered doc t e z i j m k a b c l u v w =
-    let n = accepts-nested doc (meaning-accepts doc t e) in
-    let p = words-back (t .rows) z in
-    n .ordered i j m k a b c l (sym (p j (omega arith) .1) ∙ u) (sym (p m (omega arith) .1) ∙ v) (sym (p k l .1) ∙ w)
+ordered : (doc : List ℕ) (t : Tables Shown) → meaning doc ≡ accepted t → (z : List ℕ) → DocumentOrder (wordsFrom 0 (t .rows) ++ z) (length (t .rows))
+ordered doc t e z = words-ordered (t .rows) z (λ i l. words-back (t .rows) z i l .1) (accepts-follow doc (meaning-accepts doc t e))
+
+pub rows-in-document-order : RowsInDocumentOrder
+rows-in-document-order = of-rows (λ doc rows n. DocumentOrder rows n) ordered
 
 pub rows-in-order : RowsInOrder
-rows-in-order = of-rows (λ doc rows n. (i : ℕ) → InOrder rows n i) ordered
+rows-in-order doc rows warnings text room n x w s = document-in-order rows n (rows-in-document-order doc rows warnings text room n x w s)
 
 -- ---- where elements begin
 

@@ -13,5 +13,6 @@ pub mod Frames
 pub mod Entering
 pub mod States
 pub mod Order
+pub mod Members
 pub mod Soundness
 pub mod Accepted

@@ -1,8 +1,8 @@
--- The rows of a state are in order, and those of the open elements stand one in another: every step keeps that. A row more stands in
--- the innermost open element, after whose row no other has the same parent.
+-- The rows of a state are in document order, and the last row stands in the open elements, one in another: every step keeps that. A
+-- row more stands in the innermost.
 -- Assumes nothing.
 use Prim.Native.Nat.{ℕ, suc, _≤_, _<_}
-use mathlib.Core.Path.{_≡_, refl, ap, sym, _∙_}
+use mathlib.Core.Path.{_≡_, refl, ap, sym, _∙_, subst}
 use mathlib.Core.List.{List, [], _∷_, _++_}
 use native.Mathlib.Omega.{arith}
 use lib.ListN.{length, take, length-append}
@@ -11,7 +11,7 @@ use Rattle.utf8.proofs.Sequences.{below}
 use Rattle.document.specs.Kinds.{definitions}
 use Rattle.document.specs.Tags.{Shown}
 use Rattle.document.specs.Tokens.{Tag, Token, start, close, fault, end}
-use Rattle.document.specs.Rows.{Row, Tables}
+use Rattle.document.specs.Rows.{Row, Tables, wordsFrom}
 use Rattle.document.specs.Elements.{among, Opened, opens, refuses, opensAs}
 use Rattle.document.specs.Reading.{Definition, Frame, element, definition, passing, parentOf, notedIn, noted, frameOf}
 use Rattle.document.specs.Outcome.{whole}
@@ -19,6 +19,8 @@ use Rattle.document.proofs.Tests.{either}
 use Rattle.document.proofs.Opens.{any-way}
 use Rattle.document.proofs.Steps.{Begins, Known, Closes, Ways}
 use Rattle.rows.proofs.Words.{length-documented}
+use Rattle.items.specs.Order.{parentAt, Under, DocumentOrder}
+use Rattle.items.proofs.Order.{Falls, Follow, under-up, under-through, follow-falls}
 use Rattle.accepted.proofs.Tokens.{Comes}
 use Rattle.accepted.proofs.Folding.{run-kept, Accepts}
 use Rattle.accepted.proofs.Entries.{Brief}
@@ -30,83 +32,39 @@ use Rattle.accepted.proofs.States.{rowAt, at-more, at-last, at-first, a
 abbrev Alike : ℕ → (ℕ → ℕ) → (ℕ → ℕ) → Type 0
 Alike n f g = (i : ℕ) → i < n → f i ≡ g i
 
--- a parent comes before its row; what stands in a child of a row stands before the next child of that row
-pub record Nested (n : ℕ) (f : ℕ → ℕ) : Type 0 where
-  pub before : (k : ℕ) → k < n → f k ≤ k
-  pub ordered : (i j m k : ℕ) → i < j → j < m → m ≤ k → k < n → f j ≡ suc i → f m ≡ suc i → f k ≡ suc j → ⊥
+-- rows below b of open elements, innermost first: the first is above u, a row plus one, and each next above it
+abbrev Chain : (ℕ → ℕ) → ℕ → ℕ → List ℕ → Type 0
+Chain f b u [] = Unit {0}
+Chain f b u (r ∷ rs) = (r < b) × Under f (suc r) u × Chain f r (suc r) rs
 
--- no row after row r has the same parent
-abbrev Latest : ℕ → (ℕ → ℕ) → ℕ → Type 0
-Latest n f r = (m : ℕ) → r < m → m < n → f m ≡ f r → ⊥
+under-alike : (n : ℕ) (f g : ℕ → ℕ) → Alike n f g → Falls f n → {w v : ℕ} → Under f w v → v ≤ n → Under g w v
+under-alike n f g a d Under.itself l = Under.itself
+under-alike n f g a d {w} (Under.above {u = x} h) l =
+    let b = d x (omega arith) in
+    Under.above (subst (λ j. Under g w j) (a x (omega arith)) (under-alike n f g a d h (omega arith)))
 
--- rows below b of open elements, innermost first
-abbrev Open : ℕ → (ℕ → ℕ) → ℕ → List ℕ → Type 0
-Open n f b [] = Unit {0}
-Open n f b (r ∷ rs) = (r < b) × Latest n f r × Open n f r rs
+follow-alike : (n : ℕ) (f g : ℕ → ℕ) → Alike n f g → Follow f n → Follow g n
+follow-alike n f g a o k l = rw (← a k l) (under-alike n f g a (follow-falls f n o) (o k l) (omega arith))
 
-nested-alike : (n : ℕ) (f g : ℕ → ℕ) → Alike n f g → Nested n f → Nested n g
-nested-alike n f g a h = record {
-  before = λ k l. rw (← a k l) (h .before k l);
-  ordered = λ i j m k x y z l u v w. h .ordered i j m k x y z l (a j (omega arith) ∙ u) (a m (omega arith) ∙ v) (a k l ∙ w);
-}
+chain-alike : (n : ℕ) (f g : ℕ → ℕ) → Alike n f g → Falls f n → (b u : ℕ) (rs : List ℕ) → b ≤ n → u ≤ n → Chain f b u rs → Chain g b u rs
+chain-alike n f g a d b u [] l m h = tt
+chain-alike n f g a d b u (r ∷ rs) l m h =
+    (h .0, under-alike n f g a d (h .1) m, chain-alike n f g a d r (suc r) rs (omega (arith, h .0)) (omega (arith, h .0)) (h .2))
 
-nested-fewer : (n m : ℕ) (f : ℕ → ℕ) → m ≤ n → Nested n f → Nested m f
-nested-fewer n m f l h = record {
-  before = λ k c. h .before k (omega arith);
-  ordered = λ i j p k x y z c u v w. h .ordered i j p k x y z (omega arith) u v w;
-}
-
-open-alike : (n : ℕ) (f g : ℕ → ℕ) (b : ℕ) (rs : List ℕ) → Alike n f g → b ≤ n → Open n f b rs → Open n g b rs
-open-alike n f g b [] a l h = tt
-open-alike n f g b (r ∷ rs) a l h =
-    let c : r < n = omega (arith, h .0) in
-    (h .0, (λ m x y e. h .1 m x y (a m y ∙ e ∙ sym (a r c))), open-alike n f g r rs a (omega arith) (h .2))
-
-open-fewer : (n m : ℕ) (f : ℕ → ℕ) (b : ℕ) (rs : List ℕ) → m ≤ n → Open n f b rs → Open m f b rs
-open-fewer n m f b [] l h = tt
-open-fewer n m f b (r ∷ rs) l h = (h .0, (λ i x y e. h .1 i x (omega arith) e), open-fewer n m f r rs l (h .2))
-
-open-wider : (n : ℕ) (f : ℕ → ℕ) (b c : ℕ) (rs : List ℕ) → b ≤ c → Open n f b rs → Open n f c rs
-open-wider n f b c [] l h = tt
-open-wider n f b c (r ∷ rs) l h = (omega (arith, h .0), h .1, h .2)
+-- what is above a row is above what stands in it
+chain-through : (f : ℕ → ℕ) (b c u v : ℕ) (rs : List ℕ) → b ≤ c → Under f v u → Chain f b v rs → Chain f c u rs
+chain-through f b c u v [] l o h = tt
+chain-through f b c u v (r ∷ rs) l o h = (omega (arith, h .0), under-through o (h .1), h .2)
 
 -- ---- row n, whose parent's row plus one is p
 
-module _ (n : ℕ) (f g : ℕ → ℕ) (a : Alike n f g) (h : Nested n f) (p : ℕ) (e : g n ≡ p) where
-  open-more : (b : ℕ) (rs : List ℕ) → b ≤ p → b ≤ n → Open n f b rs → Open (suc n) g b rs
-  open-more b [] l m o = tt
-  open-more b (r ∷ rs) l m o = (
-    o .0,
-    (λ i x y u. below i n
-        (λ c. open-alike n f g b (r ∷ rs) a m o .1 i x c u)
-        (λ c. let z : n ≡ i = omega arith in omega (arith, o .0, h .before r (omega (arith, o .0)), a r (omega (arith, o .0)), ap g z))),
-    open-more r rs (omega (arith, o .0)) (omega (arith, o .0)) (o .2),
-  )
-
-  nested-more : p ≤ n → ((j m : ℕ) → p ≡ suc j → j < m → m < n → f m ≡ f j → ⊥) → Nested (suc n) g
-  nested-more l o = record {
-    before = λ k c. below k n (λ x. nested-alike n f g a h .before k x) (λ x. let z : n ≡ k = omega arith in omega (arith, ap g z));
-    ordered = λ i j m k x y z c u v w.
-        below k n
-        (λ d. nested-alike n f g a h .ordered i j m k x y z d u v w)
-        (λ d.
-        let q : n ≡ k = omega arith in
-        let s : p ≡ suc j = omega (arith, ap g q) in
-        below m n
-        (λ d. o j m s y d (a m d ∙ v ∙ sym (a j (omega arith) ∙ u)))
-        (λ d. let t : n ≡ m = omega arith in omega (arith, ap g t)));
-  }
-
-  -- in an open element
-  in-row : (r : ℕ) (rs : List ℕ) → p ≡ suc r → Open n f n (r ∷ rs) → Nested (suc n) g × Open (suc n) g (suc n) (n ∷ r ∷ rs)
-  in-row r rs s o = (
-    nested-more (omega (arith, o .0)) (λ j m t x y u. let z : j ≡ r = omega arith in o .1 m (omega arith) y (u ∙ ap f z)),
-    (
-      omega arith,
-      (λ m x y u. absurd (omega arith)),
-      open-wider (suc n) g (suc r) n (r ∷ rs) (omega (arith, o .0)) (open-more (suc r) (r ∷ rs) (omega arith) (omega (arith, o .0)) (omega arith, o .1, o .2)),
-    ),
-  )
+follow-more : (n : ℕ) (f g : ℕ → ℕ) → Alike n f g → Follow f n → {p : ℕ} → g n ≡ p → Under f p n → Follow g (suc n)
+follow-more n f g a o e h k l =
+    below k n
+    (λ m. follow-alike n f g a o k m)
+    (λ m.
+    let z : n ≡ k = omega arith in
+    subst (λ j. Under g (g j) j) z (rw e (under-alike n f g a (follow-falls f n o) h (omega arith))))
 
 -- the rows of open elements
 abbrev openRows : List Frame → List ℕ
@@ -115,12 +73,27 @@ openRows (element k m r ∷ fs) = r ∷ openRows fs
 openRows (definition d ∷ fs) = d .row ∷ openRows fs
 openRows (passing p ns ∷ fs) = openRows fs
 
-row-nested : (n : ℕ) (f g : ℕ → ℕ) → Alike n f g → Nested n f → (k : ℕ) (fs : List Frame) → Begins n k fs → g n ≡ parentOf fs → Open n f n (openRows fs) → Nested (suc n) g × Open (suc n) g (suc n) (n ∷ openRows fs)
-row-nested n f g a h k [] b e o =
-    (nested-more n f g a h 0 e (omega arith) (λ j m s. absurd (omega arith)), (omega arith, (λ m x y u. absurd (omega arith)), tt))
-row-nested n f g a h k (element c m r ∷ fs) b e o = in-row n f g a h (suc r) e r (openRows fs) refl o
-row-nested n f g a h k (definition d ∷ fs) b e o = in-row n f g a h (suc (d .row)) e (d .row) (openRows fs) refl o
-row-nested n f g a h k (passing p ns ∷ fs) b e o = none-passing k b
+module _ (n : ℕ) (f g : ℕ → ℕ) (a : Alike n f g) (o : Follow f n) where
+  -- in an open element
+  in-row : (r : ℕ) (rs : List ℕ) → g n ≡ suc r → Chain f n n (r ∷ rs) → Follow g (suc n) × Chain g (suc n) (suc n) (n ∷ r ∷ rs)
+  in-row r rs e c = (
+    follow-more n f g a o e (c .1),
+    (
+      omega arith,
+      Under.itself,
+      (
+        omega (arith, c .0),
+        Under.above (subst (λ j. Under g (suc r) j) (sym e) Under.itself),
+        chain-alike n f g a (follow-falls f n o) r (suc r) rs (omega (arith, c .0)) (omega (arith, c .0)) (c .2),
+      ),
+    ),
+  )
+
+  row-follows : (k : ℕ) (fs : List Frame) → Begins n k fs → g n ≡ parentOf fs → Chain f n n (openRows fs) → Follow g (suc n) × Chain g (suc n) (suc n) (n ∷ openRows fs)
+  row-follows k [] b e c = (follow-more n f g a o e (subst (λ j. Under f 0 j) (sym (b .0)) Under.itself), (omega arith, Under.itself, tt))
+  row-follows k (element y m r ∷ fs) b e c = in-row r (openRows fs) e c
+  row-follows k (definition d ∷ fs) b e c = in-row (d .row) (openRows fs) e c
+  row-follows k (passing p ns ∷ fs) b e c = none-passing k b
 
 -- ---- frames
 
@@ -142,19 +115,19 @@ abbrev pub parentIn : List (Row Shown) → ℕ → ℕ
 parentIn rs i = rowAt rs i .parent
 
 record Holds (fs : List Frame) (rs : List (Row Shown)) : Type 0 where
-  pub nested : Nested (length rs) (parentIn rs)
-  pub inside : Open (length rs) (parentIn rs) (length rs) (openRows fs)
+  pub follow : Follow (parentIn rs) (length rs)
+  pub inside : Chain (parentIn rs) (length rs) (length rs) (openRows fs)
 
 -- other rows with the same parents
 same-holds : (fs : List Frame) (rs ss : List (Row Shown)) → length ss ≡ length rs → Alike (length rs) (parentIn rs) (parentIn ss) → Holds fs rs → Holds fs ss
 same-holds fs rs ss e a h = record {
-  nested = rw e (nested-alike (length rs) (parentIn rs) (parentIn ss) a (h .nested));
-  inside = rw e (open-alike (length rs) (parentIn rs) (parentIn ss) (length rs) (openRows fs) a (omega arith) (h .inside));
+  follow = rw e (follow-alike (length rs) (parentIn rs) (parentIn ss) a (h .follow));
+  inside = rw e (chain-alike (length rs) (parentIn rs) (parentIn ss) a (follow-falls (parentIn rs) (length rs) (h .follow)) (length rs) (length rs) (openRows fs) (omega arith) (omega arith) (h .inside));
 }
 
 row-holds : (k : ℕ) (t : Tag) (r : Row Shown) (fs : List Frame) (rs : List (Row Shown)) → Begins (length rs) k fs → r .parent ≡ parentOf fs → Holds fs rs → Holds (frameOf k t (length rs) ∷ noted k t fs) (rs ++ r ∷ [])
 row-holds k t r fs rs b e h = record {
-  nested = rw long (x .0);
+  follow = rw long (x .0);
   inside = rw (long, entered-rows k t (length rs) (noted k t fs), noted-rows k t fs) (x .1);
 }
   where
@@ -164,11 +137,16 @@ row-holds k t r fs rs b e h = record {
     last : parentIn (rs ++ r ∷ []) (length rs) ≡ parentOf fs
     last = ap (λ (b : Brief). b .parent) (at-last rs r) ∙ e
 
-    x : Nested (suc (length rs)) (parentIn (rs ++ r ∷ [])) × Open (suc (length rs)) (parentIn (rs ++ r ∷ [])) (suc (length rs)) (length rs ∷ openRows fs)
-    x = row-nested (length rs) (parentIn rs) (parentIn (rs ++ r ∷ [])) (λ i l. ap (λ (b : Brief). b .parent) (at-more rs r i l)) (h .nested) k fs b last (h .inside)
+    x : Follow (parentIn (rs ++ r ∷ [])) (suc (length rs)) × Chain (parentIn (rs ++ r ∷ [])) (suc (length rs)) (suc (length rs)) (length rs ∷ openRows fs)
+    x = row-follows (length rs) (parentIn rs) (parentIn (rs ++ r ∷ [])) (λ i l. ap (λ (b : Brief). b .parent) (at-more rs r i l)) (h .follow) k fs b last (h .inside)
 
-popped : (r : ℕ) (gs : List ℕ) (rs : List (Row Shown)) → Open (length rs) (parentIn rs) (length rs) (r ∷ gs) → Open (length rs) (parentIn rs) (length rs) gs
-popped r gs rs h = open-wider (length rs) (parentIn rs) r (length rs) gs (omega (arith, h .0)) (h .2)
+popped : (r : ℕ) (gs : List ℕ) (rs : List (Row Shown)) → Chain (parentIn rs) (length rs) (length rs) (r ∷ gs) → Chain (parentIn rs) (length rs) (length rs) gs
+popped r gs rs h = chain-through (parentIn rs) r (length rs) (length rs) (suc r) gs (omega (arith, h .0)) (h .1) (h .2)
+
+-- the rows before a definition: its parent is the last of them, or above that
+dropped-chain : (f : ℕ → ℕ) (n r : ℕ) (gs : List ℕ) → Follow f n → r < n → Chain f r (suc r) gs → Chain f r r gs
+dropped-chain f n r [] o l h = tt
+dropped-chain f n r (q ∷ gs) o l h = (h .0, under-through (o r l) (under-up (h .1) r refl (λ z. absurd (omega (arith, h .0)))), h .2)
 
 dropped-holds : (d : Definition) (fs : List Frame) (rs : List (Row Shown)) → Holds (definition d ∷ fs) rs → Holds fs (take (d .row) rs)
 dropped-holds d fs rs h =
@@ -177,11 +155,12 @@ dropped-holds d fs rs h =
     let f = parentIn rs in
     let g = parentIn (take r rs) in
     let a : Alike r f g = λ i l. ap (λ (b : Brief). b .parent) (at-first r rs i l) in
-    let l : r ≤ n = omega (arith, h .inside .0) in
-    let m : length (take r rs) ≡ r = length-take-le r rs l in
+    let l : r < n = h .inside .0 in
+    let m : length (take r rs) ≡ r = length-take-le r rs (omega arith) in
+    let o : Follow f r = λ k c. h .follow k (omega arith) in
     record {
-      nested = rw m (nested-alike r f g a (nested-fewer n r f l (h .nested)));
-      inside = rw m (open-alike r f g r (openRows fs) a (omega arith) (open-fewer n r f r (openRows fs) l (h .inside .2)));
+      follow = rw m (follow-alike r f g a o);
+      inside = rw m (chain-alike r f g a (follow-falls f r o) r r (openRows fs) (omega arith) (omega arith) (dropped-chain f n r (openRows fs) (h .follow) l (h .inside .2)));
     }
 
 -- the row of a tag has the parent that it is given
@@ -199,8 +178,8 @@ module _ (doc : List ℕ) where
   closes : Closes whole doc held held
   unfolding held
   closes = record {
-    element = λ k n r fs u h. record { nested = h .nested; inside = popped r (openRows fs) (u .rows) (h .inside) };
-    whole = λ d fs u e h. record { nested = h .nested; inside = popped (d .row) (openRows fs) (u .rows) (h .inside) };
+    element = λ k n r fs u h. record { follow = h .follow; inside = popped r (openRows fs) (u .rows) (h .inside) };
+    whole = λ d fs u e h. record { follow = h .follow; inside = popped (d .row) (openRows fs) (u .rows) (h .inside) };
     broken = λ d fs u h. dropped-holds d fs (u .rows) h;
     root = λ u h. h;
   }
@@ -215,26 +194,33 @@ module _ (doc : List ℕ) where
     refusal = λ k p x e. tt;
     deep = tt;
     warning = λ fs u c h. h;
-    skips = λ fs u h. record { nested = h .nested; inside = h .inside };
-    docstring = λ f fs u d h. record { nested = h .nested; inside = h .inside };
-    within = λ p ns fs u h. record { nested = h .nested; inside = h .inside };
+    skips = λ fs u h. record { follow = h .follow; inside = h .inside };
+    docstring = λ f fs u d h. record { follow = h .follow; inside = h .inside };
+    within = λ p ns fs u h. record { follow = h .follow; inside = h .inside };
   }
   ways (close lt n q) c = record {
     closes = closes;
-    passed = λ p ns fs u h. record { nested = h .nested; inside = h .inside };
+    passed = λ p ns fs u h. record { follow = h .follow; inside = h .inside };
     docstring = λ s r ns fs u h.
         same-holds fs (u .rows) _ (length-documented _ r (u .rows)) (λ i l. ap (λ (b : Brief). b .parent) (at-documented r _ (u .rows) i))
-        (record { nested = h .nested; inside = h .inside });
-    within = λ p n ns fs u h. record { nested = h .nested; inside = h .inside };
+        (record { follow = h .follow; inside = h .inside });
+    within = λ p n ns fs u h. record { follow = h .follow; inside = h .inside };
     another = tt;
     none = tt;
   }
   ways (fault n p) c = tt
   ways (end p) c = (tt, tt)
 
-  pub accepts-nested : {u : Tables Shown} → Accepts doc u → Nested (length (u .rows)) (parentIn (u .rows))
+  pub accepts-follow : {u : Tables Shown} → Accepts doc u → Follow (parentIn (u .rows)) (length (u .rows))
   unfolding held
-  accepts-nested {u} a =
-      let h : Holds [] (u .rows) = rw (a .reads) at
-      (run-kept doc held ways (λ h. record { nested = record { before = λ k l. absurd (omega arith); ordered = λ i j m k x y z l. absurd (omega arith) }; inside = tt }) (λ u h. h) tt) in
-      h .nested
+  accepts-follow {u} a =
+      let h : Holds [] (u .rows) = rw (a .reads) at (run-kept doc held ways (λ h. record { follow = λ k l. absurd (omega arith); inside = tt }) (λ u h. h) tt) in
+      h .follow
+
+-- ---- the words of rows
+
+-- the words of rows in document order are
+pub words-ordered : (rs : List (Row Shown)) (z : List ℕ) → ((i : ℕ) → i < length rs → parentAt (wordsFrom 0 rs ++ z) i ≡ parentIn rs i) → Follow (parentIn rs) (length rs) → DocumentOrder (wordsFrom 0 rs ++ z) (length rs)
+words-ordered rs z p o = record {
+  under = follow-alike (length rs) (parentIn rs) (parentAt (wordsFrom 0 rs ++ z)) (λ i l. sym (p i l)) o;
+}

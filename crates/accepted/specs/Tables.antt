@@ -11,9 +11,16 @@ use Rattle.document.specs.Elements.{kindOf}
 use Rattle.document.specs.Whole.{Room, Says}
 use Rattle.document.specs.declared.Verdict.the-variants.{Accepted}
 use Rattle.items.specs.Words.{wordAt}
-use Rattle.items.specs.Order.{InOrder}
+use Rattle.items.specs.Order.{InOrder, DocumentOrder}
 
--- the n rows of a document that is accepted are in order: what stands in a child of a row stands before the next child of that row
+-- the n rows of a document that is accepted are in document order: each row's parent is the row before it, or above that
+abbrev pub RowsInDocumentOrder : Type 0
+RowsInDocumentOrder =
+    (doc rows warnings text : List ℕ) (room : Room) (n x w : ℕ) →
+    Says doc room rows warnings text (Accepted n x w) →
+    DocumentOrder rows n
+
+-- and so in order: what stands in a child of a row stands before the next child of that row
 abbrev pub RowsInOrder : Type 0
 RowsInOrder =
     (doc rows warnings text : List ℕ) (room : Room) (n x w : ℕ) →

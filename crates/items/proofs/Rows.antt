@@ -14,7 +14,7 @@ use Rattle.slices.specs.Bytes.{if}
 use Rattle.document.specs.Kinds as kinds
 use Rattle.document.specs.Elements.{mayHold}
 use Rattle.items.specs.Words.{RowWords, rowOf, rowsOf}
-use Rattle.items.specs.Sound.{kindAt, placed, goodTriple, nameUse, valueUse, tpUse, docUse, validName, validValue, anyText, inDocument, validWord, soundRow, firstBad, sound, unsound, soundness}
+use Rattle.items.specs.Sound.{kindAt, placed, goodTriple, nameUse, valueUse, tpUse, docUse, validName, validValue, anyText, inDocument, validWord, soundRow, firstBad, sound, unsound, soundness, membersOf, goodRow, counted}
 
 -- ---- the row at a place
 
@@ -56,7 +56,7 @@ pub both-true : (a b : Bool) → a && b ≡ true → (a ≡ true) × (b ≡ true
 both-true true b e = (refl, e)
 both-true false b e = (cc, cc)
 
-before-it : (rows : List RowWords) (i : ℕ) (r : RowWords) → placed rows i r ≡ true → r .parent ≤ i
+pub before-it : (rows : List RowWords) (i : ℕ) (r : RowWords) → placed rows i r ≡ true → r .parent ≤ i
 before-it rows zero r e = omega (arith, eqb-true (r .parent) 0 (both-true (eqb (r .kind) kinds.node) (eqb (r .parent) 0) e .1))
 before-it rows (suc i) r e =
     let p = both-true (ltb 0 (r .parent) && leb (r .parent) (suc i)) (mayHold (kindAt rows (r .parent - 1)) (r .kind)) e in
@@ -72,10 +72,12 @@ pub record RowIs (d x : List ℕ) (rows : List RowWords) (i : ℕ) (r : RowWords
   pub source : inDocument (r .doc) ≡ true
   pub word : validWord (r .kind) (r .word) ≡ true
   pub at : ltb (r .at) (length d) ≡ true
+  pub counted : counted d x (r .kind) (membersOf (suc i) rows) ≡ true
 
 pub row-parts : (d x : List ℕ) (rows : List RowWords) (i : ℕ) (r : RowWords) → soundRow d x rows i r ≡ true → RowIs d x rows i r
-unfolding soundRow
+unfolding soundRow goodRow
 row-parts d x rows i r e =
+    let both = both-true (goodRow d x rows i r) (counted d x (r .kind) (membersOf (suc i) rows)) e in
     go
     (placed rows i r)
     (goodTriple d x (nameUse (r .kind)) (validName (r .kind)) (r .name))
@@ -85,8 +87,8 @@ row-parts d x rows i r e =
     (inDocument (r .doc))
     (validWord (r .kind) (r .word))
     (ltb (r .at) (length d))
-    e
-    (λ p n v t o s w l. record { placed = p; name = n; value = v; tp = t; doc = o; source = s; word = w; at = l })
+    (both .0)
+    (λ p n v t o s w l. record { placed = p; name = n; value = v; tp = t; doc = o; source = s; word = w; at = l; counted = both .1 })
   where
     go : {A : Type 0} (p n v t o s w l : Bool) → p && n && v && t && o && s && w && l ≡ true → (p ≡ true → n ≡ true → v ≡ true → t ≡ true → o ≡ true → s ≡ true → w ≡ true → l ≡ true → A) → A
     go p n v t o s w l e f =

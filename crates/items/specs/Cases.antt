@@ -12,7 +12,7 @@ use Rattle.tables.specs.Triple.{shown}
 use Rattle.answers.specs.Text.{Text, text, wrong}
 use Rattle.references.specs.Escape.{escape}
 use Rattle.document.specs.Elements.{mayHold}
-use Rattle.items.specs.Sound.{goodTriple, soundRow, Soundness, sound, unsound, soundness}
+use Rattle.items.specs.Sound.{goodTriple, soundRow, Soundness, sound, unsound, soundness, goodRow, counted}
 use Rattle.items.specs.Written.{tag, closingTag}
 use Rattle.items.specs.Content.{content}
 use Rattle.items.specs.Writing.{writing}
@@ -55,6 +55,24 @@ begun p = 1 ∷ replicate 14 0 ++ (p ∷ [])
 abbrev pub special : List ℕ
 special = bytes "<\"&s"
 
+-- a node and a definition of kind k in it, then rows
+abbrev pub defined : ℕ → List ℕ → List ℕ
+defined k more = 1 ∷ replicate 15 0 ++ (k ∷ 1 ∷ 1 ∷ 23 ∷ 3 ∷ replicate 11 0) ++ more
+
+-- a row of kind k in it, with words 5-7
+abbrev pub part : ℕ → ℕ → ℕ → ℕ → List ℕ
+part k source start len = k ∷ 2 ∷ 1 ∷ 23 ∷ 3 ∷ source ∷ start ∷ len ∷ replicate 8 0
+
+-- a member with a signature of the text: `s` at 0, `ss` too, `v` at 2; one without
+abbrev pub signatures : List ℕ
+signatures = bytes "ssv"
+
+abbrev pub signed : ℕ → ℕ → List ℕ
+signed start len = part 12 2 start len
+
+abbrev pub unsigned : List ℕ
+unsigned = part 12 0 0 0
+
 abbrev pub cases : List (Asked × Result)
 cases =
     (checks [] rows 3, said sound)
@@ -67,6 +85,19 @@ cases =
     ∷ (checks special (arg 4) 4, said (unsound 3))
     ∷ (checks [] (arg 3) 4, said (unsound 3))
     ∷ (checks special annotation 3, said sound)
+    ∷ (checks signatures (defined 11 (99 ∷ replicate 15 0)) 3, said (unsound 1))
+    ∷ (checks signatures (defined 11 unsigned) 3, said (unsound 2))
+    ∷ (checks signatures (defined 13 (unsigned ++ signed 0 1)) 4, said (unsound 1))
+    ∷ (checks signatures (defined 13 (signed 0 1 ++ unsigned)) 4, said (unsound 3))
+    ∷ (checks signatures (defined 11 (signed 0 2)) 3, said sound)
+    ∷ (checks signatures (defined 11 (signed 0 2)) 2, said (unsound 1))
+    ∷ (checks signatures (defined 13 (signed 0 1 ++ signed 2 1)) 4, said sound)
+    ∷ (checks signatures (defined 13 (signed 0 1 ++ signed 2 1)) 3, said (unsound 1))
+    ∷ (checks signatures (defined 13 (signed 0 1 ++ signed 0 1 ++ signed 0 1)) 5, said (unsound 1))
+    ∷ (checks signatures (defined 13 (signed 2 1 ++ signed 0 1)) 4, said (unsound 1))
+    ∷ (checks signatures (defined 13 (signed 0 2 ++ signed 0 1)) 4, said (unsound 1))
+    ∷ (checks signatures (defined 13 (signed 3 1 ++ signed 0 1)) 4, said (unsound 1))
+    ∷ (checks signatures (defined 13 (signed 0 1 ++ part 10 2 0 1 ++ signed 0 1)) 5, said (unsound 3))
     ∷ (writes [] rows 3 2 18, answered (text (bytes "<method name=\"M\"/>")))
     ∷ (writes [] rows 3 2 17, answered (wrong 21 18))
     ∷ (writes [] rows 3 1 18, answered (wrong 20 1))
@@ -79,5 +110,5 @@ cases =
     ∷ []
 
 pub worked : map (λ c. resultFor (c .0)) cases ≡ map (λ c. c .1) cases
-unfolding soundness soundRow goodTriple shown mayHold illFormed sequence interfaceName memberName signature writing content tag closingTag escape
+unfolding soundness soundRow goodRow counted goodTriple shown mayHold illFormed sequence interfaceName memberName signature writing content tag closingTag escape
 worked = refl

@@ -8,12 +8,12 @@ use lib.ListN.{length}
 use Rattle.slices.specs.Bytes.{if}
 use Rattle.utf8.specs.WellFormed.{wellFormed}
 use Rattle.names.specs.Names.{interfaceName, memberName, propertyName}
-use Rattle.names.specs.Signature.{signature}
+use Rattle.names.specs.Signature.{signature, basicSignature}
 use Rattle.tables.specs.Triple.{inside, shown}
 use Rattle.tables.specs.declared.Triple.{Triple}
 use Rattle.document.specs.Kinds as kinds
 use Rattle.document.specs.Elements.{among, mayHold, someSignature}
-use Rattle.items.specs.Words.{RowWords, absent, rowsOf}
+use Rattle.items.specs.Words.{RowWords, absent, rowsOf, isChild}
 
 -- the kind of row i, or 0
 abbrev pub kindAt : List RowWords → ℕ → ℕ
@@ -106,9 +106,9 @@ goodTriple document text u valid t =
 abbrev pub inDocument : Triple → Bool
 inDocument t = eqb (t .source) 0 || eqb (t .source) 1
 
--- row i of the rows
-unfoldable pub soundRow : List ℕ → List ℕ → List RowWords → ℕ → RowWords → Bool
-soundRow document text rows i r =
+-- row i of the rows, but for how many members it has
+unfoldable pub goodRow : List ℕ → List ℕ → List RowWords → ℕ → RowWords → Bool
+goodRow document text rows i r =
     let k = r .kind in
     placed rows i r
     && goodTriple document text (nameUse k) (validName k) (r .name)
@@ -118,6 +118,33 @@ soundRow document text rows i r =
     && inDocument (r .doc)
     && validWord k (r .word)
     && ltb (r .at) (length document)
+
+-- the members of a definition, in row order: the rows of kind 12 whose parent's row plus one is p, good or bad themselves
+abbrev pub membersOf : ℕ → List RowWords → List RowWords
+membersOf p [] = []
+membersOf p (r ∷ rs) = let ms = membersOf p rs in if (isChild kinds.member p (r .kind) (r .parent)) (r ∷ ms) ms
+
+-- a struct has at least one member
+abbrev pub anyMember : List RowWords → Bool
+anyMember [] = false
+anyMember (m ∷ ms) = true
+
+-- a mapping has exactly two, and the first shows a basic signature; a triple outside its buffer, or absent, shows nothing
+abbrev pub keyed : List ℕ → List ℕ → List RowWords → Bool
+keyed document text [] = false
+keyed document text (k ∷ []) = false
+keyed document text (k ∷ v ∷ []) = basicSignature (shown document text (k .value))
+keyed document text (k ∷ v ∷ m ∷ ms) = false
+
+-- a definition of kind k has the members ms that it needs; other kinds need none
+unfoldable pub counted : List ℕ → List ℕ → ℕ → List RowWords → Bool
+counted document text k ms =
+    let pair = keyed document text ms in
+    if (eqb k kinds.struct) (anyMember ms) (if (eqb k kinds.mapping) pair true)
+
+-- row i of the rows
+unfoldable pub soundRow : List ℕ → List ℕ → List RowWords → ℕ → RowWords → Bool
+soundRow document text rows i r = goodRow document text rows i r && counted document text (r .kind) (membersOf (suc i) rows)
 
 -- the first bad row from row i on, or the number of rows
 abbrev pub firstBad : List ℕ → List ℕ → List RowWords → ℕ → List RowWords → ℕ

@@ -2,4 +2,5 @@
 -- Assumes nothing.
 pub mod Uses
 pub mod Triples
+pub mod Definitions
 pub mod Rows

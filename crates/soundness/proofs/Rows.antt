@@ -14,12 +14,16 @@ use lib.ListN.{length, drop, getD}
 use Rattle.tables.specs.declared.Triple.{Triple}
 use Rattle.document.specs.Kinds as kinds
 use Rattle.document.specs.Elements.{mayHold}
+use Rattle.document.proofs.Tests.{never}
 use Rattle.items.specs.Words.{RowWords, wordAt, Word, tripleAt, TripleIs, rowOf, rowsOf}
-use Rattle.items.specs.Sound.{kindAt, placed, goodTriple, nameUse, valueUse, tpUse, docUse, validName, validValue, anyText, inDocument, validWord, soundRow, firstBad, sound, unsound, soundness}
-use Rattle.items.proofs.Rows.{row-at, rows-past, kind-at}
+use Rattle.items.specs.Sound.{kindAt, placed, goodTriple, nameUse, valueUse, tpUse, docUse, validName, validValue, anyText, inDocument, validWord, soundRow, firstBad, sound, unsound, soundness, goodRow}
+use Rattle.items.specs.Order.{parentAt}
+use Rattle.items.proofs.Rows.{row-at, rows-past, kind-at, row-word, before-it, row-parts}
+use Rattle.items.proofs.Order.{Falls, falls-more}
 use Rattle.items.proofs.Words.{word-in}
 use Rattle.soundness.specs.declared.Soundness.{Soundness}
-use Rattle.soundness.specs.Outcome.{goodDoc, goodFront, goodBack, Placed, Front, Back, RowSound, Judges}
+use Rattle.soundness.specs.Outcome.{goodDoc, goodFront, goodBack, Placed, Front, Back, RowSound, Judges, RowGood, Counted}
+use Rattle.soundness.proofs.Definitions.{members-after}
 
 -- ---- the place of a row
 
@@ -89,12 +93,12 @@ module _ (d x : List ℕ) {ws : List ℕ} {i k : ℕ} (a : Word ws i 0 k) where
 
 pub ruleset texts = (no-name, name-and-value, no-tp, tp-and-doc, needs)
 
--- ---- the whole row
+-- ---- the row but for its members
 
 -- a row's clauses, as the code takes them
 module _ (d x : List ℕ) (rows : List RowWords) (i : ℕ) (r : RowWords) where
-  grouped : soundRow d x rows i r ≡ placed rows i r && goodFront d x r && goodBack d x r && validWord (r .kind) (r .word) && ltb (r .at) (length d)
-  unfolding soundRow goodFront goodBack goodDoc
+  grouped : goodRow d x rows i r ≡ placed rows i r && goodFront d x r && goodBack d x r && validWord (r .kind) (r .word) && ltb (r .at) (length d)
+  unfolding goodRow goodFront goodBack goodDoc
   grouped =
       go
       (placed rows i r)
@@ -113,24 +117,32 @@ module _ (d x : List ℕ) (rows : List RowWords) (i : ℕ) (r : RowWords) where
       go true true true false o s w l = refl
       go true true true true o s w l = refl
 
+  -- its parent comes before it
+  good-placed : goodRow d x rows i r ≡ true → r .parent ≤ i
+  good-placed h = go (placed rows i r) refl
+    where
+      go : (b : Bool) → placed rows i r ≡ b → r .parent ≤ i
+      go true e = before-it rows i r e
+      go false e = never (rw e at (sym grouped ∙ h))
+
 module _ (d x ws : List ℕ) (i : ℕ) where
-  pub not-placed : {b : Bool} → Placed ws i b → not b ≡ true → RowSound d x ws i false
+  pub not-placed : {b : Bool} → Placed ws i b → not b ≡ true → RowGood d x ws i false
   not-placed {b} p q = record { is = λ n l. sym (grouped d x (rowsOf n ws) i (rowOf (drop (i * 16) ws)) ∙ rw (sym (p .is n l) ∙ not-true b q)) }
 
-  pub bad-front : {b : Bool} → Front d x ws i b → not b ≡ true → RowSound d x ws i false
+  pub bad-front : {b : Bool} → Front d x ws i b → not b ≡ true → RowGood d x ws i false
   bad-front {b} p q = record { is = λ n l. sym (grouped d x (rowsOf n ws) i (rowOf (drop (i * 16) ws)) ∙ rw (sym (p .is) ∙ not-true b q, and-false)) }
 
-  pub bad-back : {b : Bool} → Back d x ws i b → not b ≡ true → RowSound d x ws i false
+  pub bad-back : {b : Bool} → Back d x ws i b → not b ≡ true → RowGood d x ws i false
   bad-back {b} p q = record { is = λ n l. sym (grouped d x (rowsOf n ws) i (rowOf (drop (i * 16) ws)) ∙ rw (sym (p .is) ∙ not-true b q, and-false)) }
 
   module _ {k v : ℕ} {w : Bool} (a : Word ws i 0 k) (c : Word ws i 14 v) (e : w ≡ validWord k v) where
     word : validWord (getD (drop (i * 16) ws) 0 0) (getD (drop (i * 16) ws) 14 0) ≡ w
     word = sym (rw (← word-in a, ← word-in c) e)
 
-    pub bad-word : not w ≡ true → RowSound d x ws i false
+    pub bad-word : not w ≡ true → RowGood d x ws i false
     bad-word q = record { is = λ n l. sym (grouped d x (rowsOf n ws) i (rowOf (drop (i * 16) ws)) ∙ rw (word ∙ not-true w q, and-false)) }
 
-    pub last-word : {m f b : Bool} {z : ℕ} → Placed ws i m → not m ≡ false → Front d x ws i f → not f ≡ false → Back d x ws i b → not b ≡ false → not w ≡ false → Word ws i 15 z → RowSound d x ws i (ltb z (length d))
+    pub last-word : {m f b : Bool} {z : ℕ} → Placed ws i m → not m ≡ false → Front d x ws i f → not f ≡ false → Back d x ws i b → not b ≡ false → not w ≡ false → Word ws i 15 z → RowGood d x ws i (ltb z (length d))
     last-word {m} {f} {b} p o g h j q u y = record {
       is = λ n l.
           sym
@@ -140,15 +152,34 @@ module _ (d x ws : List ℕ) (i : ℕ) where
 
 pub ruleset whole = (not-placed, bad-front, bad-back, bad-word, last-word, needs)
 
+-- ---- the whole row
+
+module _ {d x ws : List ℕ} {n i : ℕ} {b : Bool} (l : i < n) (g : RowGood d x ws i b) where
+  pub row-bad : not b ≡ true → RowSound d x ws n i false
+  unfolding soundRow
+  row-bad q = record { is = λ f. rw (sym (g .is n l) ∙ not-true b q) }
+
+  pub row-counted : {r : Bool} → not b ≡ false → Counted d x ws n i r → RowSound d x ws n i r
+  unfolding soundRow
+  row-counted q c = record {
+    is = λ f.
+        let e : goodRow d x (rowsOf n ws) i (rowOf (drop (i * 16) ws)) ≡ true = sym (g .is n l) ∙ not-false b q in
+        let h = rw (row-word i 1 ws) at (good-placed d x (rowsOf n ws) i (rowOf (drop (i * 16) ws)) e) in
+        c .is ∙ rw (e, members-after ws n i l (falls-more (parentAt ws) i f h));
+  }
+
+pub ruleset sound-rows = (row-bad, row-counted, needs)
+
 -- ---- the first bad row
 
 -- a loop over n rows that stands at row i: what is left of them decides
 pub record Checking (d x ws : List ℕ) (n i : ℕ) : Type 0 where
   pub left : firstBad d x (rowsOf n ws) 0 (rowsOf n ws) ≡ firstBad d x (rowsOf n ws) i (drop i (rowsOf n ws))
   pub inside : i ≤ n
+  pub before : Falls (parentAt ws) i
 
 pub check-begins : (d x ws : List ℕ) (n : ℕ) → Checking d x ws n 0
-check-begins d x ws n = record { left = refl; inside = omega arith }
+check-begins d x ws n = record { left = refl; inside = omega arith; before = λ k l. absurd (omega arith) }
 
 module _ {d x ws : List ℕ} {n i : ℕ} (g : Checking d x ws n i) where
   pub check-ends : n ≤ i → i ≡ firstBad d x (rowsOf n ws) 0 (rowsOf n ws)
@@ -156,12 +187,19 @@ module _ {d x ws : List ℕ} {n i : ℕ} (g : Checking d x ws n i) where
       let e : i ≡ n = omega (arith, g .inside) in
       sym (g .left ∙ rw (e, rows-past n ws))
 
-  module _ {b : Bool} (h : i < n) (r : RowSound d x ws i b) where
+  module _ {b : Bool} (h : i < n) (r : RowSound d x ws n i b) where
     pub check-stops : not b ≡ true → i ≡ firstBad d x (rowsOf n ws) 0 (rowsOf n ws)
-    check-stops q = sym (g .left ∙ rw (row-at n i ws h, sym (r .is n h) ∙ not-true b q))
+    check-stops q = sym (g .left ∙ rw (row-at n i ws h, sym (r .is (g .before)) ∙ not-true b q))
 
     pub check-more : not b ≡ false → Checking d x ws n (i + 1)
-    check-more q = record { left = g .left ∙ rw (add-one, row-at n i ws h, sym (r .is n h) ∙ not-false b q); inside = omega arith }
+    check-more q =
+        let e : soundRow d x (rowsOf n ws) i (rowOf (drop (i * 16) ws)) ≡ true = sym (r .is (g .before)) ∙ not-false b q in
+        let p = rw (row-word i 1 ws) at (before-it (rowsOf n ws) i (rowOf (drop (i * 16) ws)) (row-parts d x (rowsOf n ws) i (rowOf (drop (i * 16) ws)) e .placed)) in
+        record {
+          left = g .left ∙ rw (add-one, row-at n i ws h, e);
+          inside = omega arith;
+          before = λ k l. falls-more (parentAt ws) i (g .before) p k (omega arith);
+        }
 
 pub ruleset checks = (check-begins, check-ends, check-stops, check-more, needs)
 

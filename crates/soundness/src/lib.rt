@@ -1,12 +1,14 @@
 // Whether the rows of a lent table are sound (docs/FORMAT.md, Sound rows).
 ghost use mathlib.Core.Path.{_≡_};
-ghost use Prim.Native.Nat.{_+_, _*_, _≤_};
+ghost use Prim.Native.Nat.{_+_, _*_, _≤_, _<_};
 ghost use lib.ListN.{length};
 ghost use Rattle.items.specs.Words.{rowsOf};
 ghost use Rattle.items.specs.Sound.{firstBad};
-ghost use Rattle.soundness.specs.Outcome.{Placed, Front, Back, RowSound, Judges};
+ghost use Rattle.soundness.specs.Outcome.{Placed, Front, Back, RowSound, Judges, RowGood, Orders};
 
 mod kinds;
+mod members;
+mod order;
 mod texts;
 
 // What a check says: the rows are sound, or the place of refusal 19.
@@ -62,10 +64,10 @@ fn good_back<'a>(document: &'a [u8], text: &'a [u8], rows: &[u32], i: usize) -> 
     texts::good_doc(document, text, kind, items::triple(rows, i, 11))
 }
 
-// Whether row i is sound.
-fn sound_row<'a>(document: &'a [u8], text: &'a [u8], rows: &[u32], i: usize) -> bool
+// Whether row i is good, but for how many members it has.
+fn good_row<'a>(document: &'a [u8], text: &'a [u8], rows: &[u32], i: usize) -> bool
     requires { ⌜ i * 16 + 16 ≤ length (now rows) ⌝ }
-    ensures { λ r. ⌜ RowSound (now (document .entry)) (now (text .entry)) (now (rows .entry)) i r ⌝ }
+    ensures { λ r. ⌜ RowGood (now (document .entry)) (now (text .entry)) (now (rows .entry)) i r ⌝ }
 {
     if !is_placed(rows, i) {
         return false;
@@ -82,14 +84,33 @@ fn sound_row<'a>(document: &'a [u8], text: &'a [u8], rows: &[u32], i: usize) -> 
     (items::word(rows, i, 15) as usize) < document.len()
 }
 
+// Whether row i of n is sound, where the rows before it are; `ordered` says that the rows are in document order.
+fn sound_row<'a>(
+    document: &'a [u8],
+    text: &'a [u8],
+    rows: &[u32],
+    n: usize,
+    i: usize,
+    ordered: bool,
+) -> bool
+    requires { ⌜ n * 16 ≤ length (now rows) ⌝ ∗ ⌜ i < n ⌝ ∗ ⌜ Orders (now rows) n ordered ⌝ }
+    ensures { λ r. ⌜ RowSound (now (document .entry)) (now (text .entry)) (now (rows .entry)) n i r ⌝ }
+{
+    if !good_row(document, text, rows, i) {
+        return false;
+    }
+    members::is_counted(document, text, rows, n, i, ordered)
+}
+
 // The first bad row, or n.
 fn first_bad<'a>(document: &'a [u8], text: &'a [u8], rows: &[u32], n: usize) -> usize
     requires { ⌜ n * 16 ≤ length (now rows) ⌝ }
     ensures { λ r. ⌜ r ≡ firstBad (now (document .entry)) (now (text .entry)) (rowsOf n (now (rows .entry))) 0 (rowsOf n (now (rows .entry))) ⌝ }
 {
+    let ordered = order::in_document_order(rows, n);
     let mut i = 0;
     while i < n {
-        if !sound_row(document, text, rows, i) {
+        if !sound_row(document, text, rows, n, i, ordered) {
             return i;
         }
         i += 1;

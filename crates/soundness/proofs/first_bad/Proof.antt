@@ -6,10 +6,10 @@ use Rattle.soundness.proofs.first_bad.Statement.{statement}
 use Rattle.soundness.proofs.first_bad.Tie as tie
 
 abbrev Inv-loop : tie.InvT-loop
-Inv-loop document text rows n i₀ i = Checking document text rows n i
+Inv-loop document text rows n ordered i₀ i = Checking document text rows n i
 
 abbrev μ-loop : tie.MeasureT-loop
-μ-loop document text rows n i₀ i = n - i
+μ-loop document text rows n ordered i₀ i = n - i
 
 pub first-bad-spec : {M : Type 1} → statement M
 first-bad-spec =
@@ -17,8 +17,9 @@ first-bad-spec =
     (tie.spec
     Inv-loop
     μ-loop
+    (λ c κs. search checks)
     (λ c. search checks)
-    (λ c. search checks)
+    (λ c κs. search checks)
     (λ c. search checks)
     (λ c. search checks)
     (λ c. search checks)
