@@ -1,13 +1,40 @@
 // The kinds of elements, the structs that the reader's functions share, and the raw bytes of a value. What a document means is in specs/.
 ghost use mathlib.Core.Path.{_≡_};
+ghost use Rattle.document.specs.Refusals.{bare};
 ghost use Rattle.document.specs.Outcome.{Lies, Raw, moved};
 
 pub mod kinds;
 
-// Why a document is refused: the place, and the number.
+// Bytes of the document, by their place and how many they are.
+pub struct Excerpt {
+    pub at: u32,
+    pub len: u32,
+}
+
+// Why a document is refused: the place, the number, and what the message shows: the key of a missing attribute, and up to two
+// excerpts.
 pub struct Refusal {
     pub place: usize,
     pub number: u32,
+    pub key: u32,
+    pub first: Excerpt,
+    pub second: Excerpt,
+}
+
+// Nothing is shown.
+pub const NOTHING: Excerpt = Excerpt { at: 0, len: 0 };
+
+// A refusal whose message shows nothing.
+pub fn bare(number: u32, place: usize) -> Refusal
+    ensures { λ r. ⌜ r ≡ bare number place ⌝ }
+{
+    Refusal {
+        place,
+        number,
+        key: 0,
+        first: NOTHING,
+        second: NOTHING,
+    }
 }
 
 // A refusal, or how many rows, text bytes and warnings were read.
