@@ -20,9 +20,9 @@ use Rattle.bounds.specs.Bounds.{Fits}
 use Rattle.document.proofs.Tests.{either}
 use Rattle.document.proofs.Steps as steps
 use Rattle.document.proofs.Steps.{Known, Closes, Shuts, Ways, Steps, capturesAt}
-use Rattle.bounds.proofs.Attributes.{Met}
-use Rattle.bounds.proofs.Nexts as nexts
-use Rattle.bounds.proofs.Nexts.{Starts, Onward, Ended}
+use Rattle.document.proofs.Attributes.{Met}
+use Rattle.document.proofs.Nexts as nexts
+use Rattle.document.proofs.Nexts.{Starts, Onward, Ended}
 use Rattle.bounds.proofs.Texts.{start-opens}
 
 -- a definition that is open has a row, after the rows of the definitions around it

@@ -19,9 +19,9 @@ use Rattle.document.specs.Elements.{attr, among, Opened, opens, refuses, kept, 
 use Rattle.document.specs.Outcome.{whole}
 use Rattle.document.proofs.Tests.{either, among-all}
 use Rattle.document.proofs.Opens.{From, any-way}
-use Rattle.bounds.specs.Bounds.{faults}
-use Rattle.bounds.proofs.Attributes.{Met, textTotal}
-use Rattle.bounds.proofs.Nexts.{Starts}
+use Rattle.document.specs.Refusals.{faults}
+use Rattle.document.proofs.Attributes.{Met, textTotal}
+use Rattle.document.proofs.Nexts.{Starts}
 
 -- how long the text is that a value shows
 abbrev size : Option Shown → ℕ

@@ -19,7 +19,7 @@ use Rattle.references.specs.Unescape.{reference, piece, unescape}
 use Rattle.document.specs.Tags.{attribute, gather}
 use Rattle.document.specs.Tokens.{opening, closing, next, tokens}
 use Rattle.document.specs.Rows.{rowWords, wordsFrom, texts, warned, Tables}
-use Rattle.document.specs.Refusals.{excerpt, nothing, bare, showing, showingBoth}
+use Rattle.document.specs.Refusals.{excerpt, nothing, bare, showing, showingBoth, faultIn}
 use Rattle.document.specs.declared.Refusal.{Refusal}
 use Rattle.document.specs.Elements.{kindOf, mayHold, opensAs}
 use Rattle.document.specs.Reading.{State, begun, reading, accepted, refused, begins, unsupported, docstringIn, step, run}
@@ -80,5 +80,5 @@ cases =
     ∷ []
 
 pub worked : map (λ c. resultFor (c .0)) cases ≡ map (λ c. c .1) cases
-unfolding meaning escape illFormed sequence run step begins unsupported docstringIn opensAs kindOf mayHold tokens next opening closing gather attribute unescape piece reference xmlChar utf8 ignorable rowWords trimStart trimEnd characters interfaceName memberName signature
+unfolding meaning faultIn escape illFormed sequence run step begins unsupported docstringIn opensAs kindOf mayHold tokens next opening closing gather attribute unescape piece reference xmlChar utf8 ignorable rowWords trimStart trimEnd characters interfaceName memberName signature
 worked = refl

@@ -38,8 +38,18 @@ abbrev pub lacking : ℕ → Tag → Refusal
 lacking k t = record { place = suc (t .at); number = 12; key = k; first = excerpt (suc (t .at)) (t .name); second = nothing }
 
 -- a fault in the markup: 8 shows the attribute's name; 10 and 11 the reference, from its `&` to its `;` (59)
-abbrev pub faultIn : List ℕ → ℕ → ℕ → Refusal
+unfoldable pub faultIn : List ℕ → ℕ → ℕ → Refusal
 faultIn doc n p =
     let name = excerpt p (span nameByte (drop p doc)) in
     let reference : Excerpt = record { at = p; len = suc (length (span (other 59) (drop p doc))) } in
     if (eqb n 8) (showing n p name) (if (eqb n 10 || eqb n 11) (showing n p reference) (bare n p))
+
+-- the numbers of faults met while reading
+abbrev pub faults : List ℕ
+faults = 3 ∷ 4 ∷ 5 ∷ 6 ∷ 7 ∷ 8 ∷ 9 ∷ 10 ∷ 11 ∷ 12 ∷ 13 ∷ 14 ∷ 15 ∷ 16 ∷ 17 ∷ 22 ∷ 23 ∷ 24 ∷ 25 ∷ []
+
+-- how many excerpts the message of a number shows
+abbrev pub shownBy : ℕ → ℕ
+shownBy n =
+    let one = eqb n 5 || eqb n 8 || eqb n 10 || eqb n 11 || eqb n 12 || eqb n 15 || eqb n 16 in
+    if (eqb n 6) 2 (if one 1 0)
