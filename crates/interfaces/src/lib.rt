@@ -67,9 +67,14 @@ fn interface_child(
         // by its parts: a copy of the whole answer is a delay for each
         match property(doc, classes, rows, warnings, text, c, i + 1, f) {
             Answer::Fault(refusal) => {
+                let first = refusal.first;
+                let second = refusal.second;
                 return Answer::Fault(Refusal {
                     place: refusal.place,
                     number: refusal.number,
+                    key: refusal.key,
+                    first,
+                    second,
                 });
             }
             Answer::Done(g) => {
@@ -127,9 +132,14 @@ fn interface_children(
                 let h = g.moved(c.end);
                 match interface_child(doc, classes, rows, warnings, text, c, i, h) {
                     Answer::Fault(refusal) => {
+                        let first = refusal.first;
+                        let second = refusal.second;
                         return Answer::Fault(Refusal {
                             place: refusal.place,
                             number: refusal.number,
+                            key: refusal.key,
+                            first,
+                            second,
                         });
                     }
                     Answer::Done(k) => {

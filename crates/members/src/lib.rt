@@ -45,9 +45,14 @@ fn annotation_children(
                 let h = g.moved(c.end);
                 match skip_unsupported(doc, classes, warnings, c, h) {
                     Answer::Fault(refusal) => {
+                        let first = refusal.first;
+                        let second = refusal.second;
                         return Answer::Fault(Refusal {
                             place: refusal.place,
                             number: refusal.number,
+                            key: refusal.key,
+                            first,
+                            second,
                         });
                     }
                     Answer::Done(k) => {
@@ -132,9 +137,14 @@ fn value_children(
                 let h = g.moved(c.end);
                 match value_child(doc, classes, rows, warnings, text, c, i, h) {
                     Answer::Fault(refusal) => {
+                        let first = refusal.first;
+                        let second = refusal.second;
                         return Answer::Fault(Refusal {
                             place: refusal.place,
                             number: refusal.number,
+                            key: refusal.key,
+                            first,
+                            second,
                         });
                     }
                     Answer::Done(k) => {
@@ -215,9 +225,14 @@ fn callable_child(
         // by its parts: a copy of the whole answer is a delay for each
         match arg(doc, classes, rows, warnings, text, c, i + 1, f) {
             Answer::Fault(refusal) => {
+                let first = refusal.first;
+                let second = refusal.second;
                 return Answer::Fault(Refusal {
                     place: refusal.place,
                     number: refusal.number,
+                    key: refusal.key,
+                    first,
+                    second,
                 });
             }
             Answer::Done(g) => {
@@ -259,9 +274,14 @@ fn callable_children(
                 let h = g.moved(c.end);
                 match callable_child(doc, classes, rows, warnings, text, c, i, h) {
                     Answer::Fault(refusal) => {
+                        let first = refusal.first;
+                        let second = refusal.second;
                         return Answer::Fault(Refusal {
                             place: refusal.place,
                             number: refusal.number,
+                            key: refusal.key,
+                            first,
+                            second,
                         });
                     }
                     Answer::Done(k) => {
