@@ -1,7 +1,7 @@
 -- The content of a definition: its parts and other children, and the loop over them.
 -- Assumes nothing.
 use Prim.Native.Nat.{ℕ, _+_, _-_, _≤_, _<_}
-use mathlib.Core.Path.{_≡_, refl, sym, _∙_, ap}
+use mathlib.Core.Path.{_≡_, refl, sym, _∙_, ap, subst}
 use mathlib.Core.List.{List, [], _∷_}
 use mathlib.Core.Bool.{Bool, true, false, not}
 use borrow.Author.Needs.{needs}
@@ -16,7 +16,7 @@ use Rattle.document.specs.Tokens.{Tag}
 use Rattle.document.specs.Rows.{Row, Tables}
 use Rattle.document.specs.Elements.{kindOf, among, heldBy, mayHold}
 use Rattle.document.specs.Reading as reading
-use Rattle.document.specs.Reading.{Name, Frame, definition, State, reading, closed, child, begins, noted, oneMore}
+use Rattle.document.specs.Reading.{Name, Frame, definition, State, reading, closed, judged, child, begins, noted, oneMore}
 use Rattle.document.specs.Outcome as outcome
 use Rattle.document.specs.Outcome.{Lent, lent, nameAt, Stands, Bounded, Ready, Steps, Begins, Others, runs, whole, moved}
 use Rattle.document.specs.declared.Refusal.{Refusal}
@@ -245,7 +245,7 @@ module _ {doc : List ℕ} {c : StartTag} {i : ℕ} {f : Fill} {b : Lent} where
   content-body {b′} {r} d x l = record {
     kind = d;
     onward = l .onward;
-    ends = λ why t fs u z s. rw (sym (z .closes) ∙ x, tag-named z) (l .ends (t .at) why fs u s);
+    ends = λ why t fs u z s. rw (sym (z .closes) ∙ x) (subst (λ (n : Name). Ends doc (runs doc (f .at) (reading (definition (openAs (c .kind) i (t .at) n why noParts) ∷ fs) u)) (λ q v. closed fs (judged (openAs (c .kind) i (t .at) n why q) v)) i (take i (u .rows)) b′ r) (sym (tag-named z)) (l .ends (t .at) why fs u s));
   }
 
 pub ruleset contents = (content-none, content-body, needs)
