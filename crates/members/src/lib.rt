@@ -1,5 +1,6 @@
 // Members: annotation, arg, property, method, signal.
 use document::Answer;
+use document::Excerpt;
 use document::Fill;
 use document::Next;
 use document::Refusal;
@@ -45,14 +46,18 @@ fn annotation_children(
                 let h = g.moved(c.end);
                 match skip_unsupported(doc, classes, warnings, c, h) {
                     Answer::Fault(refusal) => {
-                        let first = refusal.first;
-                        let second = refusal.second;
                         return Answer::Fault(Refusal {
                             place: refusal.place,
                             number: refusal.number,
                             key: refusal.key,
-                            first,
-                            second,
+                            first: Excerpt {
+                                at: refusal.first.at,
+                                len: refusal.first.len,
+                            },
+                            second: Excerpt {
+                                at: refusal.second.at,
+                                len: refusal.second.len,
+                            },
                         });
                     }
                     Answer::Done(k) => {
@@ -137,14 +142,18 @@ fn value_children(
                 let h = g.moved(c.end);
                 match value_child(doc, classes, rows, warnings, text, c, i, h) {
                     Answer::Fault(refusal) => {
-                        let first = refusal.first;
-                        let second = refusal.second;
                         return Answer::Fault(Refusal {
                             place: refusal.place,
                             number: refusal.number,
                             key: refusal.key,
-                            first,
-                            second,
+                            first: Excerpt {
+                                at: refusal.first.at,
+                                len: refusal.first.len,
+                            },
+                            second: Excerpt {
+                                at: refusal.second.at,
+                                len: refusal.second.len,
+                            },
                         });
                     }
                     Answer::Done(k) => {
@@ -225,14 +234,18 @@ fn callable_child(
         // by its parts: a copy of the whole answer is a delay for each
         match arg(doc, classes, rows, warnings, text, c, i + 1, f) {
             Answer::Fault(refusal) => {
-                let first = refusal.first;
-                let second = refusal.second;
                 return Answer::Fault(Refusal {
                     place: refusal.place,
                     number: refusal.number,
                     key: refusal.key,
-                    first,
-                    second,
+                    first: Excerpt {
+                        at: refusal.first.at,
+                        len: refusal.first.len,
+                    },
+                    second: Excerpt {
+                        at: refusal.second.at,
+                        len: refusal.second.len,
+                    },
                 });
             }
             Answer::Done(g) => {
@@ -274,14 +287,18 @@ fn callable_children(
                 let h = g.moved(c.end);
                 match callable_child(doc, classes, rows, warnings, text, c, i, h) {
                     Answer::Fault(refusal) => {
-                        let first = refusal.first;
-                        let second = refusal.second;
                         return Answer::Fault(Refusal {
                             place: refusal.place,
                             number: refusal.number,
                             key: refusal.key,
-                            first,
-                            second,
+                            first: Excerpt {
+                                at: refusal.first.at,
+                                len: refusal.first.len,
+                            },
+                            second: Excerpt {
+                                at: refusal.second.at,
+                                len: refusal.second.len,
+                            },
                         });
                     }
                     Answer::Done(k) => {
