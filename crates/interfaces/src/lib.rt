@@ -1,5 +1,6 @@
 // Interfaces: the children of one, and which of them are definitions.
 use document::Answer;
+use document::Excerpt;
 use document::Fill;
 use document::Next;
 use document::Refusal;
@@ -67,14 +68,18 @@ fn interface_child(
         // by its parts: a copy of the whole answer is a delay for each
         match property(doc, classes, rows, warnings, text, c, i + 1, f) {
             Answer::Fault(refusal) => {
-                let first = refusal.first;
-                let second = refusal.second;
                 return Answer::Fault(Refusal {
                     place: refusal.place,
                     number: refusal.number,
                     key: refusal.key,
-                    first,
-                    second,
+                    first: Excerpt {
+                        at: refusal.first.at,
+                        len: refusal.first.len,
+                    },
+                    second: Excerpt {
+                        at: refusal.second.at,
+                        len: refusal.second.len,
+                    },
                 });
             }
             Answer::Done(g) => {
@@ -132,14 +137,18 @@ fn interface_children(
                 let h = g.moved(c.end);
                 match interface_child(doc, classes, rows, warnings, text, c, i, h) {
                     Answer::Fault(refusal) => {
-                        let first = refusal.first;
-                        let second = refusal.second;
                         return Answer::Fault(Refusal {
                             place: refusal.place,
                             number: refusal.number,
                             key: refusal.key,
-                            first,
-                            second,
+                            first: Excerpt {
+                                at: refusal.first.at,
+                                len: refusal.first.len,
+                            },
+                            second: Excerpt {
+                                at: refusal.second.at,
+                                len: refusal.second.len,
+                            },
                         });
                     }
                     Answer::Done(k) => {
