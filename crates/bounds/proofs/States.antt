@@ -50,13 +50,13 @@ abbrev pub final : ℕ → Known Shown
 final top = record { first = ⊥; inside = λ fs u. ⊥; done = Fits top; fault = λ x. Met top (x .number) (x .place) }
 
 -- the refusal of a fault has its number and place
-fault-is : (doc : List ℕ) (n p : ℕ) → (faultIn doc n p .number ≡ n) × (faultIn doc n p .place ≡ p)
+abbrev Numbered : ℕ → ℕ → Refusal → Type 0
+Numbered n p x = (x .number ≡ n) × (x .place ≡ p)
+
+fault-is : (doc : List ℕ) (n p : ℕ) → Numbered n p (faultIn doc n p)
 unfolding faultIn
 fault-is doc n p =
-    either Is (eqb n 8) (λ t. (refl, refl)) (λ t. either Is (eqb n 10 || eqb n 11) (λ t. (refl, refl)) (λ t. (refl, refl)))
-  where
-    abbrev Is : Refusal → Type 0
-    Is x = (x .number ≡ n) × (x .place ≡ p)
+    either (Numbered n p) (eqb n 8) (λ t. (refl, refl)) (λ t. either (Numbered n p) (eqb n 10 || eqb n 11) (λ t. (refl, refl)) (λ t. (refl, refl)))
 
 -- ---- frames
 

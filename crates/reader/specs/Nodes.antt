@@ -60,7 +60,6 @@ pub record Opens (doc : List ℕ) (c : StartTag) (i : ℕ) (s : Walk) (opened op
   pub leads :
       (root : Name) (t : Tag) (v : Tables Shown) (w : List ℕ) →
       TagIs doc c t →
-     
       parentOf (framesOf doc root opened (s .depth)) ≡ suc i →
       Stands v (lent rows w text) (s .fill) →
       LeadsFrom doc root opened′ (runs doc (c .end) (begins whole doc kinds.node t (framesOf doc root opened (s .depth)) v)) (lent rows′ w text′) r
@@ -115,7 +114,6 @@ pub record Begun (doc : List ℕ) (c : StartTag) (s : Walk) (opened opened′ : 
   pub leads :
       (root : Name) (t : Tag) (v : Tables Shown) →
       TagIs doc c t →
-     
       Stands v b (s .fill) →
       LeadsFrom doc root opened′ (runs doc (c .end) (child whole doc kinds.node (getD opened (s .depth - 1) 0) t (framesOf doc root opened (s .depth)) v)) b′ r
 

@@ -92,10 +92,7 @@ fn open_node(
         Answer::Fault(refusal) => Turn::Fault(refusal),
         Answer::Done(g) => {
             if closes {
-                return Turn::On(Walk {
-                    depth,
-                    fill: g,
-                });
+                return Turn::On(Walk { depth, fill: g });
             }
             if depth == 1024 {
                 return Turn::Fault(document::bare(7, c.end));
@@ -110,14 +107,7 @@ fn open_node(
 }
 
 // What comes next in the innermost open node; the root's name stands at a place, and `node` at another where it is not the root.
-fn next_in(
-    doc: &[u8],
-    classes: &[u8; 256],
-    at: usize,
-    len: usize,
-    inner: usize,
-    s: Walk,
-) -> Next
+fn next_in(doc: &[u8], classes: &[u8; 256], at: usize, len: usize, inner: usize, s: Walk) -> Next
     requires { ⌜ Looks (now doc) «at» len inner s ⌝ ∗ ⌜ Classes (now classes) ⌝ }
     ensures { λ r. ⌜ NextIn (now (doc .entry)) (nameAt (now (doc .entry)) «at» len) inner s r ⌝ }
 {
@@ -274,10 +264,7 @@ fn open_root(
     ensures { λ r. ⌜ ReadsRoot (now (doc .entry)) c (lent (now (rows .exit)) (now (warnings .exit)) (now (text .exit))) r ⌝ }
 {
     let mut opened = levels();
-    let s = Walk {
-        depth: 1,
-        fill: g,
-    };
+    let s = Walk { depth: 1, fill: g };
     nodes(
         doc,
         classes,
