@@ -65,7 +65,7 @@ struct reading {
     uint8_t *document, *text;
     uint32_t *rows, *warnings;
     size_t document_length, text_length, rows_length, warnings_length;
-    uint64_t answer[5];
+    uint64_t answer[INTROSPECTION_ANSWER_WORDS];
 };
 
 static struct reading read_with(const char *bytes, size_t length, size_t rows, size_t warnings, size_t text)
@@ -339,11 +339,12 @@ static void room(void)
 
 static void nothing_lent(void)
 {
-    uint64_t a[5] = {9, 9, 9, 9, 9}, b[3] = {9, 9, 9}, c[4] = {9, 9, 9, 9};
+    uint64_t a[INTROSPECTION_ANSWER_WORDS], b[3] = {9, 9, 9}, c[4] = {9, 9, 9, 9};
+    memset(a, 9, sizeof a);
     const uint8_t *document = (const uint8_t *)"<node/>";
     uint8_t out[2] = {7, 7};
     introspection_read(NULL, 0, NULL, 0, NULL, 0, NULL, 0, a);
-    CHECK(a[0] == INTROSPECTION_NO_ROOT && a[1] == 0 && a[2] == 0 && a[3] == 0 && a[4] == 0);
+    CHECK(a[0] == INTROSPECTION_NO_ROOT && all_zero(a, 8, sizeof a));
     introspection_read(document, 7, NULL, 0, NULL, 0, NULL, 0, a);
     CHECK(a[0] == INTROSPECTION_NO_ROOM && a[1] == 7);
     introspection_escape(NULL, 0, NULL, 0, b);

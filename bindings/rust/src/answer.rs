@@ -151,6 +151,16 @@ impl ErrorKind {
 pub struct Error {
     kind: ErrorKind,
     place: usize,
+    shown: Shown,
+}
+
+/// What the message of a refusal shows: two triples and the key of an attribute, 0 where it shows
+/// none.
+#[derive(Clone, Copy, Debug, Default, PartialEq, Eq, Hash)]
+pub(crate) struct Shown {
+    pub(crate) first: [usize; 3],
+    pub(crate) second: [usize; 3],
+    pub(crate) key: usize,
 }
 
 impl Error {
@@ -179,7 +189,19 @@ impl Error {
             .into_iter()
             .find(|kind| kind.number() as usize == number);
         let kind = kind.expect("a number of docs/FORMAT.md");
-        Err(Self { kind, place })
+        let shown = Shown::default();
+        Err(Self { kind, place, shown })
+    }
+
+    /// The same refusal with words 5 to 15 of a reader's answer.
+    pub(crate) fn showing(self, words: [usize; 11]) -> Self {
+        let [a, b, c, d, e, f, key, ..] = words;
+        let shown = Shown {
+            first: [a, b, c],
+            second: [d, e, f],
+            key,
+        };
+        Self { shown, ..self }
     }
 }
 

@@ -100,8 +100,8 @@ pub(crate) fn read(
 ) -> Result<Counts, Error> {
     let rows = rows.as_flattened_mut();
     let warnings = warnings.as_flattened_mut();
-    let mut answer = [0; 5];
-    // SAFETY: the four slices are as the head of this file says; `answer` has the 5 words that this
+    let mut answer = [0; 16];
+    // SAFETY: the four slices are as the head of this file says; `answer` has the 16 words that this
     // function writes.
     unsafe {
         introspection_read(
@@ -116,8 +116,8 @@ pub(crate) fn read(
             answer.as_mut_ptr(),
         );
     }
-    let [number, place, rows, text, warnings] = answer.map(size);
-    Error::unless_accepted(number, place)?;
+    let [number, place, rows, text, warnings, shown @ ..] = answer.map(size);
+    Error::unless_accepted(number, place).map_err(|error| error.showing(shown))?;
     Ok(Counts {
         rows,
         text,

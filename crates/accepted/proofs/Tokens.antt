@@ -24,7 +24,7 @@ use Rattle.document.specs.Tags.{Attr, Found, absent, found, closeQuote, openQuo
 use Rattle.document.specs.Tags as tags
 use Rattle.document.specs.Tokens.{Tag, Token, start, close, fault, end, Next, more, last, slashEnd, tagEnd, withShown, withAttrs, opening, closeEnd, closing, tag, tagOrEnd, pastIgnorable, next, joined, tokensFrom, tokens}
 use Rattle.document.proofs.Tests.{either}
-use Rattle.bounds.proofs.Ignorables.{Scanned, ignorable-within}
+use Rattle.document.proofs.Ignorables.{Scanned, ignorable-within}
 use Rattle.accepted.proofs.Places.{past-begins, next-left, byte-left, past-left, span-left}
 
 -- the byte before a place is below 128

@@ -70,7 +70,7 @@ module _ (doc : List ℕ) where
 
   start-opens : (t : Tag) → Starts doc t → (k p : ℕ) → Opens (opensAs whole k p t)
   start-opens t g k p =
-      any-way whole whole p t (λ o o′. Opens o) (λ n h. tt) (λ n h. tt)
+      any-way whole whole p t (λ o o′. Opens o) (λ x r. tt)
       (λ k w n v tp c. (
         from-held _ n (c .name) (lookup-held (c .first) (t .attrs) (g .attrs)),
         from-held _ v (c .value) (lookup-held (c .second) (t .attrs) (g .attrs)),
@@ -107,11 +107,11 @@ module _ (doc : List ℕ) where
     passed = λ p ns fs u h. h;
     docstring = λ s r ns fs u h. rows-documented r _ (u .rows) h;
     within = λ p n ns fs u h. h;
-    another = tt;
+    another = λ f fs u h. tt;
     none = tt;
   }
   ways (fault n p) g = tt
-  ways (end p) g = (tt, tt)
+  ways (end p) g = (tt, λ f fs u h. tt)
 
   pub accepts-held : {u : Tables Shown} → Accepts doc u → RowsHeld doc (u .rows)
   accepts-held a = rw (a .reads) at (run-kept doc held ways (λ h. tt) (λ u h. h) tt)

@@ -4,6 +4,8 @@ use Prim.Native.Nat.{ℕ}
 use mathlib.Core.Path.{_≡_}
 use mathlib.Core.List.{List, [], _∷_}
 use mathlib.Core.Bool.{Bool}
+use lib.Dec.{ltb}
+use lib.ListN.{replicate}
 use Rattle.slices.specs.Bytes.{if}
 use Rattle.tables.specs.Triple.{inside, resolved}
 use Rattle.tables.specs.declared.Triple.{Triple}
@@ -16,14 +18,26 @@ use Rattle.answers.specs.declared.TextAnswer.{TextAnswer}
 use Rattle.answers.specs.declared.TextAnswer.the-variants as answer
 use Rattle.document.specs.Tags.{Shown}
 use Rattle.document.specs.Reading.{State}
+use Rattle.document.specs.Refusals.{shownBy}
 use Rattle.document.specs.Whole.{Room, read, verdictOf, rowsLeft, warningsLeft, textLeft}
+use Rattle.document.specs.declared.Refusal.{Refusal}
 use Rattle.document.specs.declared.Verdict.{Verdict}
 use Rattle.document.specs.declared.Verdict.the-variants as verdict
 
--- number, place, rows, text bytes, warnings
+abbrev pub bit : Bool → ℕ
+bit b = if b 1 0
+
+-- number, place, rows, text bytes, warnings; then what a refusal's message shows: two triples, whose source is 1 where the number
+-- shows so many, and a key; then four zeros
+abbrev pub shownWords : Refusal → List ℕ
+shownWords x =
+    bit (ltb 0 (shownBy (x .number))) ∷ x .first .at ∷ x .first .len
+    ∷ bit (ltb 1 (shownBy (x .number))) ∷ x .second .at ∷ x .second .len
+    ∷ x .key ∷ 0 ∷ 0 ∷ 0 ∷ 0 ∷ []
+
 abbrev pub verdictWords : Verdict → List ℕ
-verdictWords (verdict.Refused x) = x .number ∷ x .place ∷ 0 ∷ 0 ∷ 0 ∷ []
-verdictWords (verdict.Accepted rows text warnings) = 0 ∷ 0 ∷ rows ∷ text ∷ warnings ∷ []
+verdictWords (verdict.Refused x) = x .number ∷ x .place ∷ 0 ∷ 0 ∷ 0 ∷ shownWords x
+verdictWords (verdict.Accepted rows text warnings) = 0 ∷ 0 ∷ rows ∷ text ∷ warnings ∷ replicate 11 0
 
 -- number, place, bytes written
 abbrev pub answerWords : TextAnswer → List ℕ
@@ -53,9 +67,6 @@ textWords t = answerWords (answerOf t)
 -- of words that were made
 abbrev pub outcomeWords : Outcome → List ℕ
 outcomeWords o = columnsWords (entries.answerOf o)
-
-abbrev pub bit : Bool → ℕ
-bit b = if b 1 0
 
 -- 1 or 0; source, start and length of the part
 abbrev pub partWords : Bool → Triple → List ℕ

@@ -13,14 +13,50 @@ ghost use Rattle.document.specs.Whole.{roomOf};
 ghost use Rattle.items.specs.Writing.{writing};
 ghost use Rattle.introspection.specs.Words.{verdictWords, answerWords, columnsWords, partWords, bit, Reads, textWords, outcomeWords, lookupWords};
 
-fn verdict_words(v: Verdict) -> [u64; 5]
+// What a refusal's message shows goes with it, each excerpt as a triple.
+fn verdict_words(v: Verdict) -> [u64; 16]
     ensures { λ r. ⌜ r ≡ verdictWords v ⌝ }
 {
     match v {
-        Verdict::Refused(refusal) => [refusal.number as u64, refusal.place as u64, 0, 0, 0],
-        Verdict::Accepted(rows, text, warnings) => {
-            [0, 0, rows as u64, text as u64, warnings as u64]
+        Verdict::Refused(refusal) => {
+            let shown = document::shown_by(refusal.number);
+            [
+                refusal.number as u64,
+                refusal.place as u64,
+                0,
+                0,
+                0,
+                bit(0 < shown),
+                refusal.first.at as u64,
+                refusal.first.len as u64,
+                bit(1 < shown),
+                refusal.second.at as u64,
+                refusal.second.len as u64,
+                refusal.key as u64,
+                0,
+                0,
+                0,
+                0,
+            ]
         }
+        Verdict::Accepted(rows, text, warnings) => [
+            0,
+            0,
+            rows as u64,
+            text as u64,
+            warnings as u64,
+            0,
+            0,
+            0,
+            0,
+            0,
+            0,
+            0,
+            0,
+            0,
+            0,
+            0,
+        ],
     }
 }
 
@@ -64,7 +100,7 @@ pub extern "C" fn introspection_read(
     rows: &mut [u32],
     warnings: &mut [u32],
     text: &mut [u8],
-    answer: &mut [u64; 5],
+    answer: &mut [u64; 16],
 )
     ensures { λ _. ⌜ Reads (now (document .entry)) (roomOf (now (rows .entry)) (now (warnings .entry)) (now (text .entry))) (now (rows .exit)) (now (warnings .exit)) (now (text .exit)) (now (answer .exit)) ⌝ }
 {

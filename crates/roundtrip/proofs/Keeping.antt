@@ -76,7 +76,7 @@ module _ {A B : Type 0} (f : A → B) (keep : Keeping A) where
 
   view-opens : (p : ℕ) (t : Tag) (k : ℕ) → viewOpened f (opensAs keep k p t) ≡ opensAs seen k p t
   view-opens p t k =
-      any-way keep seen p t (λ o o′. viewOpened f o ≡ o′) (λ n h. refl) (λ n h. refl) (λ k w n v tp c. view-row t k p n v tp w) k
+      any-way keep seen p t (λ o o′. viewOpened f o ≡ o′) (λ x r. refl) (λ k w n v tp c. view-row t k p n v tp w) k
 
   -- ---- steps
 

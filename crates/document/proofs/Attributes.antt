@@ -13,11 +13,11 @@ use Rattle.scan.specs.Ignorable.{quote}
 use Rattle.answers.specs.Text.{Text, text, wrong}
 use Rattle.references.specs.Unescape.{unescape}
 use Rattle.references.proofs.Shapes.{unescape-short}
 use Rattle.document.specs.Tags.{Attr, Found, absent, found, closeQuote, openQuote, equals, named, spaced, attribute, Gathered, gathered, tooMany, with, another, noMore, gather, Shown, Checked, good, also, member, check}
 use Rattle.document.specs.Tags as tags
 use Rattle.document.proofs.Tests.{either}
-use Rattle.bounds.proofs.Branches.{span-past, Number}
-use Rattle.bounds.proofs.Values.{Told, unescape-told}
+use Rattle.document.proofs.Branches.{span-past, Number}
+use Rattle.document.proofs.Unescapes.{Told, unescape-told}
 
 -- the number and place of a fault met while reading
 pub record Met (top n p : ℕ) : Type 0 where

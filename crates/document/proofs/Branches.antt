@@ -7,8 +7,8 @@ use mathlib.Core.Bool.{Bool, true, false}
 use native.Mathlib.Omega.{arith}
 use lib.ListN.{length, length-append}
 use Rattle.slices.specs.Bytes.{if, span, past, empty}
 use Rattle.document.specs.Elements.{among}
-use Rattle.bounds.specs.Bounds.{faults}
+use Rattle.document.specs.Refusals.{faults}
 
 -- the number of a fault met while reading
 abbrev pub Number : ℕ → Type 0

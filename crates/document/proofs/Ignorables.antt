@@ -13,8 +13,8 @@ use Rattle.scan.specs.declared.Scan.{Scan}
 use Rattle.scan.specs.declared.Scan.the-variants.{Fault, At}
 use Rattle.scan.specs.declared.Markup.{Markup}
 use Rattle.scan.specs.declared.Markup.the-variants.{Tag, Ignored}
 use Rattle.document.proofs.Tests.{either}
-use Rattle.bounds.proofs.Branches.{Number}
+use Rattle.document.proofs.Branches.{Number}
 
 -- a scan comes to a place from `from` to `top`, or to a fault at a place up to `top`
 abbrev pub Scanned : ℕ → ℕ → Scan → Type 0
