@@ -119,7 +119,7 @@ module _ {A B : Type 0} (f : A → B) (keep : Keeping A) where
 
     view-turn : (g : Frame) (fs : List Frame) (u : Tables A) (t : Token) → view f (turn keep doc g fs u t) ≡ turn seen doc g fs (viewTables f u) t
     view-turn g fs u (start t) = view-started g fs u t
-    view-turn g fs u (close lt m q) = branch (view f) (same m (nameOf g)) (view-shut f doc g fs u lt) refl
+    view-turn g fs u (close lt m q) = branch (view f) (same m (nameOf g .bytes)) (view-shut f doc g fs u lt) refl
     view-turn g fs u (fault n p) = refl
     view-turn g fs u (end p) = refl
 
