@@ -1,0 +1,3 @@
+-- Refusals and warnings whose excerpts are there have a message.
+-- Assumes nothing.
+pub mod Telling
