@@ -183,6 +183,30 @@ void introspection_read(const uint8_t *document, size_t document_length, uint32_
                         uint64_t answer[INTROSPECTION_ANSWER_WORDS]);
 
 /*
+ * Writes the message of a refusal, with the document that was refused: the sentence that zbus_xml's XmlError has, such as
+ * missing `</node>`; where it has none, a few words (docs/FORMAT.md, Messages). refusal is the answer of introspection_read
+ * as it is, or 16 words of whatever content: of them number, key and the triples that the number shows are looked at. The
+ * place is not: whoever shows it adds it. No message is longer than 64 bytes and the bytes that it shows.
+ *
+ * answer: number, place, bytes written. Refusals: 2, unless the number of refusal is 2; 19 at 0 for a number or key that is
+ * not known, and for a triple that is shown and is not a part of the document, is not UTF-8 or (of 15 and 16) cannot be
+ * unescaped; 21. What introspection_read answers, with its document, is never refused with 19.
+ */
+void introspection_message(const uint8_t *document, size_t document_length,
+                           const uint64_t refusal[INTROSPECTION_ANSWER_WORDS], uint8_t *output, size_t output_length,
+                           uint64_t answer[3]);
+
+/*
+ * The same for a warning, by its four words: the sentence that zbus_xml's Warning has, such as
+ * unsupported element `<x>` ignored. No message is longer than 128 bytes and the element's name.
+ *
+ * answer: number, place, bytes written. Refusals: 2, 19 at 0, 21.
+ */
+void introspection_warning_message(const uint8_t *document, size_t document_length,
+                                   const uint32_t warning[INTROSPECTION_WARNING_WORDS], uint8_t *output,
+                                   size_t output_length, uint64_t answer[3]);
+
+/*
  * Writes value with `&`, `<`, `>`, `"`, `'`, tab, LF and CR turned into references. Output of 6 bytes for each of the
  * value is always enough.
  *

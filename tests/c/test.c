@@ -605,6 +605,47 @@ static void columns_at_the_limit(void)
     free(rows);
 }
 
+/* The message of a refusal, with room enough. */
+static int says(const struct reading *r, const char *expected)
+{
+    uint8_t *out = lend(200);
+    uint64_t a[3];
+    introspection_message(r->document, r->document_length, r->answer, out, 200, a);
+    int good = a[0] == 0 && a[1] == 0 && a[2] == strlen(expected) && same(out, a[2], expected) && all_zero(out, a[2], 200);
+    free(out);
+    return good;
+}
+
+static void messages(void)
+{
+    struct reading r = read_all("<a><node><node></node></x>");
+    CHECK(answers(&r, INTROSPECTION_CROSSED_CLOSE, 26));
+    CHECK(says(&r, "unexpected `</x>` while parsing `<node>`"));
+    uint64_t a[3];
+    uint8_t *out = lend(40);
+    introspection_message(r.document, r.document_length, r.answer, out, 39, a);
+    CHECK(a[0] == INTROSPECTION_OUTPUT_SHORT && a[1] == 40 && a[2] == 0 && all_zero(out, 0, 40));
+    r.answer[INTROSPECTION_ANSWER_SECOND + 1] = UINT64_MAX; /* words of whatever content */
+    r.answer[INTROSPECTION_ANSWER_SECOND + 2] = UINT64_MAX;
+    introspection_message(r.document, r.document_length, r.answer, out, 40, a);
+    CHECK(a[0] == INTROSPECTION_UNSOUND_ROWS && a[1] == 0 && a[2] == 0 && all_zero(out, 0, 40));
+    end_reading(&r);
+    r = read_all("<node>");
+    CHECK(says(&r, "missing `</node>`"));
+    r.answer[INTROSPECTION_ANSWER_NUMBER] = 99;
+    introspection_message(r.document, r.document_length, r.answer, out, 40, a);
+    CHECK(a[0] == INTROSPECTION_UNSOUND_ROWS && all_zero(out, 0, 40));
+    end_reading(&r);
+    r = read_all("<node><x/></node>");
+    introspection_warning_message(r.document, r.document_length, r.warnings, out, 40, a);
+    CHECK(a[0] == 0 && a[2] == 33 && same(out, 33, "unsupported element `<x>` ignored"));
+    r.warnings[0] = 10;
+    introspection_warning_message(r.document, r.document_length, r.warnings, out, 40, a);
+    CHECK(a[0] == INTROSPECTION_UNSOUND_ROWS && a[1] == 0 && all_zero(out, 0, 40));
+    end_reading(&r);
+    free(out);
+}
+
 int main(void)
 {
     the_hinge();
@@ -613,6 +654,7 @@ int main(void)
     room();
     nothing_lent();
     values();
+    messages();
     parts();
     writing();
     writing_too_long();

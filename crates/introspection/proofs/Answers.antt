@@ -6,22 +6,26 @@ use mathlib.Core.List.{List, [], _∷_}
 use mathlib.Core.Bool.{Bool}
 use borrow.Author.Needs.{needs}
 use lib.Dec.{ltb}
+use lib.ListN.{getD}
 use Rattle.tables.specs.declared.Triple.{Triple}
 use Rattle.tables.specs.Triple.{inside, resolved}
 use Rattle.columns.specs.Entries.{Outcome}
 use Rattle.columns.specs.Entries as entries-of
 use Rattle.columns.specs.declared.ColumnsAnswer.{ColumnsAnswer}
 use Rattle.columns.specs.declared.ColumnsAnswer.the-variants as columns
-use Rattle.answers.specs.Text.{Text, answerOf, leftOf}
+use Rattle.answers.specs.Text.{Text, answerOf, leftOf, Says}
 use Rattle.answers.specs.declared.TextAnswer.{TextAnswer}
 use Rattle.answers.specs.declared.TextAnswer.the-variants as answer
+use Rattle.messages.specs.Message.{messageOf}
+use Rattle.messages.specs.declared.Wide.{Wide}
 use Rattle.document.specs.Refusals.{shownBy}
-use Rattle.document.specs.Whole.{Room, Says}
+use Rattle.document.specs.Whole.{Room}
+use Rattle.document.specs.Whole as whole
 use Rattle.document.specs.declared.Refusal.{Refusal}
 use Rattle.document.specs.declared.Verdict.{Verdict}
 use Rattle.document.specs.declared.Verdict.the-variants as verdict
 use Rattle.items.specs.Writing.{writing, Writes}
-use Rattle.introspection.specs.Words.{bit, verdictWords, answerWords, columnsWords, Reads, textWords, outcomeWords, partWords, lookupWords}
+use Rattle.introspection.specs.Words.{bit, verdictWords, answerWords, columnsWords, Reads, textWords, outcomeWords, partWords, lookupWords, wideAt, messageBy, warningMessageBy}
 
 module _ {v : Verdict} where
   pub verdict-refused : {x : Refusal} {a b n : ℕ} → v ≡ verdict.Refused x → n ≡ shownBy (x .number) → a ≡ bit (ltb 0 n) → b ≡ bit (ltb 1 n) → (x .number ∷ x .place ∷ 0 ∷ 0 ∷ 0 ∷ a ∷ x .first .at ∷ x .first .len ∷ b ∷ x .second .at ∷ x .second .len ∷ x .key ∷ 0 ∷ 0 ∷ 0 ∷ 0 ∷ []) ≡ verdictWords v
@@ -30,7 +34,7 @@ module _ {v : Verdict} where
   pub verdict-accepted : {r t w : ℕ} → v ≡ verdict.Accepted r t w → (0 ∷ 0 ∷ r ∷ t ∷ w ∷ 0 ∷ 0 ∷ 0 ∷ 0 ∷ 0 ∷ 0 ∷ 0 ∷ 0 ∷ 0 ∷ 0 ∷ 0 ∷ []) ≡ verdictWords v
   verdict-accepted e = rw e refl
 
-  pub reads : {doc rows warnings text ws : List ℕ} {room : Room} → Says doc room rows warnings text v → ws ≡ verdictWords v → Reads doc room rows warnings text ws
+  pub reads : {doc rows warnings text ws : List ℕ} {room : Room} → whole.Says doc room rows warnings text v → ws ≡ verdictWords v → Reads doc room rows warnings text ws
   reads s h = record { words = h ∙ ap verdictWords (s .verdict); rows-left = s .rows-left; warnings-left = s .warnings-left; text-left = s .text-left }
 
 module _ {a : TextAnswer} where
@@ -63,6 +67,25 @@ write-words h w = h ∙ ap answerWords (w .says .answer)
 pub write-left : {document x ws out : List ℕ} {n i room : ℕ} {a : TextAnswer} → Writes document x ws n i room out a → out ≡ leftOf room (writing document x ws n i room)
 write-left w = w .says .left
 
+-- of a message
+module _ {document ws out rs : List ℕ} {room : ℕ} {a : TextAnswer} where
+  module _ {v w : Wide} (e : v ≡ wideAt 5 ws) (f : w ≡ wideAt 8 ws) (s : Says (messageOf document (record { number = getD ws 0 0; key = getD ws 11 0; first = v; second = w }) room) room out a) where
+    told : Says (messageBy document ws room) room out a
+    told = rw (e, f) at s
+
+    pub message-words : rs ≡ answerWords a → rs ≡ textWords (messageBy document ws room)
+    message-words h = h ∙ ap answerWords (told .answer)
+
+    pub message-left : out ≡ leftOf room (messageBy document ws room)
+    message-left = told .left
+
+  module _ (s : Says (warningMessageBy document ws room) room out a) where
+    pub warning-words : rs ≡ answerWords a → rs ≡ textWords (warningMessageBy document ws room)
+    warning-words h = h ∙ ap answerWords (s .answer)
+
+    pub warning-left : out ≡ leftOf room (warningMessageBy document ws room)
+    warning-left = s .left
+
 pub ruleset words = (verdict-refused, verdict-accepted, answer-refused, answer-done, columns-refused, columns-done, needs)
 
-pub ruleset entries = (reads, text-words, outcome-words, write-words, write-left, lookup-words, needs)
+pub ruleset entries = (reads, text-words, outcome-words, write-words, write-left, lookup-words, message-words, message-left, warning-words, warning-left, needs)

@@ -1,11 +1,12 @@
 -- The words of each answer, in the order of include/introspection.h.
 -- Assumes nothing.
-use Prim.Native.Nat.{ℕ}
+use Prim.Native.Nat.{ℕ, suc}
 use mathlib.Core.Path.{_≡_}
 use mathlib.Core.List.{List, [], _∷_}
 use mathlib.Core.Bool.{Bool}
 use lib.Dec.{ltb}
 use lib.ListN.{replicate}
+use lib.ListN.{getD}
 use Rattle.slices.specs.Bytes.{if}
 use Rattle.tables.specs.Triple.{inside, resolved}
 use Rattle.tables.specs.declared.Triple.{Triple}
@@ -16,6 +17,9 @@ use Rattle.columns.specs.declared.ColumnsAnswer.the-variants as columns
 use Rattle.answers.specs.Text.{Text, answerOf}
 use Rattle.answers.specs.declared.TextAnswer.{TextAnswer}
 use Rattle.answers.specs.declared.TextAnswer.the-variants as answer
+use Rattle.messages.specs.Message.{messageOf, warningMessageOf}
+use Rattle.messages.specs.declared.Wide.{Wide}
+use Rattle.messages.specs.declared.Told.{Told}
 use Rattle.document.specs.Tags.{Shown}
 use Rattle.document.specs.Reading.{State}
 use Rattle.document.specs.Refusals.{shownBy}
@@ -74,3 +78,17 @@ partWords b t = bit b ∷ t .source ∷ t .start ∷ t .len ∷ []
 
 abbrev pub lookupWords : List ℕ → List ℕ → Triple → List ℕ
 lookupWords document text t = partWords (inside document text t) (resolved document text t)
+
+-- a refusal by its words, as `introspection_read` answers it, or of whatever content
+abbrev pub wideAt : ℕ → List ℕ → Wide
+wideAt k ws = record { source = getD ws k 0; start = getD ws (suc k) 0; len = getD ws (suc (suc k)) 0 }
+
+abbrev pub toldBy : List ℕ → Told
+toldBy ws = record { number = getD ws 0 0; key = getD ws 11 0; first = wideAt 5 ws; second = wideAt 8 ws }
+
+-- the message of a refusal; of a warning by its four words
+abbrev pub messageBy : List ℕ → List ℕ → ℕ → Text
+messageBy document ws room = messageOf document (toldBy ws) room
+
+abbrev pub warningMessageBy : List ℕ → List ℕ → ℕ → Text
+warningMessageBy document ws room = warningMessageOf document (getD ws 0 0) (getD ws 2 0) (getD ws 3 0) room

@@ -2,8 +2,11 @@
 use answers::TextAnswer;
 use columns::ColumnsAnswer;
 use document::Verdict;
+use messages::Told;
+use messages::Wide;
 use tables::Triple;
 ghost use mathlib.Core.Path.{_≡_};
+ghost use Prim.Native.Nat.{_+_, _≤_};
 ghost use lib.ListN.{length};
 ghost use Rattle.tables.specs.declared.Triple.{Triple};
 ghost use Rattle.columns.specs.Entries.{toColumns, toRows, wordsLeft};
@@ -11,7 +14,7 @@ ghost use Rattle.answers.specs.Text.{leftOf};
 ghost use Rattle.references.specs.Entries.{escaping, unescaping};
 ghost use Rattle.document.specs.Whole.{roomOf};
 ghost use Rattle.items.specs.Writing.{writing};
-ghost use Rattle.introspection.specs.Words.{verdictWords, answerWords, columnsWords, partWords, bit, Reads, textWords, outcomeWords, lookupWords};
+ghost use Rattle.introspection.specs.Words.{verdictWords, answerWords, columnsWords, partWords, bit, Reads, textWords, outcomeWords, lookupWords, wideAt, messageBy, warningMessageBy};
 
 // What a refusal's message shows goes with it, each excerpt as a triple.
 fn verdict_words(v: Verdict) -> [u64; 16]
@@ -106,6 +109,54 @@ pub extern "C" fn introspection_read(
 {
     let v = reader::parse_with_warnings(document, rows, warnings, text);
     *answer = verdict_words(v);
+}
+
+// The triple from a word of an answer on.
+fn wide_at(words: &[u64; 16], k: usize) -> Wide
+    requires { ⌜ «k» + 3 ≤ 16 ⌝ }
+    ensures { λ r. ⌜ r ≡ wideAt «k» (now (words .entry)) ⌝ }
+{
+    Wide {
+        source: words[k],
+        start: words[k + 1],
+        len: words[k + 2],
+    }
+}
+
+// The message of a refusal, by the words of a reader's answer, or of whatever content.
+#[no_mangle]
+pub extern "C" fn introspection_message(
+    document: &[u8],
+    refusal: &[u64; 16],
+    output: &mut [u8],
+    answer: &mut [u64; 3],
+)
+    ensures answer { λ _. ⌜ now (answer .exit) ≡ textWords (messageBy (now (document .entry)) (now (refusal .entry)) (length (now (output .entry)))) ⌝ }
+    ensures output { λ _. ⌜ now (output .exit) ≡ leftOf (length (now (output .entry))) (messageBy (now (document .entry)) (now (refusal .entry)) (length (now (output .entry)))) ⌝ }
+{
+    let told = Told {
+        number: refusal[0],
+        key: refusal[11],
+        first: wide_at(refusal, 5),
+        second: wide_at(refusal, 8),
+    };
+    let a = messages::message(document, told, output);
+    *answer = answer_words(a);
+}
+
+// The message of a warning, by its words, or of whatever content.
+#[no_mangle]
+pub extern "C" fn introspection_warning_message(
+    document: &[u8],
+    warning: &[u32; 4],
+    output: &mut [u8],
+    answer: &mut [u64; 3],
+)
+    ensures answer { λ _. ⌜ now (answer .exit) ≡ textWords (warningMessageBy (now (document .entry)) (now (warning .entry)) (length (now (output .entry)))) ⌝ }
+    ensures output { λ _. ⌜ now (output .exit) ≡ leftOf (length (now (output .entry))) (warningMessageBy (now (document .entry)) (now (warning .entry)) (length (now (output .entry)))) ⌝ }
+{
+    let a = messages::warning_message(document, warning[0], warning[2], warning[3], output);
+    *answer = answer_words(a);
 }
 
 // Escapes a value.
