@@ -16,8 +16,7 @@ use Rattle.columns.specs.declared.ColumnsAnswer.the-variants as columns
 use Rattle.answers.specs.Text.{Text, answerOf, leftOf, Says}
 use Rattle.answers.specs.declared.TextAnswer.{TextAnswer}
 use Rattle.answers.specs.declared.TextAnswer.the-variants as answer
-use Rattle.messages.specs.Message.{messageOf}
-use Rattle.messages.specs.declared.Wide.{Wide}
+use Rattle.messages.specs.Message.{messageOf, warningMessageOf}
 use Rattle.document.specs.Refusals.{shownBy}
 use Rattle.document.specs.Whole.{Room}
 use Rattle.document.specs.Whole as whole
@@ -25,7 +24,7 @@ use Rattle.document.specs.declared.Refusal.{Refusal}
 use Rattle.document.specs.declared.Verdict.{Verdict}
 use Rattle.document.specs.declared.Verdict.the-variants as verdict
 use Rattle.items.specs.Writing.{writing, Writes}
-use Rattle.introspection.specs.Words.{bit, verdictWords, answerWords, columnsWords, Reads, textWords, outcomeWords, partWords, lookupWords, wideAt, messageBy, warningMessageBy}
+use Rattle.introspection.specs.Words.{bit, verdictWords, answerWords, columnsWords, Reads, textWords, outcomeWords, partWords, lookupWords, toldBy, messageBy, warningMessageBy}
 
 module _ {v : Verdict} where
   pub verdict-refused : {x : Refusal} {a b n : ℕ} → v ≡ verdict.Refused x → n ≡ shownBy (x .number) → a ≡ bit (ltb 0 n) → b ≡ bit (ltb 1 n) → (x .number ∷ x .place ∷ 0 ∷ 0 ∷ 0 ∷ a ∷ x .first .at ∷ x .first .len ∷ b ∷ x .second .at ∷ x .second .len ∷ x .key ∷ 0 ∷ 0 ∷ 0 ∷ 0 ∷ []) ≡ verdictWords v
@@ -68,23 +67,22 @@ pub write-left : {document x ws out : List ℕ} {n i room : ℕ} {a : TextAnswer
 write-left w = w .says .left
 
 -- of a message
-module _ {document ws out rs : List ℕ} {room : ℕ} {a : TextAnswer} where
-  module _ {v w : Wide} (e : v ≡ wideAt 5 ws) (f : w ≡ wideAt 8 ws) (s : Says (messageOf document (record { number = getD ws 0 0; key = getD ws 11 0; first = v; second = w }) room) room out a) where
-    told : Says (messageBy document ws room) room out a
-    told = rw (e, f) at s
+module _ (document ws : List ℕ) (room : ℕ) {out : List ℕ} {a : TextAnswer} where
+  pub message-words : {rs : List ℕ} → rs ≡ answerWords a → Says (messageOf document (toldBy ws) room) room out a → rs ≡ textWords (messageBy document ws room)
+  unfolding messageBy
+  message-words h s = h ∙ ap answerWords (s .answer)
 
-    pub message-words : rs ≡ answerWords a → rs ≡ textWords (messageBy document ws room)
-    message-words h = h ∙ ap answerWords (told .answer)
+  pub message-left : Says (messageOf document (toldBy ws) room) room out a → out ≡ leftOf room (messageBy document ws room)
+  unfolding messageBy
+  message-left s = s .left
 
-    pub message-left : out ≡ leftOf room (messageBy document ws room)
-    message-left = told .left
+  pub warning-words : {rs : List ℕ} → rs ≡ answerWords a → Says (warningMessageOf document (getD ws 0 0) (getD ws 2 0) (getD ws 3 0) room) room out a → rs ≡ textWords (warningMessageBy document ws room)
+  unfolding warningMessageBy
+  warning-words h s = h ∙ ap answerWords (s .answer)
 
-  module _ (s : Says (warningMessageBy document ws room) room out a) where
-    pub warning-words : rs ≡ answerWords a → rs ≡ textWords (warningMessageBy document ws room)
-    warning-words h = h ∙ ap answerWords (s .answer)
-
-    pub warning-left : out ≡ leftOf room (warningMessageBy document ws room)
-    warning-left = s .left
+  pub warning-left : Says (warningMessageOf document (getD ws 0 0) (getD ws 2 0) (getD ws 3 0) room) room out a → out ≡ leftOf room (warningMessageBy document ws room)
+  unfolding warningMessageBy
+  warning-left s = s .left
 
 pub ruleset words = (verdict-refused, verdict-accepted, answer-refused, answer-done, columns-refused, columns-done, needs)
 

@@ -87,8 +87,8 @@ abbrev pub toldBy : List ℕ → Told
 toldBy ws = record { number = getD ws 0 0; key = getD ws 11 0; first = wideAt 5 ws; second = wideAt 8 ws }
 
 -- the message of a refusal; of a warning by its four words
-abbrev pub messageBy : List ℕ → List ℕ → ℕ → Text
+unfoldable pub messageBy : List ℕ → List ℕ → ℕ → Text
 messageBy document ws room = messageOf document (toldBy ws) room
 
-abbrev pub warningMessageBy : List ℕ → List ℕ → ℕ → Text
+unfoldable pub warningMessageBy : List ℕ → List ℕ → ℕ → Text
 warningMessageBy document ws room = warningMessageOf document (getD ws 0 0) (getD ws 2 0) (getD ws 3 0) room

@@ -6,7 +6,6 @@ use messages::Told;
 use messages::Wide;
 use tables::Triple;
 ghost use mathlib.Core.Path.{_≡_};
-ghost use Prim.Native.Nat.{_+_, _≤_};
 ghost use lib.ListN.{length};
 ghost use Rattle.tables.specs.declared.Triple.{Triple};
 ghost use Rattle.columns.specs.Entries.{toColumns, toRows, wordsLeft};
@@ -14,7 +13,7 @@ ghost use Rattle.answers.specs.Text.{leftOf};
 ghost use Rattle.references.specs.Entries.{escaping, unescaping};
 ghost use Rattle.document.specs.Whole.{roomOf};
 ghost use Rattle.items.specs.Writing.{writing};
-ghost use Rattle.introspection.specs.Words.{verdictWords, answerWords, columnsWords, partWords, bit, Reads, textWords, outcomeWords, lookupWords, wideAt, messageBy, warningMessageBy};
+ghost use Rattle.introspection.specs.Words.{verdictWords, answerWords, columnsWords, partWords, bit, Reads, textWords, outcomeWords, lookupWords, messageBy, warningMessageBy};
 
 // What a refusal's message shows goes with it, each excerpt as a triple.
 fn verdict_words(v: Verdict) -> [u64; 16]
@@ -111,18 +110,6 @@ pub extern "C" fn introspection_read(
     *answer = verdict_words(v);
 }
 
-// The triple from a word of an answer on.
-fn wide_at(words: &[u64; 16], k: usize) -> Wide
-    requires { ⌜ «k» + 3 ≤ 16 ⌝ }
-    ensures { λ r. ⌜ r ≡ wideAt «k» (now (words .entry)) ⌝ }
-{
-    Wide {
-        source: words[k],
-        start: words[k + 1],
-        len: words[k + 2],
-    }
-}
-
 // The message of a refusal, by the words of a reader's answer, or of whatever content.
 #[no_mangle]
 pub extern "C" fn introspection_message(
@@ -134,11 +121,21 @@ pub extern "C" fn introspection_message(
     ensures answer { λ _. ⌜ now (answer .exit) ≡ textWords (messageBy (now (document .entry)) (now (refusal .entry)) (length (now (output .entry)))) ⌝ }
     ensures output { λ _. ⌜ now (output .exit) ≡ leftOf (length (now (output .entry))) (messageBy (now (document .entry)) (now (refusal .entry)) (length (now (output .entry)))) ⌝ }
 {
+    let first = Wide {
+        source: refusal[5],
+        start: refusal[6],
+        len: refusal[7],
+    };
+    let second = Wide {
+        source: refusal[8],
+        start: refusal[9],
+        len: refusal[10],
+    };
     let told = Told {
         number: refusal[0],
         key: refusal[11],
-        first: wide_at(refusal, 5),
-        second: wide_at(refusal, 8),
+        first,
+        second,
     };
     let a = messages::message(document, told, output);
     *answer = answer_words(a);

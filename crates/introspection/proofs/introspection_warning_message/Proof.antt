@@ -9,4 +9,9 @@ introspection-warning-message-spec =
     tie.close
     (tie.spec
     (λ c. search entries)
+    (λ c. search entries)
+    (λ c. search entries)
+    (λ c κs. search entries)
+    (λ c κs. search entries)
+    (λ c. search entries)
     (λ c. search entries))
