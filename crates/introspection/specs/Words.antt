@@ -35,8 +35,11 @@ shownWords x =
     ∷ bit (ltb 1 (shownBy (x .number))) ∷ x .second .at ∷ x .second .len
     ∷ x .key ∷ 0 ∷ 0 ∷ 0 ∷ 0 ∷ []
 
+abbrev pub refusalWords : Refusal → List ℕ
+refusalWords x = x .number ∷ x .place ∷ 0 ∷ 0 ∷ 0 ∷ shownWords x
+
 abbrev pub verdictWords : Verdict → List ℕ
-verdictWords (verdict.Refused x) = x .number ∷ x .place ∷ 0 ∷ 0 ∷ 0 ∷ shownWords x
+verdictWords (verdict.Refused x) = refusalWords x
 verdictWords (verdict.Accepted rows text warnings) = 0 ∷ 0 ∷ rows ∷ text ∷ warnings ∷ replicate 11 0
 
 -- number, place, bytes written
