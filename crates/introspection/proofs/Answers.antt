@@ -24,11 +24,14 @@ use Rattle.document.specs.declared.Refusal.{Refusal}
 use Rattle.document.specs.declared.Verdict.{Verdict}
 use Rattle.document.specs.declared.Verdict.the-variants as verdict
 use Rattle.items.specs.Writing.{writing, Writes}
-use Rattle.introspection.specs.Words.{bit, verdictWords, answerWords, columnsWords, Reads, textWords, outcomeWords, partWords, lookupWords, toldBy, messageBy, warningMessageBy}
+use Rattle.introspection.specs.Words.{bit, verdictWords, answerWords, columnsWords, Reads, textWords, outcomeWords, partWords, lookupWords, toldBy, messageBy, warningMessageBy, refusalWords}
+
+pub refusal-words : {x : Refusal} {a b n : ℕ} → n ≡ shownBy (x .number) → a ≡ bit (ltb 0 n) → b ≡ bit (ltb 1 n) → (x .number ∷ x .place ∷ 0 ∷ 0 ∷ 0 ∷ a ∷ x .first .at ∷ x .first .len ∷ b ∷ x .second .at ∷ x .second .len ∷ x .key ∷ 0 ∷ 0 ∷ 0 ∷ 0 ∷ []) ≡ refusalWords x
+refusal-words n a b = rw (a, b, n) refl
 
 module _ {v : Verdict} where
-  pub verdict-refused : {x : Refusal} {a b n : ℕ} → v ≡ verdict.Refused x → n ≡ shownBy (x .number) → a ≡ bit (ltb 0 n) → b ≡ bit (ltb 1 n) → (x .number ∷ x .place ∷ 0 ∷ 0 ∷ 0 ∷ a ∷ x .first .at ∷ x .first .len ∷ b ∷ x .second .at ∷ x .second .len ∷ x .key ∷ 0 ∷ 0 ∷ 0 ∷ 0 ∷ []) ≡ verdictWords v
-  verdict-refused e n a b = rw (e, a, b, n)
+  pub verdict-refused : {x : Refusal} {ws : List ℕ} → v ≡ verdict.Refused x → ws ≡ refusalWords x → ws ≡ verdictWords v
+  verdict-refused e h = h ∙ rw e refl
 
   pub verdict-accepted : {r t w : ℕ} → v ≡ verdict.Accepted r t w → (0 ∷ 0 ∷ r ∷ t ∷ w ∷ 0 ∷ 0 ∷ 0 ∷ 0 ∷ 0 ∷ 0 ∷ 0 ∷ 0 ∷ 0 ∷ 0 ∷ 0 ∷ []) ≡ verdictWords v
   verdict-accepted e = rw e refl
@@ -84,6 +87,6 @@ module _ (document ws : List ℕ) (room : ℕ) {out : List ℕ} {a : TextAnswer}
   unfolding warningMessageBy
   warning-left s = s .left
 
-pub ruleset words = (verdict-refused, verdict-accepted, answer-refused, answer-done, columns-refused, columns-done, needs)
+pub ruleset words = (refusal-words, verdict-refused, verdict-accepted, answer-refused, answer-done, columns-refused, columns-done, needs)
 
 pub ruleset entries = (reads, text-words, outcome-words, write-words, write-left, lookup-words, message-words, message-left, warning-words, warning-left, needs)

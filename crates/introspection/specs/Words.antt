@@ -5,8 +5,7 @@ use mathlib.Core.Path.{_≡_}
 use mathlib.Core.List.{List, [], _∷_}
 use mathlib.Core.Bool.{Bool}
 use lib.Dec.{ltb}
-use lib.ListN.{replicate}
-use lib.ListN.{getD}
+use lib.ListN.{replicate, getD}
 use Rattle.slices.specs.Bytes.{if}
 use Rattle.tables.specs.Triple.{inside, resolved}
 use Rattle.tables.specs.declared.Triple.{Triple}
@@ -39,8 +38,11 @@ shownWords x =
     ∷ bit (ltb 1 (shownBy (x .number))) ∷ x .second .at ∷ x .second .len
     ∷ x .key ∷ 0 ∷ 0 ∷ 0 ∷ 0 ∷ []
 
+abbrev pub refusalWords : Refusal → List ℕ
+refusalWords x = x .number ∷ x .place ∷ 0 ∷ 0 ∷ 0 ∷ shownWords x
+
 abbrev pub verdictWords : Verdict → List ℕ
-verdictWords (verdict.Refused x) = x .number ∷ x .place ∷ 0 ∷ 0 ∷ 0 ∷ shownWords x
+verdictWords (verdict.Refused x) = refusalWords x
 verdictWords (verdict.Accepted rows text warnings) = 0 ∷ 0 ∷ rows ∷ text ∷ warnings ∷ replicate 11 0
 
 -- number, place, bytes written

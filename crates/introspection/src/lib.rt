@@ -1,6 +1,7 @@
 // The library for C: the public entries, each answer written into the array that is lent last (include/introspection.h).
 use answers::TextAnswer;
 use columns::ColumnsAnswer;
+use document::Refusal;
 use document::Verdict;
 use messages::Told;
 use messages::Wide;
@@ -13,34 +14,38 @@ ghost use Rattle.answers.specs.Text.{leftOf};
 ghost use Rattle.references.specs.Entries.{escaping, unescaping};
 ghost use Rattle.document.specs.Whole.{roomOf};
 ghost use Rattle.items.specs.Writing.{writing};
-ghost use Rattle.introspection.specs.Words.{verdictWords, answerWords, columnsWords, partWords, bit, Reads, textWords, outcomeWords, lookupWords, messageBy, warningMessageBy};
+ghost use Rattle.introspection.specs.Words.{verdictWords, answerWords, columnsWords, partWords, bit, Reads, textWords, outcomeWords, lookupWords, messageBy, warningMessageBy, refusalWords};
 
 // What a refusal's message shows goes with it, each excerpt as a triple.
+fn refusal_words(x: Refusal) -> [u64; 16]
+    ensures { λ r. ⌜ r ≡ refusalWords x ⌝ }
+{
+    let shown = document::shown_by(x.number);
+    [
+        x.number as u64,
+        x.place as u64,
+        0,
+        0,
+        0,
+        bit(0 < shown),
+        x.first.at as u64,
+        x.first.len as u64,
+        bit(1 < shown),
+        x.second.at as u64,
+        x.second.len as u64,
+        x.key as u64,
+        0,
+        0,
+        0,
+        0,
+    ]
+}
+
 fn verdict_words(v: Verdict) -> [u64; 16]
     ensures { λ r. ⌜ r ≡ verdictWords v ⌝ }
 {
     match v {
-        Verdict::Refused(refusal) => {
-            let shown = document::shown_by(refusal.number);
-            [
-                refusal.number as u64,
-                refusal.place as u64,
-                0,
-                0,
-                0,
-                bit(0 < shown),
-                refusal.first.at as u64,
-                refusal.first.len as u64,
-                bit(1 < shown),
-                refusal.second.at as u64,
-                refusal.second.len as u64,
-                refusal.key as u64,
-                0,
-                0,
-                0,
-                0,
-            ]
-        }
+        Verdict::Refused(x) => refusal_words(x),
         Verdict::Accepted(rows, text, warnings) => [
             0,
             0,
