@@ -624,7 +624,7 @@ static void messages(void)
     uint64_t a[3];
     uint8_t *out = lend(40);
     introspection_message(r.document, r.document_length, r.answer, out, 39, a);
-    CHECK(a[0] == INTROSPECTION_OUTPUT_SHORT && a[1] == 40 && a[2] == 0 && all_zero(out, 0, 40));
+    CHECK(a[0] == INTROSPECTION_OUTPUT_SHORT && a[1] == 40 && a[2] == 0 && all_zero(out, 0, 39));
     r.answer[INTROSPECTION_ANSWER_SECOND + 1] = UINT64_MAX; /* words of whatever content */
     r.answer[INTROSPECTION_ANSWER_SECOND + 2] = UINT64_MAX;
     introspection_message(r.document, r.document_length, r.answer, out, 40, a);
