@@ -335,14 +335,51 @@ static void room(void)
     end_reading(&r);
 }
 
+/* ---- what the message of a refusal shows */
+
+/* Whether the document is refused with this number and just these words from 5 on; the last four words are zero. */
+static void refused_showing(const char *document, uint64_t number, const uint64_t shown[7], int line)
+{
+    struct reading r = read_all(document);
+    check(r.answer[INTROSPECTION_ANSWER_NUMBER] == number && refused_clean(&r)
+              && memcmp(r.answer + INTROSPECTION_ANSWER_FIRST, shown, 7 * sizeof(uint64_t)) == 0
+              && all_zero(r.answer, 12 * sizeof(uint64_t), sizeof r.answer),
+          document, line);
+    end_reading(&r);
+}
+
+#define SHOWS(document, number, a, b, c, d, e, f, key)                                       \
+    do {                                                                                     \
+        const uint64_t shown[7] = {a, b, c, d, e, f, key};                                   \
+        refused_showing(document, number, shown, __LINE__);                                  \
+    } while (0)
+
+static void refusals_shown(void)
+{
+    struct reading r = read_all("<node><x/></node>");
+    CHECK(answers(&r, INTROSPECTION_ACCEPTED, 0) && all_zero(r.answer, 5 * sizeof(uint64_t), sizeof r.answer));
+    end_reading(&r);
+    SHOWS("<node", 4, 0, 0, 0, 0, 0, 0, 0);
+    SHOWS("<a><node><node></node>", 5, 1, 4, 4, 0, 0, 0, 0);
+    SHOWS("<a><node><node></node></x>", 6, 1, 24, 1, 1, 4, 4, 0);
+    SHOWS("<a></b >", 6, 1, 5, 1, 1, 1, 1, 0);
+    SHOWS("<a x='' y='' x=''/>", 8, 1, 13, 1, 0, 0, 0, 0);
+    SHOWS("<a x='&q;'/>", 10, 1, 6, 3, 0, 0, 0, 0);
+    SHOWS("<a x='&#0;'/>", 11, 1, 6, 4, 0, 0, 0, 0);
+    SHOWS("<node><interface/></node>", 12, 1, 7, 9, 0, 0, 0, INTROSPECTION_KEY_NAME);
+    SHOWS("<a><interface name='a.b'><property name='P' type='s' access=''", 4, 0, 0, 0, 0, 0, 0, 0);
+    SHOWS("<a><interface name='a.b'><property name='P' type='s' access=''/>", 15, 1, 61, 0, 0, 0, 0, 0);
+    SHOWS("<a><interface name='a.b'><property name='P' type='s'/>", 12, 1, 26, 8, 0, 0, 0, INTROSPECTION_KEY_ACCESS);
+}
+
 /* ---- null pointers with length 0, in every place that has a buffer */
 
 static void nothing_lent(void)
 {
     uint64_t a[INTROSPECTION_ANSWER_WORDS], b[3] = {9, 9, 9}, c[4] = {9, 9, 9, 9};
-    memset(a, 9, sizeof a);
     const uint8_t *document = (const uint8_t *)"<node/>";
     uint8_t out[2] = {7, 7};
+    memset(a, 9, sizeof a);
     introspection_read(NULL, 0, NULL, 0, NULL, 0, NULL, 0, a);
     CHECK(a[0] == INTROSPECTION_NO_ROOT && all_zero(a, 8, sizeof a));
     introspection_read(document, 7, NULL, 0, NULL, 0, NULL, 0, a);
@@ -652,6 +689,7 @@ int main(void)
     refused_documents();
     at_the_limits();
     room();
+    refusals_shown();
     nothing_lent();
     values();
     messages();
