@@ -11,9 +11,10 @@ use native.Mathlib.Omega.{arith}
 use lib.Dec.{eqb}
 use lib.ListN.{length, take, drop, getD, length-append, length-drop, take-append-drop}
 use lib.Seq.{drop-drop, drop-append-le, getD-drop}
-use Rattle.slices.specs.Bytes.{if, other, span, past, empty}
-use Rattle.slices.proofs.Runs.{Stops, by-byte}
+use Rattle.slices.specs.Bytes.{other, span, past, empty}
+use Rattle.slices.proofs.Runs.{Stops}
 use Rattle.scan.specs.Classes.{white, nameByte}
+use Rattle.scan.proofs.Class.{white-small}
 use Rattle.scan.specs.Ignorable.{quote, markup, further, ignorableFrom, ignorable}
 use Rattle.scan.specs.declared.Scan.{Scan}
 use Rattle.scan.specs.declared.Scan.the-variants.{Fault, At}
@@ -25,8 +26,8 @@ use Rattle.document.specs.Tags.{Attr, Found, absent, found, closeQuote, openQuo
 use Rattle.document.specs.Tags as tags
 use Rattle.document.specs.Tokens.{Tag, Token, start, close, fault, end, Next, more, last, slashEnd, tagEnd, withShown, withAttrs, opening, closeEnd, closing, tag, tagOrEnd, pastIgnorable, next, joined, tokensFrom, tokens}
 use Rattle.document.specs.Elements.{among}
-use Rattle.document.proofs.Tests.{never, either, among-all}
-use Rattle.document.proofs.Branches.{span-past, not-empty}
+use Rattle.document.proofs.Tests.{either, among-all}
+use Rattle.document.proofs.Branches.{span-past, not-empty, run-byte, run-first}
 use Rattle.document.proofs.Ignorables.{Scanned, ignorable-within}
 use Rattle.document.proofs.Unescapes.{Bad, Referring, Faulty, unended, misreferred, Told, unescape-told}
 use Rattle.document.proofs.Places.{past-begins, next-left, byte-left, past-left, span-left}
@@ -98,33 +99,6 @@ quote-small q e = go (eqb q 34) refl e
     go : (t : Bool) → eqb q 34 ≡ t → (t || eqb q 39) ≡ true → q < 128
     go true f e = omega (arith, eqb-true q 34 f)
     go false f e = omega (arith, eqb-true q 39 e)
-
-white-small : (b : ℕ) → white b ≡ true → b < 128
-white-small b =
-    by-byte (λ x. white x ≡ true → x < 128) b 32 (λ e. omega arith)
-    (λ p. by-byte (λ x. white x ≡ true → x < 128) b 9 (λ e. omega arith)
-    (λ q. by-byte (λ x. white x ≡ true → x < 128) b 10 (λ e. omega arith)
-    (λ r. by-byte (λ x. white x ≡ true → x < 128) b 12 (λ e. omega arith)
-    (λ s. by-byte (λ x. white x ≡ true → x < 128) b 13 (λ e. omega arith) (λ t e. never (rw (p, q, r, s, t) at e))))))
-
--- the bytes of a run are of its class
-run-byte : (p : ℕ → Bool) (l : List ℕ) (i : ℕ) → i < length (span p l) → p (getD l i 0) ≡ true
-run-byte p [] i h = absurd (omega arith)
-run-byte p (b ∷ l) i h = go (p b) refl i h (run-byte p l)
-  where
-    go : (t : Bool) → p b ≡ t → (i : ℕ) → i < length (if t (b ∷ span p l) []) → ((i : ℕ) → i < length (span p l) → p (getD l i 0) ≡ true) → p (getD (b ∷ l) i 0) ≡ true
-    go true e zero h f = e
-    go true e (suc i) h f = f i (omega arith)
-    go false e i h f = absurd (omega arith)
-
--- a run that ends in a beginning of a list ends there in the whole
-run-first : (p : ℕ → Bool) (l r : List ℕ) → length (span p l) < length l → span p (l ++ r) ≡ span p l
-run-first p [] r h = absurd (omega arith)
-run-first p (b ∷ l) r h = go (p b) h (run-first p l r)
-  where
-    go : (t : Bool) → length (if t (b ∷ span p l) []) < suc (length l) → (length (span p l) < length l → span p (l ++ r) ≡ span p l) → if t (b ∷ span p (l ++ r)) [] ≡ if t (b ∷ span p l) []
-    go true h f = ap (_∷_ b) (f (omega arith))
-    go false h f = refl
 
 referring-more : (l r : List ℕ) → Referring l → Referring (l ++ r)
 referring-more [] r h = absurd (omega (arith, h .1))
