@@ -22,7 +22,7 @@ use Rattle.messages.specs.Texts.{Piece, piecesOf, refusals, warnings, keyName}
 use Rattle.messages.specs.Message.{isShown, excerptOf, present, joined, messageBy, messageOf, warned, warningMessageOf}
 use Rattle.messages.specs.declared.Wide.{Wide}
 use Rattle.messages.specs.declared.Told.{Told}
-use Rattle.refusals.specs.Told.{tripleOf, toldOf}
+use Rattle.refusals.specs.Told.{toldOf}
 
 -- an excerpt stands in the document, and is UTF-8
 abbrev pub bytesAt : List ℕ → Excerpt → List ℕ
@@ -75,8 +75,11 @@ unfolding messageOf
 message-tells doc x room t q = limited (ltb 1048576 (length doc) && not (eqb (x .number) 2)) _ (roomy-tells room (messageBy doc x (piecesOf refusals (x .number))) t) q
 
 -- an excerpt that stands in the document is shown
+abbrev inDocument : Excerpt → Wide
+inDocument e = record { source = 1; start = e .at; len = e .len }
+
 module _ {doc : List ℕ} {e : Excerpt} where
-  excerpt-shown : Stands doc e → excerptOf doc (tripleOf true e) ≡ text (bytesAt doc e)
+  excerpt-shown : Stands doc e → excerptOf doc (inDocument e) ≡ text (bytesAt doc e)
   unfolding excerptOf isShown
   excerpt-shown s = rw (le-leb (e .at + e .len) (length doc) (s .inside), eq-eqb _ _ (s .formed))
 
@@ -123,7 +126,7 @@ module _ (doc : List ℕ) (y : Told) where
     reason-tells n e = among-each (λ n. Telling (messageBy doc y (piecesOf warnings n))) n reasons e (rw q (_, refl), (rw q (_, refl), (rw q (_, refl), (rw q (_, refl), (rw q (_, refl), (rw q (_, refl), (rw q (_, refl), (rw q (_, refl), (rw q (_, refl), tt)))))))))
 
 -- what is told of a refusal whose number shows an excerpt
-told-first : (x : Refusal) → ltb 0 (shownBy (x .number)) ≡ true → toldOf x .first ≡ tripleOf true (x .first)
+told-first : (x : Refusal) → ltb 0 (shownBy (x .number)) ≡ true → toldOf x .first ≡ inDocument (x .first)
 told-first x e = rw e
 
 -- a refusal whose excerpts are there is not answered by 19
@@ -134,7 +137,7 @@ refusal-told doc x (one-shown e s) room =
     message-tells doc (toldOf x) room (first-tells doc (toldOf x) (ap (excerptOf doc) (told-first x w) ∙ excerpt-shown s) (x .number) e)
 refusal-told doc x (two-shown e s s′) room =
     let w : ltb 0 (shownBy (x .number)) ≡ true = rw e in
-    let v : toldOf x .second ≡ tripleOf true (x .second) = rw e in
+    let v : toldOf x .second ≡ inDocument (x .second) = rw e in
     message-tells doc (toldOf x) room (subst (Tells doc (toldOf x)) (sym e) (second-tells doc (toldOf x) (ap (excerptOf doc) (told-first x w) ∙ excerpt-shown s) (ap (excerptOf doc) v ∙ excerpt-shown s′)))
 refusal-told doc x (key-shown e k s) room =
     let w : ltb 0 (shownBy (x .number)) ≡ true = rw e in
