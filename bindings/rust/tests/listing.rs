@@ -82,8 +82,11 @@ fn each_reason() {
         assert_eq!(warnings[0].number(), reason.number());
         assert_eq!(warnings[0].position(), 6);
         assert_eq!(warnings[0].element(), name);
-        let message = warnings[0].message();
-        assert!(message.starts_with(&format!("malformed element `<{name}>` ignored: ")));
+        let begins = match reason {
+            Reason::UnsupportedElement => format!("unsupported element `<{name}>` ignored"),
+            _ => format!("malformed element `<{name}>` ignored: "),
+        };
+        assert!(warnings[0].message().starts_with(&begins));
         assert_eq!(document.root().telepathy_types().count(), 0);
         assert_eq!(
             document.root().nodes().next().unwrap().name(),

@@ -439,7 +439,7 @@ module _ (doc : List ℕ) where
   closes = record {
     element = λ k n r fs u h. record { closed = h .closed; tallies = h .tallies .1; fresh = h .fresh };
     whole = λ d fs u e h. whole-holds d fs (u .rows) e h;
-    broken = λ d fs u h. dropped-holds d fs (u .rows) h;
+    broken = λ d fs u e h. dropped-holds d fs (u .rows) h;
     root = λ u h. h;
   }
 

@@ -180,7 +180,7 @@ module _ (doc : List ℕ) where
   closes = record {
     element = λ k n r fs u h. record { follow = h .follow; inside = popped r (openRows fs) (u .rows) (h .inside) };
     whole = λ d fs u e h. record { follow = h .follow; inside = popped (d .row) (openRows fs) (u .rows) (h .inside) };
-    broken = λ d fs u h. dropped-holds d fs (u .rows) h;
+    broken = λ d fs u e h. dropped-holds d fs (u .rows) h;
     root = λ u h. h;
   }
 

@@ -137,7 +137,7 @@ module _ (doc : List ℕ) (formed : illFormed doc ≡ length doc) where
   closes = record {
     element = λ k n r fs u h. record { fine = h .fine; docs = h .docs; tags = h .tags; frames = h .frames .3 };
     whole = λ d fs u e h. record { fine = h .fine; docs = h .docs; tags = h .tags; frames = frames-judged doc (length (u .rows)) (rowAt (u .rows)) d fs e (h .frames) };
-    broken = λ d fs u h. dropped-holds d fs (u .rows) h;
+    broken = λ d fs u e h. dropped-holds d fs (u .rows) h;
     root = λ u h. h;
   }
 
@@ -207,7 +207,7 @@ module _ (doc : List ℕ) (formed : illFormed doc ≡ length doc) where
 
   ways : (t : Token) → Comes doc t → Ways whole doc held held held t
   ways (start t) c = starts t c
-  ways (close lt n q) c = shuts lt n q c
+  ways (close lt n q) c = shuts lt n q (c .begins)
   ways (fault n p) c = tt
   ways (end p) c = (tt, λ f fs u h. tt)
 

@@ -132,7 +132,7 @@ module _ (doc : List ℕ) (top : ℕ) where
     closes = record {
       element = λ k n r fs u h. popped m (h .owned) h;
       whole = λ d fs u e h. popped m (owned-more (d .row) (length (u .rows)) fs (omega (arith, h .owned .0)) (h .owned .1)) h;
-      broken = λ d fs u h. dropped-holds d fs u m h;
+      broken = λ d fs u e h. dropped-holds d fs u m h;
       root = λ u h. fits l h;
     }
 

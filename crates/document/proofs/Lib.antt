@@ -11,6 +11,7 @@ pub mod Openings
 pub mod Opens
 pub mod Steps
 pub mod Branches
+pub mod Places
 pub mod Ignorables
 pub mod Unescapes
 pub mod Attributes

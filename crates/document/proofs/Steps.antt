@@ -57,7 +57,7 @@ module _ {A : Type 0} (keep : Keeping A) (doc : List ℕ) where
   pub record Closes (i j : Known A) : Type 0 where
     pub element : (k : ℕ) (n : Name) (r : ℕ) (fs : List Frame) (u : Tables A) → i .inside (element k n r ∷ fs) u → j .inside fs u
     pub whole : (d : Definition) (fs : List Frame) (u : Tables A) → reasonOf d ≡ 0 → i .inside (definition d ∷ fs) u → j .inside fs u
-    pub broken : (d : Definition) (fs : List Frame) (u : Tables A) → i .inside (definition d ∷ fs) u → j .inside fs (dropped (reasonOf d) d u)
+    pub broken : (d : Definition) (fs : List Frame) (u : Tables A) → eqb (reasonOf d) 0 ≡ false → i .inside (definition d ∷ fs) u → j .inside fs (dropped (reasonOf d) d u)
     pub root : (u : Tables A) → j .inside [] u → j .done u
 
   -- a closing tag whose `<` stands at lt: also content that is passed over, a docstring, an element in such content; or another tag
@@ -124,7 +124,7 @@ module _ {A : Type 0} (keep : Keeping A) (doc : List ℕ) where
     judged-kept : (d : Definition) (fs : List Frame) (u : Tables A) → i .inside (definition d ∷ fs) u → Kept j (closed fs (judged d u))
     judged-kept d fs u h =
         closed-kept fs (judged d u)
-        (either (j .inside fs) (eqb (reasonOf d) 0) (λ e. c .whole d fs u (eqb-true (reasonOf d) 0 e) h) (λ e. c .broken d fs u h))
+        (either (j .inside fs) (eqb (reasonOf d) 0) (λ e. c .whole d fs u (eqb-true (reasonOf d) 0 e) h) (λ e. c .broken d fs u e h))
 
     own-kept : (k : ℕ) (t : Tag) (n : ℕ) (fs : List Frame) (u : Tables A) → i .inside (frameOf k t n ∷ fs) u → Kept j (shut doc (frameOf k t n) fs u 0)
     own-kept k t n fs u =

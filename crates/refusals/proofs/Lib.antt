@@ -1,3 +1,6 @@
--- Refusals and warnings whose excerpts are there have a message.
+-- Every refusal and every warning of the reader has a message.
 -- Assumes nothing.
 pub mod Telling
+pub mod Standing
+pub mod States
+pub mod Whole

@@ -1,3 +1,4 @@
--- What is told of a refusal, and what its excerpts have to be for it to have a message.
+-- What is told of refusals and warnings of the reader: each has a message.
 -- Assumes nothing.
 pub mod Told
+pub mod Cases

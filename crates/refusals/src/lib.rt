@@ -1,1 +1,2 @@
-// No code: what is proved of the refusals and warnings that reading gives, turned with their document.
+// No code: every refusal and every warning that reading gives, turned with its document, has a message. The theorems are in
+// proofs/Whole.antt.
