@@ -102,6 +102,13 @@ fn put_read(
     )
 }
 
+// Fills the tables with something else than zeros.
+fn fill(rows: &mut [u32], warnings: &mut [u32], text: &mut [u8]) {
+    notation::words::fill(rows, 2863311530);
+    notation::words::fill(warnings, 2863311530);
+    notation::text::fill(text, 170);
+}
+
 // Reads a document into tables that hold something else.
 fn lent(
     out: &mut [u8],
@@ -112,9 +119,7 @@ fn lent(
     warnings: &mut [u32],
     text: &mut [u8],
 ) -> usize {
-    notation::words::fill(rows, 2863311530);
-    notation::words::fill(warnings, 2863311530);
-    notation::text::fill(text, 170);
+    fill(rows, warnings, text);
     match reader::parse_with_warnings(document, rows, warnings, text) {
         Verdict::Refused(refusal) => put_refused(out, n, asked, rows, warnings, text, refusal),
         Verdict::Accepted(r, t, w) => put_read(out, n, rows, warnings, text, r, t, w),
