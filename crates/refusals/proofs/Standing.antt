@@ -1,15 +1,13 @@
 -- What the tokens of a document that is UTF-8 show stands in it: names, references and raw values.
 -- Assumes nothing.
 use Prim.Native.Nat.{ℕ, suc, _+_, _-_, _<_}
-use mathlib.Core.Path.{_≡_, refl, ap, sym, _∙_}
-use mathlib.Core.List.{List, [], _∷_}
-use mathlib.Core.Bool.{Bool, true, false, not}
+use mathlib.Core.Path.{_≡_, sym, _∙_}
+use mathlib.Core.List.{List}
 use borrow.Author.Tests.{eqb-true, not-false}
 use native.Mathlib.Nat.{add-zero}
-use native.Mathlib.Numerals.{add-one}
 use native.Mathlib.Omega.{arith}
 use lib.Dec.{eqb}
-use lib.ListN.{length, take, drop, getD, length-drop}
+use lib.ListN.{length, drop, getD, length-drop}
 use lib.Seq.{getD-drop}
 use Rattle.slices.specs.Bytes.{other, span}
 use Rattle.slices.proofs.Runs.{span-end}
@@ -22,12 +20,11 @@ use Rattle.scan.specs.Classes.{nameByte}
 use Rattle.scan.proofs.Class.{name-small}
 use Rattle.document.specs.Tags.{Shown}
 use Rattle.document.specs.Refusals.{excerpt, nothing, rawOf}
-use Rattle.document.specs.declared.Excerpt.{Excerpt}
 use Rattle.document.proofs.Branches.{span-past}
 use Rattle.document.proofs.Unescapes.{Referring}
 use Rattle.accepted.proofs.Tokens.{After, Opens, Held}
-use Rattle.accepted.proofs.Docstrings.{after-cut, before-cut, raw-formed}
-use Rattle.refusals.proofs.Telling.{bytesAt, Stands, Reads}
+use Rattle.accepted.proofs.Docstrings.{after-cut, raw-formed}
+use Rattle.refusals.proofs.Telling.{Stands, Reads}
 
 -- nothing stands anywhere
 pub nothing-stands : (doc : List ℕ) → Stands doc nothing

@@ -5,10 +5,10 @@ use Prim.Native.Nat.{ℕ, suc}
 use mathlib.Core.Path.{_≡_, refl}
 use mathlib.Core.List.{List, [], _∷_, _++_}
 use mathlib.Core.Option.{Option, none, some}
-use mathlib.Core.Bool.{Bool, true, false}
+use mathlib.Core.Bool.{true, false}
 use lib.Dec.{eqb}
 use lib.ListN.{length}
-use Rattle.slices.specs.Bytes.{if, bytes}
+use Rattle.slices.specs.Bytes.{bytes}
 use Rattle.utf8.specs.WellFormed.{illFormed}
 use Rattle.document.specs.Kinds.{definitions, parts, typed}
 use Rattle.document.specs.Tags.{Shown}
@@ -66,11 +66,12 @@ dropped-reason d h e =
 
 -- ---- states
 
-module _ (doc : List ℕ) where
-  -- a warning, and its name after its `<`
-  abbrev pub nameIn : Warning → Excerpt
-  nameIn w = excerpt (suc (w .at)) (w .name)
+-- the name of a warning, after its `<`
+abbrev pub nameIn : Warning → Excerpt
+nameIn w = excerpt (suc (w .at)) (w .name)
 
+module _ (doc : List ℕ) where
+  -- a warning with a known reason and a name that stands in the document
   pub record Warns (w : Warning) : Type 0 where
     pub reason : In reasons (w .reason)
     pub name : Stands doc (nameIn w)

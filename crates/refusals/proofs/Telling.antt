@@ -1,10 +1,10 @@
 -- What has to stand in the document for a refusal or a warning to have a message; and it then has one.
 -- Assumes nothing.
-use Prim.Native.Nat.{ℕ, suc, _+_, _≤_}
+use Prim.Native.Nat.{ℕ, _+_, _≤_}
 use mathlib.Core.Path.{_≡_, refl, sym, ap, subst, _∙_}
-use mathlib.Core.List.{List, [], _∷_, _++_}
-use mathlib.Core.Bool.{Bool, true, false, not, _&&_, false≢true}
-use borrow.Author.Tests.{eqb-true, eq-eqb, le-leb}
+use mathlib.Core.List.{List, [], _∷_}
+use mathlib.Core.Bool.{Bool, true, false, not, _&&_}
+use borrow.Author.Tests.{eq-eqb, le-leb}
 use native.Mathlib.Omega.{arith}
 use lib.Dec.{eqb, ltb}
 use lib.ListN.{length, take, drop}
@@ -18,7 +18,7 @@ use Rattle.document.specs.Refusals.{shownBy}
 use Rattle.document.proofs.Tests.{among-each}
 use Rattle.document.specs.declared.Excerpt.{Excerpt}
 use Rattle.document.specs.declared.Refusal.{Refusal}
-use Rattle.messages.specs.Texts.{Piece, piecesOf, refusals, warnings, keyName}
+use Rattle.messages.specs.Texts.{piecesOf, refusals, warnings, keyName}
 use Rattle.messages.specs.Message.{isShown, excerptOf, present, joined, messageBy, messageOf, warned, warningMessageOf}
 use Rattle.messages.specs.declared.Wide.{Wide}
 use Rattle.messages.specs.declared.Told.{Told}

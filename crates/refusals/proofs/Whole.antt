@@ -3,7 +3,7 @@
 use Prim.Native.Nat.{ℕ, zero, suc, _+_, _-_, _*_, _/_, _<_}
 use mathlib.Core.Path.{_≡_, refl}
 use mathlib.Core.List.{List, [], _∷_, _++_}
-use mathlib.Core.Bool.{Bool, true, false, _||_}
+use mathlib.Core.Bool.{_||_}
 use borrow.Author.Tests.{ltb-false}
 use native.Mathlib.Omega.{arith}
 use lib.Dec.{ltb}
@@ -12,11 +12,10 @@ use Rattle.utf8.specs.WellFormed.{illFormed}
 use Rattle.utf8.proofs.Texts.{bounded}
 use Rattle.answers.specs.Text.{wrong}
 use Rattle.document.specs.Tags.{Shown}
-use Rattle.document.specs.Rows.{Warning, Tables, texts, warned}
+use Rattle.document.specs.Rows.{Warning, texts, warned}
 use Rattle.document.specs.Reading.{State, begun, reading, accepted, refused, run}
-use Rattle.document.specs.Whole.{Room, meaning, fitted, read, verdictOf, warningsLeft, Says}
+use Rattle.document.specs.Whole.{Room, meaning, fitted, read, verdictOf, warningsLeft}
 use Rattle.document.specs.Outcome.{whole}
-use Rattle.document.specs.declared.Refusal.{Refusal}
 use Rattle.document.specs.declared.Verdict.the-variants.{Refused, Accepted}
 use Rattle.document.proofs.Tests.{either}
 use Rattle.document.proofs.Steps.{Kept}
@@ -92,6 +91,6 @@ warnings-told doc rows warnings text room n t w s = go (read doc room) (s .verdi
         let m : w ≡ length (u .warnings) = cc in
         rw f
         (warning-words doc (λ a b c. (out : ℕ) → warningMessageOf doc a b c out ≡ wrong 19 0 → ⊥)
-        (λ v g. warning-told doc (v .reason) (nameIn doc v) (g .reason) (g .name))
+        (λ v g. warning-told doc (v .reason) (nameIn v) (g .reason) (g .name))
         (u .warnings) (replicate (room .warnings - length (warned (u .warnings))) 0) h i (omega arith))
     go (refused y) e f h i l = let z : _≡_ {A = ℕ} 0 1 = cc in absurd (omega arith)
