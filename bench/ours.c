@@ -11,7 +11,7 @@ static uint8_t text[LIMIT];
 
 // Lends so many rows, warnings and bytes of text; answers the rows that were read or minus the number of the refusal.
 static long lend(const unsigned char *bytes, size_t len, size_t row_count, size_t warning_count, size_t text_len) {
-    uint64_t answer[5];
+    uint64_t answer[INTROSPECTION_ANSWER_WORDS];
     introspection_read(bytes, len, rows, row_count * INTROSPECTION_ROW_WORDS, warnings,
                        warning_count * INTROSPECTION_WARNING_WORDS, text, text_len, answer);
     return answer[0] == INTROSPECTION_ACCEPTED ? (long)answer[2] : -(long)answer[0];
@@ -29,7 +29,7 @@ long ours_usual(const unsigned char *bytes, size_t len) {
 }
 
 void ours_needed(const unsigned char *bytes, size_t len, size_t room[3]) {
-    uint64_t answer[5];
+    uint64_t answer[INTROSPECTION_ANSWER_WORDS];
     introspection_read(bytes, len, rows, len * 4, warnings, len, text, len, answer);
     room[0] = answer[2];
     room[1] = answer[4];
@@ -45,7 +45,7 @@ static size_t made_len, made_rows, made_text;
 
 // Reads a document of methods with two args each, so many rows in all; answers the row of the last method, or 0.
 size_t rows_made(size_t wanted) {
-    uint64_t answer[5];
+    uint64_t answer[INTROSPECTION_ANSWER_WORDS];
     made_len = (size_t)sprintf(made, "<node><interface name=\"org.example.Antenna\">\n");
     for (size_t row = 2; row + 3 <= wanted; row += 3)
         made_len += (size_t)sprintf(made + made_len,

@@ -131,6 +131,29 @@ enum introspection_number {
     INTROSPECTION_TOO_MANY_ROWS = 30            /* [262,144] */
 };
 
+/* The words of introspection_read's answer. What a refusal's message shows: a triple for each name, reference or value that it
+ * shows, three zeros for each that it does not, and a key; docs/FORMAT.md, Answers, has what each number shows. */
+#define INTROSPECTION_ANSWER_WORDS 16
+
+enum introspection_answer {
+    INTROSPECTION_ANSWER_NUMBER = 0,
+    INTROSPECTION_ANSWER_PLACE = 1,
+    INTROSPECTION_ANSWER_ROWS = 2,
+    INTROSPECTION_ANSWER_TEXT_BYTES = 3,
+    INTROSPECTION_ANSWER_WARNINGS = 4,
+    INTROSPECTION_ANSWER_FIRST = 5,  /* triple */
+    INTROSPECTION_ANSWER_SECOND = 8, /* triple */
+    INTROSPECTION_ANSWER_KEY = 11    /* of 12: the attribute; words 12 to 15 are 0 */
+};
+
+/* The key of an attribute that is missing. */
+enum introspection_key {
+    INTROSPECTION_KEY_NAME = 1,
+    INTROSPECTION_KEY_TYPE = 2,
+    INTROSPECTION_KEY_ACCESS = 3,
+    INTROSPECTION_KEY_VALUE = 4
+};
+
 /* Word 0 of a warning; words 1 to 3 are the place of `<` and the place and the length of the element name, in the
  * document. A warning says that one element was left out whole, with all in it. */
 enum introspection_reason {
@@ -153,12 +176,35 @@ enum introspection_reason {
  * reference, tab, LF or CR, as they are shown; all others are left in the document. So the rows are good for as long as
  * the document and the text are there, unchanged.
  *
- * answer: number, place, rows, text bytes, warnings. Refusals: 2, 1, the first of 3 to 17 and 22 to 25 met in reading,
- * then 18.
+ * answer: enum introspection_answer. Refusals: 2, 1, the first of 3 to 17 and 22 to 25 met in reading, then 18.
  */
 void introspection_read(const uint8_t *document, size_t document_length, uint32_t *rows, size_t rows_length,
                         uint32_t *warnings, size_t warnings_length, uint8_t *text, size_t text_length,
-                        uint64_t answer[5]);
+                        uint64_t answer[INTROSPECTION_ANSWER_WORDS]);
+
+/*
+ * Writes the message of a refusal, with the document that was refused: the sentence that zbus_xml's XmlError has, such as
+ * missing `</node>`; where it has none, a few words (docs/FORMAT.md, Messages). refusal is the answer of introspection_read
+ * as it is, or 16 words of whatever content: of them number, key and the triples that the number shows are looked at. The
+ * place is not: whoever shows it adds it. No message is longer than 64 bytes and the bytes that it shows.
+ *
+ * answer: number, place, bytes written. Refusals: 2, unless the number of refusal is 2; 19 at 0 for a number or key that is
+ * not known, and for a triple that is shown and is not a part of the document, is not UTF-8 or (of 15 and 16) cannot be
+ * unescaped; 21. What introspection_read answers, with its document, is never refused with 19.
+ */
+void introspection_message(const uint8_t *document, size_t document_length,
+                           const uint64_t refusal[INTROSPECTION_ANSWER_WORDS], uint8_t *output, size_t output_length,
+                           uint64_t answer[3]);
+
+/*
+ * The same for a warning, by its four words: the sentence that zbus_xml's Warning has, such as
+ * unsupported element `<x>` ignored. No message is longer than 128 bytes and the element's name.
+ *
+ * answer: number, place, bytes written. Refusals: 2, 19 at 0, 21.
+ */
+void introspection_warning_message(const uint8_t *document, size_t document_length,
+                                   const uint32_t warning[INTROSPECTION_WARNING_WORDS], uint8_t *output,
+                                   size_t output_length, uint64_t answer[3]);
 
 /*
  * Writes value with `&`, `<`, `>`, `"`, `'`, tab, LF and CR turned into references. Output of 6 bytes for each of the

@@ -65,7 +65,7 @@ struct reading {
     uint8_t *document, *text;
     uint32_t *rows, *warnings;
     size_t document_length, text_length, rows_length, warnings_length;
-    uint64_t answer[5];
+    uint64_t answer[INTROSPECTION_ANSWER_WORDS];
 };
 
 static struct reading read_with(const char *bytes, size_t length, size_t rows, size_t warnings, size_t text)
@@ -335,15 +335,53 @@ static void room(void)
     end_reading(&r);
 }
 
+/* ---- what the message of a refusal shows */
+
+/* Whether the document is refused with this number and just these words from 5 on; the last four words are zero. */
+static void refused_showing(const char *document, uint64_t number, const uint64_t shown[7], int line)
+{
+    struct reading r = read_all(document);
+    check(r.answer[INTROSPECTION_ANSWER_NUMBER] == number && refused_clean(&r)
+              && memcmp(r.answer + INTROSPECTION_ANSWER_FIRST, shown, 7 * sizeof(uint64_t)) == 0
+              && all_zero(r.answer, 12 * sizeof(uint64_t), sizeof r.answer),
+          document, line);
+    end_reading(&r);
+}
+
+#define SHOWS(document, number, a, b, c, d, e, f, key)                                       \
+    do {                                                                                     \
+        const uint64_t shown[7] = {a, b, c, d, e, f, key};                                   \
+        refused_showing(document, number, shown, __LINE__);                                  \
+    } while (0)
+
+static void refusals_shown(void)
+{
+    struct reading r = read_all("<node><x/></node>");
+    CHECK(answers(&r, INTROSPECTION_ACCEPTED, 0) && all_zero(r.answer, 5 * sizeof(uint64_t), sizeof r.answer));
+    end_reading(&r);
+    SHOWS("<node", 4, 0, 0, 0, 0, 0, 0, 0);
+    SHOWS("<a><node><node></node>", 5, 1, 4, 4, 0, 0, 0, 0);
+    SHOWS("<a><node><node></node></x>", 6, 1, 24, 1, 1, 4, 4, 0);
+    SHOWS("<a></b >", 6, 1, 5, 1, 1, 1, 1, 0);
+    SHOWS("<a x='' y='' x=''/>", 8, 1, 13, 1, 0, 0, 0, 0);
+    SHOWS("<a x='&q;'/>", 10, 1, 6, 3, 0, 0, 0, 0);
+    SHOWS("<a x='&#0;'/>", 11, 1, 6, 4, 0, 0, 0, 0);
+    SHOWS("<node><interface/></node>", 12, 1, 7, 9, 0, 0, 0, INTROSPECTION_KEY_NAME);
+    SHOWS("<a><interface name='a.b'><property name='P' type='s' access=''", 4, 0, 0, 0, 0, 0, 0, 0);
+    SHOWS("<a><interface name='a.b'><property name='P' type='s' access=''/>", 15, 1, 61, 0, 0, 0, 0, 0);
+    SHOWS("<a><interface name='a.b'><property name='P' type='s'/>", 12, 1, 26, 8, 0, 0, 0, INTROSPECTION_KEY_ACCESS);
+}
+
 /* ---- null pointers with length 0, in every place that has a buffer */
 
 static void nothing_lent(void)
 {
-    uint64_t a[5] = {9, 9, 9, 9, 9}, b[3] = {9, 9, 9}, c[4] = {9, 9, 9, 9};
+    uint64_t a[INTROSPECTION_ANSWER_WORDS], b[3] = {9, 9, 9}, c[4] = {9, 9, 9, 9};
     const uint8_t *document = (const uint8_t *)"<node/>";
     uint8_t out[2] = {7, 7};
+    memset(a, 9, sizeof a);
     introspection_read(NULL, 0, NULL, 0, NULL, 0, NULL, 0, a);
-    CHECK(a[0] == INTROSPECTION_NO_ROOT && a[1] == 0 && a[2] == 0 && a[3] == 0 && a[4] == 0);
+    CHECK(a[0] == INTROSPECTION_NO_ROOT && all_zero(a, 8, sizeof a));
     introspection_read(document, 7, NULL, 0, NULL, 0, NULL, 0, a);
     CHECK(a[0] == INTROSPECTION_NO_ROOM && a[1] == 7);
     introspection_escape(NULL, 0, NULL, 0, b);
@@ -604,14 +642,57 @@ static void columns_at_the_limit(void)
     free(rows);
 }
 
+/* The message of a refusal, with room enough. */
+static int says(const struct reading *r, const char *expected)
+{
+    uint8_t *out = lend(200);
+    uint64_t a[3];
+    introspection_message(r->document, r->document_length, r->answer, out, 200, a);
+    int good = a[0] == 0 && a[1] == 0 && a[2] == strlen(expected) && same(out, a[2], expected) && all_zero(out, a[2], 200);
+    free(out);
+    return good;
+}
+
+static void messages(void)
+{
+    struct reading r = read_all("<a><node><node></node></x>");
+    CHECK(answers(&r, INTROSPECTION_CROSSED_CLOSE, 26));
+    CHECK(says(&r, "unexpected `</x>` while parsing `<node>`"));
+    uint64_t a[3];
+    uint8_t *out = lend(40);
+    introspection_message(r.document, r.document_length, r.answer, out, 39, a);
+    CHECK(a[0] == INTROSPECTION_OUTPUT_SHORT && a[1] == 40 && a[2] == 0 && all_zero(out, 0, 39));
+    r.answer[INTROSPECTION_ANSWER_SECOND + 1] = UINT64_MAX; /* words of whatever content */
+    r.answer[INTROSPECTION_ANSWER_SECOND + 2] = UINT64_MAX;
+    introspection_message(r.document, r.document_length, r.answer, out, 40, a);
+    CHECK(a[0] == INTROSPECTION_UNSOUND_ROWS && a[1] == 0 && a[2] == 0 && all_zero(out, 0, 40));
+    end_reading(&r);
+    r = read_all("<node>");
+    CHECK(says(&r, "missing `</node>`"));
+    r.answer[INTROSPECTION_ANSWER_NUMBER] = 99;
+    introspection_message(r.document, r.document_length, r.answer, out, 40, a);
+    CHECK(a[0] == INTROSPECTION_UNSOUND_ROWS && all_zero(out, 0, 40));
+    end_reading(&r);
+    r = read_all("<node><x/></node>");
+    introspection_warning_message(r.document, r.document_length, r.warnings, out, 40, a);
+    CHECK(a[0] == 0 && a[2] == 33 && same(out, 33, "unsupported element `<x>` ignored"));
+    r.warnings[0] = 10;
+    introspection_warning_message(r.document, r.document_length, r.warnings, out, 40, a);
+    CHECK(a[0] == INTROSPECTION_UNSOUND_ROWS && a[1] == 0 && all_zero(out, 0, 40));
+    end_reading(&r);
+    free(out);
+}
+
 int main(void)
 {
     the_hinge();
     refused_documents();
     at_the_limits();
     room();
+    refusals_shown();
     nothing_lent();
     values();
+    messages();
     parts();
     writing();
     writing_too_long();

@@ -3,7 +3,7 @@
 use std::error;
 use std::fmt;
 
-use crate::Document;
+use crate::{ffi, Document};
 
 /// Why a document or a value was refused. The discriminants are the numbers of docs/FORMAT.md;
 /// later versions may have more.
@@ -102,41 +102,9 @@ impl ErrorKind {
     pub fn number(self) -> u32 {
         self as u32
     }
-
-    /// A few words.
-    pub fn message(self) -> &'static str {
-        match self {
-            NotUtf8 => "not UTF-8",
-            TooLong => "more than 1048576 bytes",
-            NoRoot => "no root element",
-            MalformedMarkup => "malformed markup",
-            UnclosedElement => "an element is not closed",
-            CrossedClose => "the closing tag is of another element",
-            TooDeep => "elements are nested too deeply",
-            DuplicateAttribute => "duplicate attribute",
-            UnterminatedReference => "unterminated reference",
-            UnknownEntity => "unknown entity",
-            BadCharacterReference => "bad character reference",
-            AttributeMissing => "a required attribute is missing",
-            BadName => "not a valid name",
-            BadSignature => "not a valid signature",
-            BadAccess => "access is not read, write or readwrite",
-            BadDirection => "direction is not in or out",
-            TooManyAttributes => "more than 256 attributes",
-            NoRoom => "no room in a table",
-            UnsoundRows => "unsound rows",
-            NotWritable => "not a writable row",
-            OutputShort => "the output is too short",
-            UnclosedComment => "a comment is not closed",
-            UnclosedCdata => "a CDATA section is not closed",
-            UnclosedInstruction => "a processing instruction is not closed",
-            UnclosedDeclaration => "a declaration is not closed",
-            TooManyRows => "too many rows",
-        }
-    }
 }
 
-/// A refusal: what is wrong, and where.
+/// A refusal: what is wrong, where, and the sentence that zbus_xml has for it.
 ///
 /// ```
 /// use introspection::{Document, ErrorKind};
@@ -144,13 +112,18 @@ impl ErrorKind {
 /// let error = Document::parse(b"<node><interface/></node>").unwrap_err();
 /// assert_eq!(error.kind(), ErrorKind::AttributeMissing);
 /// assert_eq!(error.number(), 12);
-/// assert_eq!(error.place(), 7);
-/// assert_eq!(error.to_string(), "a required attribute is missing (12, at byte 7)");
+/// assert_eq!(error.position(), 7);
+/// assert_eq!(error.message(), "missing attribute `name` on `<interface>`");
+/// assert_eq!(
+///     error.to_string(),
+///     "missing attribute `name` on `<interface>` (at byte offset 7)"
+/// );
 /// ```
-#[derive(Clone, Copy, Debug, PartialEq, Eq, Hash)]
+#[derive(Clone, Debug, PartialEq, Eq, Hash)]
 pub struct Error {
     kind: ErrorKind,
-    place: usize,
+    position: usize,
+    message: String,
 }
 
 impl Error {
@@ -166,31 +139,51 @@ impl Error {
 
     /// Where: bytes from the start of the document or of the value. It is at most its length. Of
     /// [`columns`](crate::columns()) and [`rows`](crate::rows()) it is a number of rows.
-    pub fn place(&self) -> usize {
-        self.place
+    pub fn position(&self) -> usize {
+        self.position
     }
 
-    /// The answer's first two words: number 0 is no refusal.
-    pub(crate) fn unless_accepted(number: usize, place: usize) -> Result<(), Self> {
+    /// A message describing the error, in zbus_xml's words where it has any (docs/FORMAT.md,
+    /// Messages).
+    pub fn message(&self) -> &str {
+        &self.message
+    }
+
+    /// A refusal with what was refused, by the words of a reader's answer; number 0 is none.
+    pub(crate) fn unless_accepted(document: &[u8], refusal: [u64; 16]) -> Result<(), Self> {
+        let [number, position, ..] = refusal;
         if number == 0 {
             return Ok(());
         }
         let kind = KINDS
             .into_iter()
-            .find(|kind| kind.number() as usize == number);
-        let kind = kind.expect("a number of docs/FORMAT.md");
-        Err(Self { kind, place })
+            .find(|kind| u64::from(kind.number()) == number);
+        Err(Self {
+            kind: kind.expect("a number of docs/FORMAT.md"),
+            position: position as usize,
+            message: ffi::message(document, &refusal),
+        })
+    }
+
+    /// The same for an answer that shows nothing.
+    pub(crate) fn unless_done(number: u64, place: u64) -> Result<(), Self> {
+        let mut refusal = [0; 16];
+        [refusal[0], refusal[1]] = [number, place];
+        Self::unless_accepted(b"", refusal)
     }
 }
 
 impl fmt::Display for Error {
     fn fmt(&self, f: &mut fmt::Formatter<'_>) -> fmt::Result {
-        let message = self.kind.message();
-        let unit = match self.kind {
-            NoRoom | TooManyRows => "row",
-            _ => "byte",
-        };
-        write!(f, "{message} ({}, at {unit} {})", self.number(), self.place)
+        let Self {
+            kind,
+            position,
+            message,
+        } = self;
+        match kind {
+            NoRoom | TooManyRows => write!(f, "{message} (at row {position})"),
+            _ => write!(f, "{message} (at byte offset {position})"),
+        }
     }
 }
 
@@ -239,24 +232,10 @@ impl Reason {
     pub fn number(self) -> u32 {
         self as u32
     }
-
-    /// A few words.
-    pub fn message(self) -> &'static str {
-        match self {
-            Reason::UnsupportedElement => "unsupported here",
-            Reason::NoName => "no name",
-            Reason::NoType => "no type",
-            Reason::BadSignature => "not a valid signature",
-            Reason::IncompleteEnumvalue => "a value lacks its suffix or its value",
-            Reason::IncompleteMember => "a member lacks its name or its type",
-            Reason::NoMembers => "no members",
-            Reason::NotTwoMembers => "not exactly two members",
-            Reason::KeyNotBasic => "the key is not of a basic type",
-        }
-    }
 }
 
-/// An element that was left out, whole: why, and where it stands.
+/// An element that was left out, whole: why, where it stands, and the sentence that zbus_xml has for
+/// it.
 ///
 /// ```
 /// use introspection::{Document, Reason};
@@ -265,27 +244,31 @@ impl Reason {
 /// let warning = document.warnings().next().unwrap();
 /// assert_eq!(warning.reason(), Reason::IncompleteEnumvalue);
 /// assert_eq!(warning.number(), 5);
-/// assert_eq!(warning.place(), 6);
+/// assert_eq!(warning.position(), 6);
 /// assert_eq!(warning.element(), "tp:enum");
 /// assert_eq!(
+///     warning.message(),
+///     "malformed element `<tp:enum>` ignored: an enumvalue is missing its `suffix` or `value` attribute"
+/// );
+/// assert_eq!(
 ///     warning.to_string(),
-///     "<tp:enum> left out: a value lacks its suffix or its value (5, at byte 6)"
+///     format!("{} (at byte offset 6)", warning.message())
 /// );
 /// # Ok::<(), introspection::Error>(())
 /// ```
 #[derive(Clone, Copy, Debug, PartialEq, Eq, Hash)]
 pub struct Warning<'d> {
     reason: Reason,
-    place: usize,
+    position: usize,
     element: &'d str,
 }
 
 impl<'d> Warning<'d> {
     pub(crate) fn new(document: &'d Document<'_>, words: [u32; 4]) -> Self {
-        let [reason, place, start, len] = words.map(|word| word as usize);
+        let [reason, position, start, len] = words.map(|word| word as usize);
         Self {
             reason: REASONS[reason - 1],
-            place,
+            position,
             element: &document.input[start..start + len],
         }
     }
@@ -300,29 +283,30 @@ impl<'d> Warning<'d> {
         self.reason.number()
     }
 
-    /// Where its `<` stands: bytes from the start of the document.
-    pub fn place(&self) -> usize {
-        self.place
+    /// The byte offset in the document at which the element starts.
+    pub fn position(&self) -> usize {
+        self.position
     }
 
     /// The name of the element.
     pub fn element(&self) -> &'d str {
         self.element
     }
+
+    /// A message describing what was ignored, and why, in zbus_xml's words.
+    pub fn message(&self) -> String {
+        let name = self.element.as_bytes();
+        ffi::warning_message(name, &[self.number(), 0, 0, name.len() as u32])
+    }
 }
 
 impl fmt::Display for Warning<'_> {
     fn fmt(&self, f: &mut fmt::Formatter<'_>) -> fmt::Result {
-        let Self {
-            reason,
-            place,
-            element,
-        } = self;
-        let message = reason.message();
-        let number = reason.number();
         write!(
             f,
-            "<{element}> left out: {message} ({number}, at byte {place})"
+            "{} (at byte offset {})",
+            self.message(),
+            self.position
         )
     }
 }

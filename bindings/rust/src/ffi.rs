@@ -23,6 +23,24 @@ extern "C" {
         answer: *mut u64,
     );
 
+    fn introspection_message(
+        document: *const u8,
+        document_len: usize,
+        refusal: *const u64,
+        output: *mut u8,
+        output_len: usize,
+        answer: *mut u64,
+    );
+
+    fn introspection_warning_message(
+        document: *const u8,
+        document_len: usize,
+        warning: *const u32,
+        output: *mut u8,
+        output_len: usize,
+        answer: *mut u64,
+    );
+
     fn introspection_escape(
         value: *const u8,
         value_len: usize,
@@ -100,8 +118,8 @@ pub(crate) fn read(
 ) -> Result<Counts, Error> {
     let rows = rows.as_flattened_mut();
     let warnings = warnings.as_flattened_mut();
-    let mut answer = [0; 5];
-    // SAFETY: the four slices are as the head of this file says; `answer` has the 5 words that this
+    let mut answer = [0; 16];
+    // SAFETY: the four slices are as the head of this file says; `answer` has the 16 words that this
     // function writes.
     unsafe {
         introspection_read(
@@ -116,8 +134,8 @@ pub(crate) fn read(
             answer.as_mut_ptr(),
         );
     }
-    let [number, place, rows, text, warnings] = answer.map(size);
-    Error::unless_accepted(number, place)?;
+    Error::unless_accepted(document, answer)?;
+    let [_, _, rows, text, warnings, ..] = answer.map(size);
     Ok(Counts {
         rows,
         text,
@@ -125,20 +143,81 @@ pub(crate) fn read(
     })
 }
 
+/// The message of a refusal, by the words of a reader's answer, with what was refused.
+pub(crate) fn message(document: &[u8], refusal: &[u64; 16]) -> String {
+    let mut output = vec![0; MESSAGE + size(refusal[7]) + size(refusal[10])];
+    let mut answer = [0; 3];
+    // SAFETY: the two slices are as the head of this file says; `refusal` and `answer` have the 16
+    // and 3 words that this function reads and writes.
+    unsafe {
+        introspection_message(
+            document.as_ptr(),
+            document.len(),
+            refusal.as_ptr(),
+            output.as_mut_ptr(),
+            output.len(),
+            answer.as_mut_ptr(),
+        );
+    }
+    told(answer, output)
+}
+
+/// The message of a warning, by its words, with its document.
+pub(crate) fn warning_message(document: &[u8], warning: &[u32; 4]) -> String {
+    let mut output = vec![0; MESSAGE + warning[3] as usize];
+    let mut answer = [0; 3];
+    // SAFETY: the two slices are as the head of this file says; `warning` and `answer` have the 4
+    // and 3 words that this function reads and writes.
+    unsafe {
+        introspection_warning_message(
+            document.as_ptr(),
+            document.len(),
+            warning.as_ptr(),
+            output.as_mut_ptr(),
+            output.len(),
+            answer.as_mut_ptr(),
+        );
+    }
+    told(answer, output)
+}
+
+/// More than the words of any message take.
+const MESSAGE: usize = 128;
+
+fn told(answer: [u64; 3], mut output: Vec<u8>) -> String {
+    let [number, _, written] = answer.map(size);
+    assert_eq!(number, 0, "what the reader tells has a message");
+    output.truncate(written);
+    String::from_utf8(output).expect("a message is UTF-8")
+}
+
 /// Escapes a value, and gives the bytes written.
 pub(crate) fn escape(value: &[u8], output: &mut [u8]) -> Result<usize, Error> {
-    turned(introspection_escape, value, output)
+    let [number, place, written] = turned(introspection_escape, value, output);
+    Error::unless_done(number, place)?;
+    Ok(size(written))
 }
 
 /// Unescapes a value, and gives the bytes written.
 pub(crate) fn unescape(value: &[u8], output: &mut [u8]) -> Result<usize, Error> {
-    turned(introspection_unescape, value, output)
+    let [number, place, written] = turned(introspection_unescape, value, output);
+    let mut refusal = [0; 16];
+    [refusal[0], refusal[1]] = [number, place];
+    if matches!(number, 10 | 11) {
+        // the reference, from its `&` to its `;`
+        let from = size(place);
+        let end = value[from..].iter().position(|&b| b == b';');
+        let len = end.map_or(0, |end| end + 1) as u64;
+        [refusal[5], refusal[6], refusal[7]] = [1, place, len];
+    }
+    Error::unless_accepted(value, refusal)?;
+    Ok(size(written))
 }
 
 /// `introspection_escape` or `introspection_unescape`.
 type Turn = unsafe extern "C" fn(*const u8, usize, *mut u8, usize, *mut u64);
 
-fn turned(turn: Turn, value: &[u8], output: &mut [u8]) -> Result<usize, Error> {
+fn turned(turn: Turn, value: &[u8], output: &mut [u8]) -> [u64; 3] {
     let mut answer = [0; 3];
     // SAFETY: `turn` is one of the two functions; the two slices are as the head of this file says;
     // `answer` has the 3 words that both write.
@@ -151,7 +230,7 @@ fn turned(turn: Turn, value: &[u8], output: &mut [u8]) -> Result<usize, Error> {
             answer.as_mut_ptr(),
         );
     }
-    written(answer)
+    answer
 }
 
 /// Writes the item of a row, and gives the bytes written. All rows lent are claimed.
@@ -211,8 +290,8 @@ fn laid(lay: Lay, source: &[u32], count: usize, output: &mut [u32]) -> Result<()
             answer.as_mut_ptr(),
         );
     }
-    let [number, place] = answer.map(size);
-    Error::unless_accepted(number, place)
+    let [number, place] = answer;
+    Error::unless_done(number, place)
 }
 
 /// The part that a triple leads to: whether it lies inside its buffer, source, start and length.
@@ -238,9 +317,9 @@ pub(crate) fn lookup(document: &[u8], text: &[u8], triple: [u32; 3]) -> (bool, [
 }
 
 fn written(answer: [u64; 3]) -> Result<usize, Error> {
-    let [number, place, written] = answer.map(size);
-    Error::unless_accepted(number, place)?;
-    Ok(written)
+    let [number, place, written] = answer;
+    Error::unless_done(number, place)?;
+    Ok(size(written))
 }
 
 // The archive is for x86-64 (build.rs), where the two types have the same range.

@@ -100,7 +100,7 @@ impl<'a> Document<'a> {
     ///
     /// let error = Document::parse(b"<node>").unwrap_err();
     /// assert_eq!(error.kind(), ErrorKind::UnclosedElement);
-    /// assert_eq!(error.place(), 6);
+    /// assert_eq!(error.position(), 6);
     /// # Ok::<(), introspection::Error>(())
     /// ```
     pub fn parse(input: &'a [u8]) -> Result<Self, Error> {

@@ -111,7 +111,7 @@ fn an_item_alone_is_written_as_in_its_document() {
                 _ => {
                     let error = answer.unwrap_err();
                     assert_eq!(error.kind(), ErrorKind::NotWritable);
-                    assert_eq!(error.place(), row.index);
+                    assert_eq!(error.position(), row.index);
                 }
             }
         }
@@ -143,7 +143,7 @@ fn a_short_output_is_told_the_bytes_needed() {
         let mut output = vec![1; len];
         let error = ffi::write(input, text, &document.rows, 5, &mut output).unwrap_err();
         assert_eq!(error.kind(), ErrorKind::OutputShort);
-        assert_eq!(error.place(), xml.len());
+        assert_eq!(error.position(), xml.len());
         assert!(output.iter().all(|&byte| byte == 0));
     }
     let mut output = vec![1; xml.len()];

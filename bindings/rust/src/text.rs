@@ -64,7 +64,7 @@ fn filled(len: usize, write: impl Fn(&mut [u8]) -> Result<usize, Error>) -> Resu
     let mut output = vec![0; len];
     let written = match write(&mut output) {
         Err(error) if error.kind() == ErrorKind::OutputShort => {
-            output = vec![0; error.place()];
+            output = vec![0; error.position()];
             write(&mut output)?
         }
         answer => answer?,
@@ -103,7 +103,7 @@ pub fn escape(value: impl AsRef<[u8]>) -> Result<String, Error> {
 /// assert_eq!(introspection::unescape("a &lt; b&#10;")?, "a < b\n");
 ///
 /// let error = introspection::unescape("fish & chips").unwrap_err();
-/// assert_eq!((error.number(), error.place()), (9, 5));
+/// assert_eq!((error.number(), error.position()), (9, 5));
 /// # Ok::<(), introspection::Error>(())
 /// ```
 pub fn unescape(value: impl AsRef<[u8]>) -> Result<String, Error> {

@@ -22,7 +22,7 @@ fn as_many_open_nodes_as_may_be() {
 
     let input = "<node>".repeat(1025) + &"</node>".repeat(1025);
     let error = Document::try_from(input.as_str()).unwrap_err();
-    assert_eq!((error.number(), error.place()), (7, 1025 * 6));
+    assert_eq!((error.number(), error.position()), (7, 1025 * 6));
 }
 
 #[test]
@@ -54,7 +54,7 @@ fn as_many_rows_as_room_allows() {
     assert_eq!(document.nodes().count(), 1);
     assert_eq!(document.warnings().len(), many);
     let last = document.warnings().last().unwrap();
-    assert_eq!((last.place(), last.element()), (3 + 4 * (many - 1), "b"));
+    assert_eq!((last.position(), last.element()), (3 + 4 * (many - 1), "b"));
 
     let input = format!("<a>{}</a>", "<node/>".repeat(100_000));
     let document = Document::try_from(input.as_str()).unwrap();

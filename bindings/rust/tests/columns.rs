@@ -72,16 +72,16 @@ fn refusals() {
         ] {
             let (answer, made) = turned(turn, &words(held), count, room);
             let error = answer.unwrap_err();
-            assert_eq!((error.kind(), error.place()), (kind, place));
+            assert_eq!((error.kind(), error.position()), (kind, place));
             assert!(made.iter().all(|&word| word == 0));
         }
     }
     let many = columns(&[], 262_145, &mut []).unwrap_err();
     assert_eq!(many.number(), 30);
-    assert_eq!(many.to_string(), "too many rows (30, at row 262144)");
+    assert_eq!(many.to_string(), "too many rows (at row 262144)");
     let short = rows(&[], 2, &mut []).unwrap_err();
     assert_eq!(short.number(), 18);
-    assert_eq!(short.to_string(), "no room in a table (18, at row 2)");
+    assert_eq!(short.to_string(), "no room in a lent table (at row 2)");
 }
 
 #[test]

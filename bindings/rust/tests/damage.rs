@@ -23,7 +23,7 @@ fn look(input: &[u8]) -> bool {
     let document = match Document::parse(input) {
         Ok(document) => document,
         Err(error) => {
-            assert!(error.place() <= input.len());
+            assert!(error.position() <= input.len());
             assert!(matches!(error.number(), 1..=17 | 22..=25), "{error}");
             assert!(!error.to_string().is_empty());
             return false;
@@ -34,8 +34,8 @@ fn look(input: &[u8]) -> bool {
         assert!(std::str::from_utf8(text.as_bytes()).is_ok());
     }
     for warning in document.warnings() {
-        assert_eq!(input[warning.place()], b'<');
-        assert!(input[warning.place() + 1..].starts_with(warning.element().as_bytes()));
+        assert_eq!(input[warning.position()], b'<');
+        assert!(input[warning.position() + 1..].starts_with(warning.element().as_bytes()));
         assert!((1..=9).contains(&warning.number()));
     }
     for xml in seen.written.iter().filter(|xml| !xml.starts_with("<arg")) {

@@ -29,10 +29,10 @@ fn there_is_one_warning_at_its_place() {
     assert_eq!(warning.reason(), Reason::IncompleteEnumvalue);
     assert_eq!(warning.number(), 5);
     assert_eq!(warning.element(), "tp:enum");
-    assert!(HINGE[warning.place()..].starts_with(b"<tp:enum name=\"State\""));
+    assert!(HINGE[warning.position()..].starts_with(b"<tp:enum name=\"State\""));
     assert_eq!(
         warning.to_string(),
-        "<tp:enum> left out: a value lacks its suffix or its value (5, at byte 122)"
+        "malformed element `<tp:enum>` ignored: an enumvalue is missing its `suffix` or `value` attribute (at byte offset 122)"
     );
 }
 

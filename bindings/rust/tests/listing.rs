@@ -25,11 +25,11 @@ fn the_listing_document() {
     assert_eq!(document.warnings().len(), 1);
     assert_eq!(warning.reason(), Reason::UnsupportedElement);
     assert_eq!(warning.number(), 1);
-    assert_eq!(warning.place(), 46);
+    assert_eq!(warning.position(), 46);
     assert_eq!(warning.element(), "x");
     assert_eq!(
         warning.to_string(),
-        "<x> left out: unsupported here (1, at byte 46)"
+        "unsupported element `<x>` ignored (at byte offset 46)"
     );
 }
 
@@ -80,9 +80,13 @@ fn each_reason() {
         assert_eq!(warnings.len(), 1, "{element}");
         assert_eq!(warnings[0].reason(), reason, "{element}");
         assert_eq!(warnings[0].number(), reason.number());
-        assert_eq!(warnings[0].place(), 6);
+        assert_eq!(warnings[0].position(), 6);
         assert_eq!(warnings[0].element(), name);
-        assert!(warnings[0].to_string().contains(reason.message()));
+        let begins = match reason {
+            Reason::UnsupportedElement => format!("unsupported element `<{name}>` ignored"),
+            _ => format!("malformed element `<{name}>` ignored: "),
+        };
+        assert!(warnings[0].message().starts_with(&begins));
         assert_eq!(document.root().telepathy_types().count(), 0);
         assert_eq!(
             document.root().nodes().next().unwrap().name(),

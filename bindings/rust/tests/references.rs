@@ -72,7 +72,7 @@ fn round_trip() {
 fn refusals() {
     let answer = |r: Result<String, introspection::Error>| {
         let error = r.unwrap_err();
-        (error.number(), error.place())
+        (error.number(), error.position())
     };
     assert_eq!(answer(escape(b"ab\xc3(")), (1, 2));
     assert_eq!(answer(unescape(b"ab\xed\xa0\x80")), (1, 2));

@@ -5,8 +5,8 @@ use introspection::{Document, Error, ErrorKind, LIMIT};
 fn refusal(input: &[u8]) -> (u32, usize) {
     let error = Document::parse(input).unwrap_err();
     assert_eq!(error.number(), error.kind().number());
-    assert!(error.place() <= input.len());
-    (error.number(), error.place())
+    assert!(error.position() <= input.len());
+    (error.number(), error.position())
 }
 
 #[test]
@@ -90,8 +90,12 @@ fn the_damaged_file() {
     let input = include_bytes!("../../../examples/damaged.xml");
     let error = Document::parse(input).unwrap_err();
     assert_eq!(error.kind(), ErrorKind::UnknownEntity);
-    assert!(input[error.place()..].starts_with(b"&when;"));
-    assert_eq!(error.to_string(), "unknown entity (10, at byte 296)");
+    assert!(input[error.position()..].starts_with(b"&when;"));
+    assert_eq!(error.message(), "unknown entity `&when;`");
+    assert_eq!(
+        error.to_string(),
+        "unknown entity `&when;` (at byte offset 296)"
+    );
 }
 
 #[test]
@@ -103,22 +107,23 @@ fn a_refusal_is_an_error_value() {
     let error = read(b"<node><").unwrap_err();
     let error: &Error = error.downcast_ref().unwrap();
     assert_eq!(error.kind(), ErrorKind::MalformedMarkup);
-    assert!(error.to_string().starts_with("malformed markup (4, "));
+    assert_eq!(error.to_string(), "malformed markup (at byte offset 7)");
 }
 
 #[test]
 fn each_sort_of_markup_that_never_closes() {
     use ErrorKind::*;
-    let sorts: [(&str, ErrorKind, &str); 4] = [
-        ("<!--", UnclosedComment, "a comment is not closed (22, at byte 10)"),
-        ("<![CDATA[", UnclosedCdata, "a CDATA section is not closed (23, at byte 15)"),
-        ("<?", UnclosedInstruction, "a processing instruction is not closed (24, at byte 8)"),
-        ("<!x", UnclosedDeclaration, "a declaration is not closed (25, at byte 9)"),
+    let sorts = [
+        ("<!--", UnclosedComment, 10),
+        ("<![CDATA[", UnclosedCdata, 15),
+        ("<?", UnclosedInstruction, 8),
+        ("<!x", UnclosedDeclaration, 9),
     ];
-    for (begun, kind, message) in sorts {
+    for (begun, kind, position) in sorts {
         let error = Document::parse(format!("<node>{begun}").as_bytes()).unwrap_err();
         assert_eq!(error.kind(), kind);
-        assert_eq!(error.to_string(), message);
+        assert_eq!(error.position(), position);
+        assert_eq!(error.message(), "malformed markup");
         // nothing after the root is read
         assert!(Document::parse(format!("<node/>{begun}").as_bytes()).is_ok());
     }
@@ -129,4 +134,47 @@ fn try_from() {
     assert!(Document::try_from("<node/>").is_ok());
     assert!(Document::try_from(&b"<node/>"[..]).is_ok());
     assert!(Document::try_from("").is_err());
+}
+
+#[test]
+fn messages_are_those_of_zbus_xml() {
+    let interface = |inner: &str| format!("<node><interface name='a.b'>{inner}</interface></node>");
+    let cases = [
+        ("".into(), "missing root element"),
+        ("<node>".into(), "missing `</node>`"),
+        ("<a><node><node></node></x>".into(), "unexpected `</x>` while parsing `<node>`"),
+        ("<a x='1' x='2'/>".into(), "duplicate attribute `x`"),
+        ("<a x='&q'/>".into(), "unterminated entity reference"),
+        ("<a x='&a &lt;'/>".into(), "unknown entity `&a &lt;`"),
+        ("<a x='&#0;'/>".into(), "invalid character reference `&#0;`"),
+        (interface("<method/>"), "missing attribute `name` on `<method>`"),
+        (interface("<property name='P'/>"), "missing attribute `type` on `<property>`"),
+        (interface("<property name='P' type='s'/>"), "missing attribute `access` on `<property>`"),
+        (interface("<annotation name='n'/>"), "missing attribute `value` on `<annotation>`"),
+        (
+            interface("<property name='P' type='s' access='a&#96;\r\n&lt;'/>"),
+            "invalid property access `a` <`",
+        ),
+        (
+            interface("<method name='M'><arg type='s' direction=''/></method>"),
+            "invalid argument direction ``",
+        ),
+        ("<node>".repeat(1025), "maximum element nesting depth exceeded"),
+    ];
+    for (input, message) in cases {
+        let error = Document::parse(input.as_bytes()).unwrap_err();
+        assert_eq!(error.message(), message);
+        let shown = format!("{message} (at byte offset {})", error.position());
+        assert_eq!(error.to_string(), shown);
+    }
+}
+
+#[test]
+fn messages_of_values() {
+    let error = introspection::unescape("a&q;b").unwrap_err();
+    assert_eq!(error.to_string(), "unknown entity `&q;` (at byte offset 1)");
+    let error = introspection::unescape("&#xD800;").unwrap_err();
+    assert_eq!(error.message(), "invalid character reference `&#xD800;`");
+    let error = introspection::unescape("&").unwrap_err();
+    assert_eq!(error.message(), "unterminated entity reference");
 }

@@ -11,7 +11,7 @@ use lib.ListN.{length, replicate}
 use Rattle.slices.specs.Bytes.{if}
 use Rattle.document.specs.Tags.{Shown}
 use Rattle.document.specs.Rows.{Row, Tables, wordsFrom, texts}
-use Rattle.document.specs.Elements.{bare}
+use Rattle.document.specs.Refusals.{bare}
 use Rattle.document.specs.Reading.{State, begun, reading, accepted, refused}
 use Rattle.document.specs.Whole.{Room, meaning, fitted, read, verdictOf, rowsLeft, textLeft, Says}
 use Rattle.document.specs.declared.Verdict.the-variants.{Accepted}

@@ -11,7 +11,7 @@ use Rattle.slices.specs.Bytes.{if, bytes}
 use Rattle.utf8.proofs.Sequences.{below}
 use Rattle.document.specs.Tokens.{Tag}
 use Rattle.document.specs.Elements.{among, mayHold, attr}
-use Rattle.document.specs.Reading.{Frame, element, definition, passing, parentOf, tagReason, complete, notedIn, noted, frameOf}
+use Rattle.document.specs.Reading.{tagName, Frame, element, definition, passing, parentOf, tagReason, complete, notedIn, noted, frameOf}
 use Rattle.document.proofs.Tests.{never}
 use Rattle.document.specs.Kinds.{definitions, parts}
 use Rattle.accepted.proofs.Holding.{kinds, held-kind, part-parent}
@@ -80,11 +80,11 @@ module _ (doc : List ℕ) (n : ℕ) (f g : ℕ → Brief) (a : Agree n f g) (k :
         go : (x y : Bool) → among k definitions ≡ x → among k parts ≡ y → (if x (eqb (tagReason k (attr (bytes "name") t) (attr (bytes "type") t)) 0) (if y (complete k t) true) ≡ true → Complete (g n)) → Frames doc (suc n) g (if x (definition (record {
           kind = k;
           at = t .at;
-          name = t .name;
+          name = tagName t;
           row = n;
           reason = tagReason k (attr (bytes "name") t) (attr (bytes "type") t);
           parts = record { count = 0; broken = false; basic = false };
-        })) (element k (t .name) n) ∷ if y (notedIn k t fs) fs)
+        })) (element k (tagName t) n) ∷ if y (notedIn k t fs) fs)
         go true true p q c = (omega arith, e, (λ w. c (eq-eqb _ 0 w)), (λ w i l m. absurd (omega arith)), frames-agree doc n f g (notedIn k t fs) a (noted-frames fs h))
         go true false p q c = (omega arith, e, (λ w. c (eq-eqb _ 0 w)), (λ w i l m. absurd (omega arith)), frames-agree doc n f g fs a h)
         go false true p q c = (omega arith, e, p, frames-part fs b q c h)

@@ -162,8 +162,7 @@ module _ (p : ℕ) (t : Tag) where
   pub start-opens : (k : ℕ) → among k kinds ≡ true → Opens k p t (opensAs whole k p t)
   start-opens k e =
       opens-way whole whole p t (λ k o o′. among k kinds ≡ true → Opens k p t o) (record {
-        at-name = λ k n h e. tt;
-        at-end = λ k n h e. tt;
+        refusal = λ k x r e. tt;
         node = λ e. plain name none refl refl (λ d. (may-be (validName 1) name (λ s. refl), refl));
         interface = λ c e. plain name none refl refl (λ d. (some-there interfaceName name c, refl));
         method = λ c e. plain name none refl refl (λ d. (some-there memberName name c, refl));

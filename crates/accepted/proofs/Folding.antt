@@ -14,7 +14,7 @@ use Rattle.utf8.proofs.Texts.{bounded}
 use Rattle.document.specs.Tags.{Shown}
 use Rattle.document.specs.Tokens.{Token, tokens}
 use Rattle.document.specs.Rows.{Tables}
-use Rattle.document.specs.Elements.{bare}
+use Rattle.document.specs.Refusals.{bare}
 use Rattle.document.specs.Reading.{State, begun, accepted, refused, step, fold, run}
 use Rattle.document.specs.Whole.{meaning}
 use Rattle.document.specs.Outcome.{Sound, whole}

@@ -439,7 +439,7 @@ module _ (doc : List ℕ) where
   closes = record {
     element = λ k n r fs u h. record { closed = h .closed; tallies = h .tallies .1; fresh = h .fresh };
     whole = λ d fs u e h. whole-holds d fs (u .rows) e h;
-    broken = λ d fs u h. dropped-holds d fs (u .rows) h;
+    broken = λ d fs u e h. dropped-holds d fs (u .rows) h;
     root = λ u h. h;
   }
 
@@ -465,11 +465,11 @@ module _ (doc : List ℕ) where
     passed = λ p ns fs u h. record { closed = h .closed; tallies = h .tallies; fresh = h .fresh };
     docstring = λ s r ns fs u h. documented-holds r _ fs (u .rows) (record { closed = h .closed; tallies = h .tallies; fresh = h .fresh });
     within = λ p n ns fs u h. record { closed = h .closed; tallies = h .tallies; fresh = h .fresh };
-    another = tt;
+    another = λ f fs u h. tt;
     none = tt;
   }
   ways (fault n p) c = tt
-  ways (end p) c = (tt, tt)
+  ways (end p) c = (tt, λ f fs u h. tt)
 
   -- the rows of a document that is accepted
   pub accepts-enough : {u : Tables Shown} → Accepts doc u → (i : ℕ) → i < length (u .rows) → enough (rowAt (u .rows) i .kind) (signatures (suc i) (u .rows)) ≡ true

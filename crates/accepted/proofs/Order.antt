@@ -169,7 +169,7 @@ Parented p (opens r) = r .parent ≡ p
 Parented p (refuses x) = Unit {0}
 
 parented : (k p : ℕ) (t : Tag) → Parented p (opensAs whole k p t)
-parented k p t = any-way whole whole p t (λ o o′. Parented p o) (λ n h. tt) (λ n h. tt) (λ k w n v tp c. refl) k
+parented k p t = any-way whole whole p t (λ o o′. Parented p o) (λ x r. tt) (λ k w n v tp c. refl) k
 
 held : Known Shown
 held = record { first = Unit {0}; inside = λ fs u. Holds fs (u .rows); done = λ u. Holds [] (u .rows); fault = λ x. Unit {0} }
@@ -180,7 +180,7 @@ module _ (doc : List ℕ) where
   closes = record {
     element = λ k n r fs u h. record { follow = h .follow; inside = popped r (openRows fs) (u .rows) (h .inside) };
     whole = λ d fs u e h. record { follow = h .follow; inside = popped (d .row) (openRows fs) (u .rows) (h .inside) };
-    broken = λ d fs u h. dropped-holds d fs (u .rows) h;
+    broken = λ d fs u e h. dropped-holds d fs (u .rows) h;
     root = λ u h. h;
   }
 
@@ -205,11 +205,11 @@ module _ (doc : List ℕ) where
         same-holds fs (u .rows) _ (length-documented _ r (u .rows)) (λ i l. ap (λ (b : Brief). b .parent) (at-documented r _ (u .rows) i))
         (record { follow = h .follow; inside = h .inside });
     within = λ p n ns fs u h. record { follow = h .follow; inside = h .inside };
-    another = tt;
+    another = λ f fs u h. tt;
     none = tt;
   }
   ways (fault n p) c = tt
-  ways (end p) c = (tt, tt)
+  ways (end p) c = (tt, λ f fs u h. tt)
 
   pub accepts-follow : {u : Tables Shown} → Accepts doc u → Follow (parentIn (u .rows)) (length (u .rows))
   unfolding held

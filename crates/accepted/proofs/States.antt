@@ -18,7 +18,7 @@ use Rattle.document.specs.Tags.{Shown}
 use Rattle.document.specs.Tokens.{Tag, Token, start, close, fault, end}
 use Rattle.document.specs.Rows.{Doc, Row, Tables, documented}
 use Rattle.document.specs.Elements.{kindOf, opens, opensAs}
-use Rattle.document.specs.Reading.{Definition, Purpose, captures, Frame, element, definition, passing, rowOf, parentOf, noted, frameOf}
+use Rattle.document.specs.Reading.{Definition, Purpose, captures, Frame, element, definition, passing, rowOf, parentOf, noted, frameOf, Name}
 use Rattle.document.specs.Outcome.{whole}
 use Rattle.rows.proofs.Words.{length-documented}
 use Rattle.document.proofs.Tests.{never}
@@ -137,7 +137,7 @@ module _ (doc : List ℕ) (formed : illFormed doc ≡ length doc) where
   closes = record {
     element = λ k n r fs u h. record { fine = h .fine; docs = h .docs; tags = h .tags; frames = h .frames .3 };
     whole = λ d fs u e h. record { fine = h .fine; docs = h .docs; tags = h .tags; frames = frames-judged doc (length (u .rows)) (rowAt (u .rows)) d fs e (h .frames) };
-    broken = λ d fs u h. dropped-holds d fs (u .rows) h;
+    broken = λ d fs u e h. dropped-holds d fs (u .rows) h;
     root = λ u h. h;
   }
 
@@ -156,12 +156,12 @@ module _ (doc : List ℕ) (formed : illFormed doc ≡ length doc) where
       a j l = at-documented i d rs j
 
   -- the frames under the innermost
-  popped : {p : Purpose} {ns : List (List ℕ)} {fs : List Frame} {rs : List (Row Shown)} → Holds (passing p ns ∷ fs) rs → Holds fs rs
+  popped : {p : Purpose} {ns : List Name} {fs : List Frame} {rs : List (Row Shown)} → Holds (passing p ns ∷ fs) rs → Holds fs rs
   popped h = record { fine = h .fine; docs = h .docs; tags = h .tags; frames = h .frames .1 }
 
-  shuts : (lt q : ℕ) → Before doc lt → Shuts whole doc held held lt q
+  shuts : (lt : ℕ) (n : List ℕ) (q : ℕ) → Before doc lt → Shuts whole doc held held lt n q
   unfolding rowAt
-  shuts lt q b = record {
+  shuts lt n q b = record {
     closes = closes;
     passed = λ p ns fs u h. popped h;
     docstring = λ s r ns fs u h.
@@ -169,7 +169,7 @@ module _ (doc : List ℕ) (formed : illFormed doc ≡ length doc) where
         (docs-documented doc blank r _ (u .rows) (h .frames .0 .1) (content-good doc formed s lt (h .frames .0 .2) b) (h .docs))
         (popped h);
     within = λ p n ns fs u h. record { fine = h .fine; docs = h .docs; tags = h .tags; frames = h .frames };
-    another = tt;
+    another = λ f fs u h. tt;
     none = tt;
   }
 
@@ -207,9 +207,9 @@ module _ (doc : List ℕ) (formed : illFormed doc ≡ length doc) where
 
   ways : (t : Token) → Comes doc t → Ways whole doc held held held t
   ways (start t) c = starts t c
-  ways (close lt n q) c = shuts lt q c
+  ways (close lt n q) c = shuts lt n q (c .begins)
   ways (fault n p) c = tt
-  ways (end p) c = (tt, tt)
+  ways (end p) c = (tt, λ f fs u h. tt)
 
   pub accepts-holds : {u : Tables Shown} → Accepts doc u → Holds [] (u .rows)
   accepts-holds a =

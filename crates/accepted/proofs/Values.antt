@@ -49,7 +49,7 @@ module _ (doc : List ℕ) where
 
   -- ---- the attributes of a tag
 
-  lookup-held : (key : List ℕ) (xs : List Shown) → AllHeld doc xs → HeldIn doc (lookup key xs)
+  pub lookup-held : (key : List ℕ) (xs : List Shown) → AllHeld doc xs → HeldIn doc (lookup key xs)
   lookup-held key [] h = tt
   lookup-held key (s ∷ xs) h = either (HeldIn doc) (same (s .attr .name) key) (λ c. h .0) (λ c. lookup-held key xs (h .1))
 
@@ -70,7 +70,7 @@ module _ (doc : List ℕ) where
 
   start-opens : (t : Tag) → Starts doc t → (k p : ℕ) → Opens (opensAs whole k p t)
   start-opens t g k p =
-      any-way whole whole p t (λ o o′. Opens o) (λ n h. tt) (λ n h. tt)
+      any-way whole whole p t (λ o o′. Opens o) (λ x r. tt)
       (λ k w n v tp c. (
         from-held _ n (c .name) (lookup-held (c .first) (t .attrs) (g .attrs)),
         from-held _ v (c .value) (lookup-held (c .second) (t .attrs) (g .attrs)),
@@ -84,7 +84,7 @@ module _ (doc : List ℕ) where
   held = record { first = Unit {0}; inside = λ fs u. RowsHeld doc (u .rows); done = λ u. RowsHeld doc (u .rows); fault = λ x. Unit {0} }
 
   closes : Closes whole doc held held
-  closes = record { element = λ k n r fs u h. h; whole = λ d fs u e h. h; broken = λ d fs u h. rows-first (d .row) (u .rows) h; root = λ u h. h }
+  closes = record { element = λ k n r fs u h. h; whole = λ d fs u e h. h; broken = λ d fs u e h. rows-first (d .row) (u .rows) h; root = λ u h. h }
 
   row-held : (t : Tag) → Starts doc t → (k p : ℕ) (r : Row Shown) (rs : List (Row Shown)) → opensAs whole k p t ≡ opens r → RowsHeld doc rs → RowsHeld doc (rs ++ r ∷ [])
   row-held t g k p r rs e h = rows-more rs r h (rw e at (start-opens t g k p))
@@ -107,11 +107,11 @@ module _ (doc : List ℕ) where
     passed = λ p ns fs u h. h;
     docstring = λ s r ns fs u h. rows-documented r _ (u .rows) h;
     within = λ p n ns fs u h. h;
-    another = tt;
+    another = λ f fs u h. tt;
     none = tt;
   }
   ways (fault n p) g = tt
-  ways (end p) g = (tt, tt)
+  ways (end p) g = (tt, λ f fs u h. tt)
 
   pub accepts-held : {u : Tables Shown} → Accepts doc u → RowsHeld doc (u .rows)
   accepts-held a = rw (a .reads) at (run-kept doc held ways (λ h. tt) (λ u h. h) tt)

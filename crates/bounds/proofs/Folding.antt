@@ -11,7 +11,7 @@ use Rattle.document.specs.Tokens.{Token, start, close, fault, end, Next, more, 
 use Rattle.document.specs.Reading.{State, begun, step, fold, run}
 use Rattle.document.specs.Outcome.{whole}
 use Rattle.document.proofs.Steps.{Kept, step-kept}
-use Rattle.bounds.proofs.Nexts.{Onward, Reaches, next-reaches}
+use Rattle.document.proofs.Nexts.{Onward, Reaches, next-reaches}
 use Rattle.bounds.proofs.States.{held, final, one-step, last-step}
 
 moves-on : (at top : ℕ) (t : Token) (q : ℕ) → Onward at top t q → (at < q) × (q ≤ top)

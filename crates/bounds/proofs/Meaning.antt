@@ -15,7 +15,8 @@ use Rattle.document.specs.Elements.{among}
 use Rattle.document.specs.Reading.{State, begun, reading, accepted, refused, run}
 use Rattle.document.specs.Whole.{Room, meaning, fitted}
 use Rattle.document.specs.Outcome.{whole}
-use Rattle.bounds.specs.Bounds.{faults, refusals, lentRefusals, Told}
+use Rattle.document.specs.Refusals.{faults}
+use Rattle.bounds.specs.Bounds.{refusals, lentRefusals, Told}
 use Rattle.document.proofs.Steps.{Kept}
 use Rattle.document.proofs.Tests.{never, either}
 use Rattle.bounds.proofs.States.{final}

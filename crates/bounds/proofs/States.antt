@@ -5,7 +5,9 @@
 use Prim.Native.Nat.{ℕ, _+_, _-_, _*_, _≤_, _<_}
 use mathlib.Core.Path.{_≡_, refl, ap, sym, _∙_}
 use mathlib.Core.List.{List, [], _∷_, _++_}
+use mathlib.Core.Bool.{_||_}
 use native.Mathlib.Omega.{arith}
+use lib.Dec.{eqb}
 use lib.ListN.{length, take, drop, length-append, take-append-drop}
 use lib.Seq.{length-take-le}
 use Rattle.document.specs.Kinds.{definitions}
@@ -14,15 +16,17 @@ use Rattle.document.specs.Tokens.{Tag, Token, start, close, fault, end}
 use Rattle.document.specs.Rows.{Row, Tables, rowText, texts}
 use Rattle.document.specs.Elements.{among}
 use Rattle.document.specs.Reading.{Definition, Frame, element, definition, passing, parentOf, reasonOf, notedIn, noted, frameOf, withRow, withWarning, dropped}
+use Rattle.document.specs.Refusals.{faultIn}
 use Rattle.document.specs.Outcome.{whole}
+use Rattle.document.specs.declared.Refusal.{Refusal}
 use Rattle.rows.proofs.Words.{length-documented, texts-documented, texts-append, texts-more}
 use Rattle.bounds.specs.Bounds.{Fits}
 use Rattle.document.proofs.Tests.{either}
 use Rattle.document.proofs.Steps as steps
 use Rattle.document.proofs.Steps.{Known, Closes, Shuts, Ways, Steps, capturesAt}
-use Rattle.bounds.proofs.Attributes.{Met}
-use Rattle.bounds.proofs.Nexts as nexts
-use Rattle.bounds.proofs.Nexts.{Starts, Onward, Ended}
+use Rattle.document.proofs.Attributes.{Met}
+use Rattle.document.proofs.Nexts as nexts
+use Rattle.document.proofs.Nexts.{Starts, Onward, Ended}
 use Rattle.bounds.proofs.Texts.{start-opens}
 
 -- a definition that is open has a row, after the rows of the definitions around it
@@ -44,6 +48,15 @@ held top at = record { first = Unit {0}; inside = Holds at; done = Fits top; fau
 
 abbrev pub final : ℕ → Known Shown
 final top = record { first = ⊥; inside = λ fs u. ⊥; done = Fits top; fault = λ x. Met top (x .number) (x .place) }
+
+-- the refusal of a fault has its number and place
+abbrev Numbered : ℕ → ℕ → Refusal → Type 0
+Numbered n p x = (x .number ≡ n) × (x .place ≡ p)
+
+fault-is : (doc : List ℕ) (n p : ℕ) → Numbered n p (faultIn doc n p)
+unfolding faultIn
+fault-is doc n p =
+    either (Numbered n p) (eqb n 8) (λ t. (refl, refl)) (λ t. either (Numbered n p) (eqb n 10 || eqb n 11) (λ t. (refl, refl)) (λ t. (refl, refl)))
 
 -- ---- frames
 
@@ -119,7 +132,7 @@ module _ (doc : List ℕ) (top : ℕ) where
     closes = record {
       element = λ k n r fs u h. popped m (h .owned) h;
       whole = λ d fs u e h. popped m (owned-more (d .row) (length (u .rows)) fs (omega (arith, h .owned .0)) (h .owned .1)) h;
-      broken = λ d fs u h. dropped-holds d fs u m h;
+      broken = λ d fs u e h. dropped-holds d fs u m h;
       root = λ u h. fits l h;
     }
 
@@ -152,21 +165,21 @@ module _ (doc : List ℕ) (top : ℕ) where
           within = λ p ns fs u h. record { few = omega (arith, h .few); text = omega (arith, h .text); owned = h .owned };
         }
 
-    shuts : (lt p : ℕ) → nexts.Closes at top lt p q → Shuts whole doc (held top at) (held top q) lt p
-    shuts lt p g =
+    shuts : (lt : ℕ) (n : List ℕ) (p : ℕ) → nexts.Closes at top lt p q → Shuts whole doc (held top at) (held top q) lt n p
+    shuts lt n p g =
         let m : at < q = omega (arith, g .since, g .long) in
         record {
           closes = closes m (g .within);
           passed = λ p ns fs u h. popped m (h .owned) h;
           docstring = λ s r ns fs u h. docstring-holds lt s r fs u (popped m (h .owned) h);
           within = λ p n ns fs u h. record { few = omega (arith, h .few); text = omega (arith, h .text); owned = h .owned };
-          another = record { number = refl; place = omega (arith, g .after, g .within) };
+          another = λ f fs u h. record { number = refl; place = omega (arith, g .after, g .within) };
           none = record { number = refl; place = omega (arith, g .long, g .within) };
         }
 
     ways : (t : Token) → Onward at top t q → Ways whole doc (held top at) (held top (q - 1)) (held top q) t
     ways (start t) g = starts t g
-    ways (close lt n p) g = shuts lt p g
+    ways (close lt n p) g = shuts lt n p g
     ways (fault n p) g = absurd g
     ways (end p) g = absurd g
 
@@ -184,8 +197,8 @@ module _ (doc : List ℕ) (top : ℕ) where
   last-ways : (at : ℕ) (t : Token) → Ended top t → Ways whole doc (held top at) (final top) (final top) t
   last-ways at (start t) g = absurd g
   last-ways at (close lt n p) g = absurd g
-  last-ways at (fault n p) g = g
-  last-ways at (end p) g = (record { number = refl; place = omega arith }, record { number = refl; place = omega arith })
+  last-ways at (fault n p) g = let i = fault-is doc n p in record { number = rw (i .0) (g .number); place = rw (i .1) (g .place) }
+  last-ways at (end p) g = (record { number = refl; place = omega arith }, λ f fs u h. record { number = refl; place = omega arith })
 
   pub last-step : (at : ℕ) (t : Token) → at ≤ top → Ended top t → Steps whole doc (held top at) (final top) (final top) t
   last-step at t l g = record {

@@ -17,11 +17,12 @@ use Rattle.document.specs.Tokens.{Tag}
 use Rattle.document.specs.Rows.{textOf, rowText}
 use Rattle.document.specs.Elements.{attr, among, Opened, opens, refuses, kept, row, opensAs}
 use Rattle.document.specs.Outcome.{whole}
+use Rattle.document.specs.declared.Refusal.{Refusal}
 use Rattle.document.proofs.Tests.{either, among-all}
-use Rattle.document.proofs.Opens.{From, any-way}
-use Rattle.bounds.specs.Bounds.{faults}
-use Rattle.bounds.proofs.Attributes.{Met, textTotal}
-use Rattle.bounds.proofs.Nexts.{Starts}
+use Rattle.document.proofs.Opens.{From, any-way, Refuses, lacks, at-name, at-end}
+use Rattle.document.specs.Refusals.{faults}
+use Rattle.document.proofs.Attributes.{Met, textTotal}
+use Rattle.document.proofs.Nexts.{Starts}
 
 -- how long the text is that a value shows
 abbrev size : Option Shown → ℕ
@@ -76,11 +77,15 @@ module _ {from top : ℕ} (t : Tag) {q : ℕ} (g : Starts from top t q) where
   Opens (opens r) = t .at + length (rowText r) < q
   Opens (refuses x) = Met top (x .number) (x .place)
 
+  refuses-met : {x : Refusal} → Refuses t x → Met top (x .number) (x .place)
+  refuses-met (lacks k h) = record { number = refl; place = omega (arith, g .long, g .within) }
+  refuses-met (at-name n h) = record { number = among-all (λ m. among m faults) n (13 ∷ 14 ∷ []) refl h; place = omega (arith, g .long, g .within) }
+  refuses-met (at-end n key s h e) = record { number = among-all (λ m. among m faults) n (15 ∷ 16 ∷ []) refl h; place = omega (arith, g .after, g .within) }
+
   pub start-opens : (k p : ℕ) → Opens (opensAs whole k p t)
   start-opens k p =
       any-way whole whole p t (λ o o′. Opens o)
-      (λ n h. record { number = among-all (λ m. among m faults) n (12 ∷ 13 ∷ 14 ∷ []) refl h; place = omega (arith, g .long, g .within) })
-      (λ n h. record { number = among-all (λ m. among m faults) n (15 ∷ 16 ∷ []) refl h; place = omega (arith, g .after, g .within) })
+      (λ x r. refuses-met r)
       (λ k w n v tp c.
       omega (
         arith,

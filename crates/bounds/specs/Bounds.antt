@@ -9,6 +9,7 @@ use Rattle.document.specs.Tags.{Shown}
 use Rattle.document.specs.Rows.{Tables, texts}
 use Rattle.document.specs.Elements.{among}
 use Rattle.document.specs.Reading.{State, begun, reading, accepted, refused}
+use Rattle.document.specs.Refusals.{faults}
 use Rattle.document.specs.declared.Refusal.{Refusal}
 
 -- the tables of a document that is accepted
@@ -16,11 +17,8 @@ pub record Fits (len : ℕ) (u : Tables Shown) : Type 0 where
   pub few : 4 * (length (u .rows) + length (u .warnings)) ≤ len
   pub text : length (texts (u .rows)) ≤ len
 
--- the numbers of faults met while reading; with 1 and 2, which are told before; with 18, of too little room. Neither 0 nor 19 to
+-- the numbers of faults met while reading, with 1 and 2, which are told before; with 18, of too little room. Neither 0 nor 19 to
 -- 21, which are for writing, is among them
-abbrev pub faults : List ℕ
-faults = 3 ∷ 4 ∷ 5 ∷ 6 ∷ 7 ∷ 8 ∷ 9 ∷ 10 ∷ 11 ∷ 12 ∷ 13 ∷ 14 ∷ 15 ∷ 16 ∷ 17 ∷ 22 ∷ 23 ∷ 24 ∷ 25 ∷ []
-
 abbrev pub refusals : List ℕ
 refusals = 1 ∷ 2 ∷ faults
 

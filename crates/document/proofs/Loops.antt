@@ -17,8 +17,8 @@ use Rattle.document.specs.Tags.{Shown}
 use Rattle.document.specs.Tokens.{Tag}
 use Rattle.document.specs.Rows.{Row, Tables}
 use Rattle.document.specs.Elements.{kindOf, heldBy, mayHold, among}
-use Rattle.document.specs.Reading.{Frame, element, State, reading, child, noted, begins, unsupported}
-use Rattle.document.specs.Outcome.{Lent, lent, Stands, Bounded, Ready, Steps, Ends, Begins, Ignores, Captures, Others, Child, Children, runs, whole, moved}
+use Rattle.document.specs.Reading.{Name, Frame, element, State, reading, child, noted, begins, unsupported}
+use Rattle.document.specs.Outcome.{Lent, lent, Stands, Bounded, Ready, Steps, Ends, Begins, Ignores, Captures, Others, Child, Children, nameAt, runs, whole, moved}
 use Rattle.document.specs.declared.StartTag.{StartTag}
 use Rattle.document.specs.declared.Fill.{Fill}
 use Rattle.document.specs.declared.Refusal.{Refusal}
@@ -48,7 +48,7 @@ pub record Sofar (doc hs : List ℕ) (docs : Bool) (at len i : ℕ) (f₀ : Fill
       Stands u b₀ f₀ →
       (v : Tables Shown)
       × Stands v b f
-      × (runs doc (f₀ .at) (reading (element k (take len (drop at doc)) i ∷ fs) u) ≡ runs doc (f .at) (reading (element k (take len (drop at doc)) i ∷ fs) v))
+      × (runs doc (f₀ .at) (reading (element k (nameAt doc at len) i ∷ fs) u) ≡ runs doc (f .at) (reading (element k (nameAt doc at len) i ∷ fs) v))
       × (take i (v .rows) ≡ take i (u .rows))
 
 module _ {doc hs : List ℕ} {docs : Bool} {at len i : ℕ} {f₀ : Fill} {b₀ : Lent} where
@@ -67,7 +67,7 @@ module _ {doc hs : List ℕ} {docs : Bool} {at len i : ℕ} {f₀ : Fill} {b₀ 
       onward = tt;
       ends = λ k fs u e d z.
           let x = g .leads k fs u e d z in
-          x .2 ∙ (rw q at s) .leads (element k (take len (drop at doc)) i) fs (x .0) refl;
+          x .2 ∙ (rw q at s) .leads (element k (nameAt doc at len) i) fs (x .0) refl;
     }
 
     pub loop-close : {lt end : ℕ} {m : Fill} → r ≡ Next.Close lt end → m ≡ moved f end → Children doc hs docs at len i f₀ b₀ b (Answer.Done m)
@@ -87,7 +87,7 @@ module _ {doc hs : List ℕ} {docs : Bool} {at len i : ℕ} {f₀ : Fill} {b₀ 
           );
           ends = λ k fs u e d z.
               let x = g .leads k fs u e d z in
-              (x .0, moved-stands end (x .1), x .2 ∙ c .leads (element k (take len (drop at doc)) i) fs (x .0) refl, x .3);
+              (x .0, moved-stands end (x .1), x .2 ∙ c .leads (element k (nameAt doc at len) i) fs (x .0) refl, x .3);
         }
 
     module _ {c : StartTag} (q : r ≡ Next.Start c) where
@@ -112,8 +112,8 @@ module _ {doc hs : List ℕ} {docs : Bool} {at len i : ℕ} {f₀ : Fill} {b₀ 
           onward = tt;
           ends = λ k fs u e d z.
               let x = g .leads k fs u e d z in
-              let v′ = start .leads (element k (take len (drop at doc)) i) fs (x .0) refl in
-              x .2 ∙ v′ .2 ∙ taken w .ends k (take len (drop at doc)) (v′ .0) fs (x .0) e d (v′ .1) (moved-stands (c .end) (x .1));
+              let v′ = start .leads (element k (nameAt doc at len) i) fs (x .0) refl in
+              x .2 ∙ v′ .2 ∙ taken w .ends k (nameAt doc at len) (v′ .0) fs (x .0) e d (v′ .1) (moved-stands (c .end) (x .1));
         }
 
         pub loop-child : {g′ : Fill} → a ≡ Answer.Done g′ → Sofar doc hs docs at len i f₀ b₀ g′ b′
@@ -126,8 +126,8 @@ module _ {doc hs : List ℕ} {docs : Bool} {at len i : ℕ} {f₀ : Fill} {b₀ 
               owner = omega (arith, g .owner, j .onward .1);
               leads = λ k fs u e d z.
                   let x = g .leads k fs u e d z in
-                  let v′ = start .leads (element k (take len (drop at doc)) i) fs (x .0) refl in
-                  let o = j .ends k (take len (drop at doc)) (v′ .0) fs (x .0) e d (v′ .1) (moved-stands (c .end) (x .1)) in
+                  let v′ = start .leads (element k (nameAt doc at len) i) fs (x .0) refl in
+                  let o = j .ends k (nameAt doc at len) (v′ .0) fs (x .0) e d (v′ .1) (moved-stands (c .end) (x .1)) in
                   (o .0, o .1, x .2 ∙ v′ .2 ∙ o .2, o .3 ∙ x .3);
             }
 

@@ -14,13 +14,17 @@ use Rattle.document.specs.Tags.{Shown}
 use Rattle.document.specs.Tokens.{Tag}
 use Rattle.document.specs.Rows.{Row, Tables}
 use Rattle.document.specs.Elements.{heldBy, among}
-use Rattle.document.specs.Reading.{Frame, element, State, reading, parentOf, closed, withRow, noted, entered, begins}
-use Rattle.document.specs.Outcome.{Lent, lent, Stands, Bounded, TagIs, Ends, Onward, Begins, Opening, Children, runs, whole}
+use Rattle.document.specs.Reading.{tagName, Frame, element, State, reading, parentOf, closed, withRow, noted, entered, begins}
+use Rattle.document.specs.Outcome.{Lent, lent, Stands, Bounded, nameAt, TagIs, Ends, Onward, Begins, Opening, Children, runs, whole}
 use Rattle.document.specs.declared.StartTag.{StartTag}
 use Rattle.document.specs.declared.Fill.{Fill}
 use Rattle.document.specs.declared.Refusal.{Refusal}
 use Rattle.document.specs.declared.Answer.{Answer}
 use Rattle.document.proofs.Runs.{run-refused}
+
+-- the name of a tag stands where the tag says
+pub tag-named : {doc : List ℕ} {c : StartTag} {t : Tag} → TagIs doc c t → tagName t ≡ nameAt doc (c .at) (c .len)
+tag-named z = rw (sym (z .at), z .named .is)
 
 module _ {doc : List ℕ} {k : ℕ} {c : StartTag} {p : ℕ} {f : Fill} {rows rows′ bytes bytes′ : List ℕ} {a : Answer} (o : Opening doc k c p f rows rows′ bytes bytes′ a) where
   pub opening-fault : {x : Refusal} {w : List ℕ} → a ≡ Answer.Fault x → Begins doc k c p f (lent rows w bytes) (lent rows′ w bytes′) (Answer.Fault x)
@@ -61,8 +65,8 @@ module _ {doc : List ℕ} {k : ℕ} {c : StartTag} {p : ℕ} {f : Fill} {rows ro
       }
 
       module _ {b : Lent} {r : Answer} (x : c .closes ≡ false) (y : eqb k kinds.node ≡ false) (l : Children doc (heldBy k) (not (eqb k kinds.annotation)) (c .at) (c .len) (f .rows) g (lent rows′ w bytes′) b r) where
-        inside : (t : Tag) (fs : List Frame) (u : Tables Shown) → TagIs doc c t → length (u .rows) ≡ f .rows → (row : Row Shown) → runs doc (c .end) (entered whole doc k t row fs u) ≡ runs doc (g .at) (reading (element k (take (c .len) (drop (c .at) doc)) (f .rows) ∷ noted k t fs) (withRow row u))
-        inside t fs u z n row = rw (at-end, sym (z .closes) ∙ x, d, y, z .named .is, n)
+        inside : (t : Tag) (fs : List Frame) (u : Tables Shown) → TagIs doc c t → length (u .rows) ≡ f .rows → (row : Row Shown) → runs doc (c .end) (entered whole doc k t row fs u) ≡ runs doc (g .at) (reading (element k (nameAt doc (c .at) (c .len)) (f .rows) ∷ noted k t fs) (withRow row u))
+        inside t fs u z n row = rw (at-end, sym (z .closes) ∙ x, d, y, tag-named z, n)
 
         pub opening-children : Begins doc k c p f (lent rows w bytes) b r
         opening-children = record {

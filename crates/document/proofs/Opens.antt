@@ -13,21 +13,26 @@ use Rattle.names.specs.Names.{interfaceName, memberName, propertyName}
 use Rattle.names.specs.Signature.{signature}
 use Rattle.document.specs.Tags.{Shown, isTpType, tpType}
 use Rattle.document.specs.Tokens.{Tag}
-use Rattle.document.specs.Elements.{among, accessOf, directionOf, attr, bare, Opened, opens, refuses, Keeping, row, required, valid, namedRow, propertyRow, annotationRow, directed, argRow, opensAs}
+use Rattle.document.specs.Elements.{among, accessOf, directionOf, attr, Opened, opens, refuses, Keeping, row, required, valid, namedRow, propertyRow, annotationRow, directed, argRow, opensAs}
+use Rattle.document.specs.Refusals.{rawOf, bare, showing, lacking}
 use Rattle.document.specs.Reading.{isThere, isSome}
+use Rattle.document.specs.declared.Refusal.{Refusal}
 use Rattle.document.proofs.Tests.{pairwise}
+
+-- the refusals of a start tag: an attribute is missing; a name or a signature is bad, at the element name; an access or a direction,
+-- after the tag
+pub data Refuses (t : Tag) : Refusal → Type 0 where
+  lacks : (k : ℕ) → among k (1 ∷ 2 ∷ 3 ∷ 4 ∷ []) ≡ true → Refuses t (lacking k t)
+  at-name : (n : ℕ) → among n (13 ∷ 14 ∷ []) ≡ true → Refuses t (bare n (suc (t .at)))
+  at-end : (n : ℕ) (key : List ℕ) (s : Shown) → among n (15 ∷ 16 ∷ []) ≡ true → attr key t ≡ some s → Refuses t (showing n (t .after) (rawOf s))
 
 module _ {A B : Type 0} (keep : Keeping A) (seen : Keeping B) (p : ℕ) (t : Tag) (P : ℕ → Opened A → Opened B → Type 0) where
   abbrev pub OfRow : ℕ → Option Shown → Option Shown → Option Shown → ℕ → Type 0
   OfRow k n v tp w = P k (opens (row keep t k p n v tp w)) (opens (row seen t k p n v tp w))
 
-  abbrev pub OfRefusal : ℕ → ℕ → ℕ → Type 0
-  OfRefusal k n place = P k (refuses (bare n place)) (refuses (bare n place))
-
-  -- refusals at the element name and after the tag; the row of each kind, with what its tag is known to have
+  -- refusals; the row of each kind, with what its tag is known to have
   pub record Ways : Type 0 where
-    pub at-name : (k n : ℕ) → among n (12 ∷ 13 ∷ 14 ∷ []) ≡ true → OfRefusal k n (suc (t .at))
-    pub at-end : (k n : ℕ) → among n (15 ∷ 16 ∷ []) ≡ true → OfRefusal k n (t .after)
+    pub refusal : (k : ℕ) (x : Refusal) → Refuses t x → P k (refuses x) (refuses x)
     pub node : OfRow 1 (attr (bytes "name") t) none none 0
     pub interface : isSome interfaceName (attr (bytes "name") t) ≡ true → OfRow 2 (attr (bytes "name") t) none none 0
     pub method : isSome memberName (attr (bytes "name") t) ≡ true → OfRow 3 (attr (bytes "name") t) none none 0
@@ -52,43 +57,43 @@ module _ {A B : Type 0} (keep : Keeping A) (seen : Keeping B) (p : ℕ) (t : Tag
     pub other : (k : ℕ) → among k (1 ∷ 2 ∷ 3 ∷ 4 ∷ 5 ∷ 6 ∷ 7 ∷ 8 ∷ 9 ∷ 10 ∷ 12 ∷ []) ≡ false → OfRow k (attr (bytes "name") t) none none 0
 
   module _ (w : Ways) where
-    on-required : (k : ℕ) (o : Option Shown) {x : Shown → Opened A} {y : Shown → Opened B} → ((s : Shown) → o ≡ some s → P k (x s) (y s)) → P k (required keep o t x) (required seen o t y)
-    on-required k none h = w .at-name k 12 refl
-    on-required k (some s) h = h s refl
+    on-required : (k key : ℕ) → among key (1 ∷ 2 ∷ 3 ∷ 4 ∷ []) ≡ true → (o : Option Shown) {x : Shown → Opened A} {y : Shown → Opened B} → ((s : Shown) → o ≡ some s → P k (x s) (y s)) → P k (required keep key o t x) (required seen key o t y)
+    on-required k key e none h = w .refusal k (lacking key t) (lacks key e)
+    on-required k key e (some s) h = h s refl
 
-    on-valid : (k : ℕ) (b : Bool) (n place : ℕ) {x : Opened A} {y : Opened B} → OfRefusal k n place → (b ≡ true → P k x y) → P k (valid keep b n place x) (valid seen b n place y)
-    on-valid k b n place r h = pairwise (P k) b h (λ c. r)
+    on-valid : (k : ℕ) (b : Bool) (z : Refusal) → Refuses t z → {x : Opened A} {y : Opened B} → (b ≡ true → P k x y) → P k (valid keep b z x) (valid seen b z y)
+    on-valid k b z r h = pairwise (P k) b h (λ c. w .refusal k z r)
 
-    on-directed : (o : Option Shown) (x : ℕ → Opened A) (y : ℕ → Opened B) → ((d : List ℕ) → P 7 (x (directionOf d)) (y (directionOf d))) → P 7 (directed keep o t x) (directed seen o t y)
-    on-directed none x y h = h []
-    on-directed (some d) x y h = on-valid 7 (not (eqb (directionOf (d .value)) 0)) 16 (t .after) (w .at-end 7 16 refl) (λ c. h (d .value))
+    on-directed : (o : Option Shown) → attr (bytes "direction") t ≡ o → (x : ℕ → Opened A) (y : ℕ → Opened B) → ((d : List ℕ) → P 7 (x (directionOf d)) (y (directionOf d))) → P 7 (directed keep o t x) (directed seen o t y)
+    on-directed none e x y h = h []
+    on-directed (some d) e x y h = on-valid 7 (not (eqb (directionOf (d .value)) 0)) (showing 16 (t .after) (rawOf d)) (at-end 16 (bytes "direction") d refl e) (λ c. h (d .value))
 
     named-way : (good : List ℕ → Bool) (k : ℕ) → (isSome good (attr (bytes "name") t) ≡ true → OfRow k (attr (bytes "name") t) none none 0) → P k (namedRow keep good k p t) (namedRow seen good k p t)
     named-way good k h =
-        on-required k (attr (bytes "name") t) λ n e.
-        on-valid k (good (n .value)) 13 (suc (t .at)) (w .at-name k 13 refl) λ c. rw e at (h (rw e c))
+        on-required k 1 refl (attr (bytes "name") t) λ n e.
+        on-valid k (good (n .value)) (bare 13 (suc (t .at))) (at-name 13 refl) λ c. rw e at (h (rw e c))
 
     property-way : P 4 (propertyRow keep p t) (propertyRow seen p t)
     property-way =
-        on-required 4 (attr (bytes "name") t) λ n e.
-        on-valid 4 (propertyName (n .value)) 13 (suc (t .at)) (w .at-name 4 13 refl) λ c.
-        on-required 4 (attr (bytes "type") t) λ s f.
-        on-valid 4 (signature (s .value)) 14 (suc (t .at)) (w .at-name 4 14 refl) λ d.
-        on-required 4 (attr (bytes "access") t) λ a g.
-        on-valid 4 (not (eqb (accessOf (a .value)) 0)) 15 (t .after) (w .at-end 4 15 refl) λ h.
+        on-required 4 1 refl (attr (bytes "name") t) λ n e.
+        on-valid 4 (propertyName (n .value)) (bare 13 (suc (t .at))) (at-name 13 refl) λ c.
+        on-required 4 2 refl (attr (bytes "type") t) λ s f.
+        on-valid 4 (signature (s .value)) (bare 14 (suc (t .at))) (at-name 14 refl) λ d.
+        on-required 4 3 refl (attr (bytes "access") t) λ a g.
+        on-valid 4 (not (eqb (accessOf (a .value)) 0)) (showing 15 (t .after) (rawOf a)) (at-end 15 (bytes "access") a refl g) λ h.
         rw (e, f) at (w .property (rw e c) (rw f d) (a .value) h)
 
     annotation-way : P 6 (annotationRow keep p t) (annotationRow seen p t)
     annotation-way =
-        on-required 6 (attr (bytes "name") t) λ n e.
-        on-required 6 (attr (bytes "value") t) λ v f.
+        on-required 6 1 refl (attr (bytes "name") t) λ n e.
+        on-required 6 4 refl (attr (bytes "value") t) λ v f.
         rw (e, f) at (w .annotation (rw e) (rw f))
 
     arg-way : P 7 (argRow keep p t) (argRow seen p t)
     arg-way =
-        on-required 7 (attr (bytes "type") t) λ s e.
-        on-valid 7 (signature (s .value)) 14 (suc (t .at)) (w .at-name 7 14 refl) λ c.
-        on-directed (attr (bytes "direction") t) _ _ λ d. rw e at (w .arg (rw e c) d)
+        on-required 7 2 refl (attr (bytes "type") t) λ s e.
+        on-valid 7 (signature (s .value)) (bare 14 (suc (t .at))) (at-name 14 refl) λ c.
+        on-directed (attr (bytes "direction") t) refl _ _ λ d. rw e at (w .arg (rw e c) d)
 
     pub opens-way : (k : ℕ) → P k (opensAs keep k p t) (opensAs seen k p t)
     unfolding opensAs
@@ -128,14 +133,12 @@ pub record Chosen (t : Tag) (n v o : Option Shown) : Type 0 where
 -- what need be shown of each way, where it does not matter which
 module _ {A B : Type 0} (keep : Keeping A) (seen : Keeping B) (p : ℕ) (t : Tag) (P : Opened A → Opened B → Type 0) where
   pub any-way :
-      ((n : ℕ) → among n (12 ∷ 13 ∷ 14 ∷ []) ≡ true → P (refuses (bare n (suc (t .at)))) (refuses (bare n (suc (t .at))))) →
-      ((n : ℕ) → among n (15 ∷ 16 ∷ []) ≡ true → P (refuses (bare n (t .after))) (refuses (bare n (t .after)))) →
+      ((x : Refusal) → Refuses t x → P (refuses x) (refuses x)) →
       ((k w : ℕ) (n v tp : Option Shown) → Chosen t n v tp → P (opens (row keep t k p n v tp w)) (opens (row seen t k p n v tp w))) →
       (k : ℕ) → P (opensAs keep k p t) (opensAs seen k p t)
-  any-way f g h =
+  any-way f h =
       opens-way keep seen p t (λ k. P) (record {
-        at-name = λ k. f;
-        at-end = λ k. g;
+        refusal = λ k. f;
         node = named 1;
         interface = λ c. named 2;
         method = λ c. named 3;

@@ -12,8 +12,9 @@ use Rattle.slices.specs.Bytes.{same}
 use Rattle.utf8.specs.WhiteSpace.{trimStart, trimEnd}
 use Rattle.document.specs.Tokens.{Tag, Token, start, close, fault, end}
 use Rattle.document.specs.Rows.{Row, Tables, documented}
-use Rattle.document.specs.Elements.{kindOf, mayHold, among, bare, Opened, opens, refuses, Keeping, opensAs}
-use Rattle.document.specs.Reading.{Definition, Purpose, ignored, captures, Frame, element, definition, passing, State, begun, reading, accepted, refused, nameOf, rowOf, parentOf, reasonOf, noted, frameOf, withRow, withWarning, closed, dropped, judged, passed, shut, tooDeep, opened, begins, unsupported, docstringIn, child, started, turn, step}
+use Rattle.document.specs.Elements.{kindOf, mayHold, among, Opened, opens, refuses, Keeping, opensAs}
+use Rattle.document.specs.Reading.{Definition, Purpose, ignored, captures, Frame, element, definition, passing, State, begun, reading, accepted, refused, nameOf, rowOf, parentOf, reasonOf, noted, frameOf, withRow, withWarning, closed, dropped, judged, passed, shut, tooDeep, opened, begins, unsupported, docstringIn, child, started, turn, step, Name, tagName, nameShown}
+use Rattle.document.specs.Refusals.{excerpt, bare, showing, showingBoth, faultIn}
 use Rattle.document.specs.declared.Refusal.{Refusal}
 use Rattle.document.proofs.Tests.{either}
 
@@ -54,9 +55,9 @@ Kept i (refused x) = i .fault x
 module _ {A : Type 0} (keep : Keeping A) (doc : List ℕ) where
   -- the innermost element is closed: an element, a definition that is kept, one that is dropped; and if it was the root
   pub record Closes (i j : Known A) : Type 0 where
-    pub element : (k : ℕ) (n : List ℕ) (r : ℕ) (fs : List Frame) (u : Tables A) → i .inside (element k n r ∷ fs) u → j .inside fs u
+    pub element : (k : ℕ) (n : Name) (r : ℕ) (fs : List Frame) (u : Tables A) → i .inside (element k n r ∷ fs) u → j .inside fs u
     pub whole : (d : Definition) (fs : List Frame) (u : Tables A) → reasonOf d ≡ 0 → i .inside (definition d ∷ fs) u → j .inside fs u
-    pub broken : (d : Definition) (fs : List Frame) (u : Tables A) → i .inside (definition d ∷ fs) u → j .inside fs (dropped (reasonOf d) d u)
+    pub broken : (d : Definition) (fs : List Frame) (u : Tables A) → eqb (reasonOf d) 0 ≡ false → i .inside (definition d ∷ fs) u → j .inside fs (dropped (reasonOf d) d u)
     pub root : (u : Tables A) → j .inside [] u → j .done u
 
   -- a closing tag whose `<` stands at lt: also content that is passed over, a docstring, an element in such content; or another tag
@@ -65,12 +66,12 @@ module _ {A : Type 0} (keep : Keeping A) (doc : List ℕ) where
       let content = take (lt - s) (drop s doc) in
       record { rows = documented r (record { start = s + trimStart content; len = trimEnd content - trimStart content }) (u .rows); warnings = u .warnings }
 
-  pub record Shuts (i j : Known A) (lt q : ℕ) : Type 0 where
+  pub record Shuts (i j : Known A) (lt : ℕ) (name : List ℕ) (q : ℕ) : Type 0 where
     pub closes : Closes i j
-    pub passed : (p : Purpose) (ns : List (List ℕ)) (fs : List Frame) (u : Tables A) → i .inside (passing p ns ∷ fs) u → j .inside fs u
-    pub docstring : (s r : ℕ) (ns : List (List ℕ)) (fs : List Frame) (u : Tables A) → i .inside (passing (captures s r) ns ∷ fs) u → j .inside fs (capturesAt lt s r u)
-    pub within : (p : Purpose) (n : List ℕ) (ns : List (List ℕ)) (fs : List Frame) (u : Tables A) → i .inside (passing p (n ∷ ns) ∷ fs) u → j .inside (passing p ns ∷ fs) u
-    pub another : j .fault (bare 6 q)
+    pub passed : (p : Purpose) (ns : List Name) (fs : List Frame) (u : Tables A) → i .inside (passing p ns ∷ fs) u → j .inside fs u
+    pub docstring : (s r : ℕ) (ns : List Name) (fs : List Frame) (u : Tables A) → i .inside (passing (captures s r) ns ∷ fs) u → j .inside fs (capturesAt lt s r u)
+    pub within : (p : Purpose) (n : Name) (ns : List Name) (fs : List Frame) (u : Tables A) → i .inside (passing p (n ∷ ns) ∷ fs) u → j .inside (passing p ns ∷ fs) u
+    pub another : (f : Frame) (fs : List Frame) (u : Tables A) → i .inside (f ∷ fs) u → j .fault (showingBoth 6 q (excerpt (suc (suc lt)) name) (nameShown (nameOf f)))
     pub none : j .fault (bare 4 (suc lt))
 
   -- a start tag; the second is what is known between the row of a tag `/>` and the end of its element
@@ -96,15 +97,15 @@ module _ {A : Type 0} (keep : Keeping A) (doc : List ℕ) where
     pub refusal : (k p : ℕ) (x : Refusal) → opensAs keep k p t ≡ refuses x → j .fault x
     pub deep : j .fault (bare 7 (t .after))
     pub warning : (fs : List Frame) (u : Tables A) → t .self ≡ true → i .inside fs u → j .inside fs (withWarning 1 (t .at) (t .name) u)
-    pub skips : (fs : List Frame) (u : Tables A) → i .inside fs u → j .inside (passing ignored (t .name ∷ []) ∷ fs) (withWarning 1 (t .at) (t .name) u)
-    pub docstring : (f : Frame) (fs : List Frame) (u : Tables A) → takesDocs f ≡ true → i .inside (f ∷ fs) u → j .inside (passing (captures (t .after) (rowOf f)) (t .name ∷ []) ∷ f ∷ fs) u
-    pub within : (p : Purpose) (ns : List (List ℕ)) (fs : List Frame) (u : Tables A) → i .inside (passing p ns ∷ fs) u → j .inside (passing p (t .name ∷ ns) ∷ fs) u
+    pub skips : (fs : List Frame) (u : Tables A) → i .inside fs u → j .inside (passing ignored (tagName t ∷ []) ∷ fs) (withWarning 1 (t .at) (t .name) u)
+    pub docstring : (f : Frame) (fs : List Frame) (u : Tables A) → takesDocs f ≡ true → i .inside (f ∷ fs) u → j .inside (passing (captures (t .after) (rowOf f)) (tagName t ∷ []) ∷ f ∷ fs) u
+    pub within : (p : Purpose) (ns : List Name) (fs : List Frame) (u : Tables A) → i .inside (passing p ns ∷ fs) u → j .inside (passing p (tagName t ∷ ns) ∷ fs) u
 
   abbrev pub Ways : Known A → Known A → Known A → Token → Type 0
   Ways i m j (start t) = Starts i m j t
-  Ways i m j (close lt n q) = Shuts i j lt q
-  Ways i m j (fault n p) = j .fault (bare n p)
-  Ways i m j (end p) = j .fault (bare 3 p) × j .fault (bare 5 p)
+  Ways i m j (close lt n q) = Shuts i j lt n q
+  Ways i m j (fault n p) = j .fault (faultIn doc n p)
+  Ways i m j (end p) = j .fault (bare 3 p) × ((f : Frame) (fs : List Frame) (u : Tables A) → i .inside (f ∷ fs) u → j .fault (showing 5 p (nameShown (nameOf f))))
 
   pub record Steps (i m j : Known A) (t : Token) : Type 0 where
     pub ways : Ways i m j t
@@ -123,16 +124,16 @@ module _ {A : Type 0} (keep : Keeping A) (doc : List ℕ) where
     judged-kept : (d : Definition) (fs : List Frame) (u : Tables A) → i .inside (definition d ∷ fs) u → Kept j (closed fs (judged d u))
     judged-kept d fs u h =
         closed-kept fs (judged d u)
-        (either (j .inside fs) (eqb (reasonOf d) 0) (λ e. c .whole d fs u (eqb-true (reasonOf d) 0 e) h) (λ e. c .broken d fs u h))
+        (either (j .inside fs) (eqb (reasonOf d) 0) (λ e. c .whole d fs u (eqb-true (reasonOf d) 0 e) h) (λ e. c .broken d fs u e h))
 
     own-kept : (k : ℕ) (t : Tag) (n : ℕ) (fs : List Frame) (u : Tables A) → i .inside (frameOf k t n ∷ fs) u → Kept j (shut doc (frameOf k t n) fs u 0)
     own-kept k t n fs u =
         either (λ (f : Frame). i .inside (f ∷ fs) u → Kept j (shut doc f fs u 0)) (among k (8 ∷ 9 ∷ 11 ∷ 13 ∷ []))
         (λ e h. judged-kept _ fs u h)
-        (λ e h. closed-kept fs u (c .element k (t .name) n fs u h))
+        (λ e h. closed-kept fs u (c .element k (tagName t) n fs u h))
 
-  module _ {i j : Known A} {lt q : ℕ} (c : Shuts i j lt q) where
-    passed-kept : (p : Purpose) (ns : List (List ℕ)) (fs : List Frame) (u : Tables A) → i .inside (passing p ns ∷ fs) u → Kept j (closed fs (passed doc p lt u))
+  module _ {i j : Known A} {lt : ℕ} {name : List ℕ} {q : ℕ} (c : Shuts i j lt name q) where
+    passed-kept : (p : Purpose) (ns : List Name) (fs : List Frame) (u : Tables A) → i .inside (passing p ns ∷ fs) u → Kept j (closed fs (passed doc p lt u))
     passed-kept ignored ns fs u h = closed-kept (c .closes) fs u (c .passed ignored ns fs u h)
     passed-kept (captures s r) ns fs u h =
         closed-kept (c .closes) fs (passed doc (captures s r) lt u)
@@ -195,9 +196,9 @@ module _ {A : Type 0} (keep : Keeping A) (doc : List ℕ) where
   module _ (i m j : Known A) where
     turn-kept : (t : Token) → Ways i m j t → (f : Frame) (fs : List Frame) (u : Tables A) → i .inside (f ∷ fs) u → Kept j (turn keep doc f fs u t)
     turn-kept (start t) w f fs u h = started-kept w f fs u h
-    turn-kept (close lt n q) w f fs u h = either (Kept j) (same n (nameOf f)) (λ c. shut-kept w f fs u h) (λ c. w .another)
+    turn-kept (close lt n q) w f fs u h = either (Kept j) (same n (nameOf f .bytes)) (λ c. shut-kept w f fs u h) (λ c. w .another f fs u h)
     turn-kept (fault n p) w f fs u h = w
-    turn-kept (end p) w f fs u h = w .1
+    turn-kept (end p) w f fs u h = w .1 f fs u h
 
     pub step-kept : (s : State A) (t : Token) → Steps i m j t → Kept i s → Kept j (step keep doc s t)
     unfolding step

@@ -16,17 +16,18 @@ use Rattle.utf8.specs.Encoding.{utf8}
 use Rattle.references.specs.Characters.{xmlChar}
 use Rattle.references.specs.Escape.{escape}
 use Rattle.references.specs.Unescape.{reference, piece, unescape}
-use Rattle.document.specs.Tags.{attribute, gather}
+use Rattle.document.specs.Tags.{attribute, gather, Shown}
 use Rattle.document.specs.Tokens.{opening, closing, next, tokens}
 use Rattle.document.specs.Rows.{rowWords, wordsFrom, texts, warned, Tables}
+use Rattle.document.specs.Refusals.{excerpt, nothing, bare, showing, showingBoth, faultIn}
+use Rattle.document.specs.declared.Refusal.{Refusal}
 use Rattle.document.specs.Elements.{kindOf, mayHold, opensAs}
 use Rattle.document.specs.Reading.{State, begun, reading, accepted, refused, begins, unsupported, docstringIn, step, run}
 use Rattle.document.specs.Whole.{meaning}
-use Rattle.document.specs.Tags.{Shown}
 
--- a refusal's number and place; or the words of rows, the text and the words of warnings
+-- a refusal; or the words of rows, the text and the words of warnings
 pub data Result : Type 0 where
-  turned : ℕ → ℕ → Result
+  turned : Refusal → Result
   tables : List ℕ → List ℕ → List ℕ → Result
   unended : Result
   written : List ℕ → Result
@@ -35,7 +36,7 @@ abbrev pub resultOf : State Shown → Result
 resultOf begun = unended
 resultOf (reading fs t) = unended
 resultOf (accepted t) = tables (wordsFrom 0 (t .rows)) (texts (t .rows)) (warned (t .warnings))
-resultOf (refused x) = turned (x .number) (x .place)
+resultOf (refused x) = turned x
 
 -- a document to read, or a value to escape
 pub data Given : Type 0 where
@@ -50,14 +51,22 @@ node = 1 ∷ replicate 15 0
 
 abbrev pub cases : List (Given × Result)
 cases =
-    (document (bytes ""), turned 3 0)
+    (document (bytes ""), turned (bare 3 0))
     ∷ (document (bytes "<x/>"), tables node [] [])
-    ∷ (document (bytes "<a>"), turned 5 3)
-    ∷ (document (bytes "<a></b>"), turned 6 7)
-    ∷ (document (bytes "</a>"), turned 4 1)
-    ∷ (document (bytes "<a b=c>"), turned 4 3)
-    ∷ (document (bytes "<a x=\"1\" x=\"&q;\"/>"), turned 8 9)
-    ∷ (document (bytes "<a x=\"&q;\" x=\"1\"/>"), turned 10 6)
+    ∷ (document (bytes "<a>"), turned (showing 5 3 (excerpt 1 (bytes "a"))))
+    ∷ (document (bytes "<a></b>"), turned (showingBoth 6 7 (excerpt 5 (bytes "b")) (excerpt 1 (bytes "a"))))
+    ∷ (
+      document (bytes "<a><node><node></node></x>"),
+      turned (showingBoth 6 26 (excerpt 24 (bytes "x")) (excerpt 4 (bytes "node"))),
+    )
+    ∷ (document (bytes "<a><x><y><z></z></x>"), turned (showingBoth 6 20 (excerpt 18 (bytes "x")) (excerpt 7 (bytes "y"))))
+    ∷ (document (bytes "<a><docstring><p>"), turned (showing 5 17 (excerpt 15 (bytes "p"))))
+    ∷ (document (bytes "</a>"), turned (bare 4 1))
+    ∷ (document (bytes "<a b=c>"), turned (bare 4 3))
+    ∷ (document (bytes "<a x=\"1\" x=\"&q;\"/>"), turned (showing 8 9 (excerpt 9 (bytes "x"))))
+    ∷ (document (bytes "<a x=\"&q;\" x=\"1\"/>"), turned (showing 10 6 (excerpt 6 (bytes "&q;"))))
+    ∷ (document (bytes "<a x=\"&#0; &q;\"/>"), turned (showing 11 6 (excerpt 6 (bytes "&#0;"))))
+    ∷ (document (bytes "<a><interface/></a>"), turned (record { place = 4; number = 12; key = 1; first = excerpt 4 (bytes "interface"); second = nothing }))
     ∷ (document (bytes "<a name=\"a" ++ (13 ∷ 10 ∷ bytes "b\"/>")), tables (1 ∷ 0 ∷ 2 ∷ 0 ∷ 3 ∷ replicate 11 0) (bytes "a b") [])
     ∷ (document (bytes "<a name=\"a&#10;b\"/>"), tables (1 ∷ 0 ∷ 2 ∷ 0 ∷ 3 ∷ replicate 11 0) (97 ∷ 10 ∷ 98 ∷ []) [])
     ∷ (document (bytes "<a name=\"&#X41;\"/>"), tables (1 ∷ 0 ∷ 2 ∷ 0 ∷ 1 ∷ replicate 11 0) (bytes "A") [])
@@ -70,5 +79,5 @@ cases =
     ∷ []
 
 pub worked : map (λ c. resultFor (c .0)) cases ≡ map (λ c. c .1) cases
-unfolding meaning escape illFormed sequence run step begins unsupported docstringIn opensAs kindOf mayHold tokens next opening closing gather attribute unescape piece reference xmlChar utf8 ignorable rowWords trimStart trimEnd characters interfaceName memberName signature
+unfolding meaning faultIn escape illFormed sequence run step begins unsupported docstringIn opensAs kindOf mayHold tokens next opening closing gather attribute unescape piece reference xmlChar utf8 ignorable rowWords trimStart trimEnd characters interfaceName memberName signature
 worked = refl

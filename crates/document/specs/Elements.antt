@@ -12,6 +12,7 @@ use Rattle.document.specs.Kinds as kinds
 use Rattle.document.specs.Tags.{Shown, lookup, tpType}
 use Rattle.document.specs.Tokens.{Tag}
 use Rattle.document.specs.Rows.{Row}
+use Rattle.document.specs.Refusals.{bare, showing, lacking, rawOf}
 use Rattle.document.specs.declared.Refusal.{Refusal}
 
 -- what follows the last colon (58)
@@ -73,10 +74,6 @@ someSignature s = not (empty s) && signature s
 abbrev pub attr : List ℕ → Tag → Option Shown
 attr key t = lookup key (t .attrs)
 
--- a refusal of a number at a place
-abbrev pub bare : ℕ → ℕ → Refusal
-bare n p = record { number = n; place = p }
-
 -- what a start tag comes to: its row, or a refusal
 pub data Opened (A : Type 0) : Type 0 where
   opens : Row A → Opened A
@@ -100,45 +97,45 @@ module _ {A : Type 0} (keep : Keeping A) where
   abbrev pub row : Tag → ℕ → ℕ → Option Shown → Option Shown → Option Shown → ℕ → Row A
   row t k p n v tp w = record { kind = k; parent = p; name = kept n; value = kept v; tp = kept tp; doc = none; word = w; at = keep .place (t .at) }
 
-  -- 12 at the element name if the attribute is missing
-  abbrev pub required : Option Shown → Tag → (Shown → Opened A) → Opened A
-  required none t f = refuses (bare 12 (suc (t .at)))
-  required (some s) t f = f s
+  -- the attribute of a key is there
+  abbrev pub required : ℕ → Option Shown → Tag → (Shown → Opened A) → Opened A
+  required k none t f = refuses (lacking k t)
+  required k (some s) t f = f s
 
-  abbrev pub valid : Bool → ℕ → ℕ → Opened A → Opened A
-  valid b n p r = if b r (refuses (bare n p))
+  abbrev pub valid : Bool → Refusal → Opened A → Opened A
+  valid b x r = if b r (refuses x)
 
   -- interface, method, signal: name there, name good (13 at the element name)
   abbrev pub namedRow : (List ℕ → Bool) → ℕ → ℕ → Tag → Opened A
   namedRow good k p t =
-      required (attr (bytes "name") t) t λ n. valid (good (n .value)) 13 (suc (t .at)) (opens (row t k p (some n) none none 0))
+      required 1 (attr (bytes "name") t) t λ n. valid (good (n .value)) (bare 13 (suc (t .at))) (opens (row t k p (some n) none none 0))
 
-  -- the same, then type there, signature good (14), access there, access good (15 after the tag)
+  -- the same, then type there, signature good (14), access there, access good (15 after the tag, showing the raw value)
   abbrev pub propertyRow : ℕ → Tag → Opened A
   propertyRow p t =
-      required (attr (bytes "name") t) t λ n.
-      valid (propertyName (n .value)) 13 (suc (t .at))
-      (required (attr (bytes "type") t) t λ s.
-      valid (signature (s .value)) 14 (suc (t .at))
-      (required (attr (bytes "access") t) t λ a.
-      valid (not (eqb (accessOf (a .value)) 0)) 15 (t .after)
+      required 1 (attr (bytes "name") t) t λ n.
+      valid (propertyName (n .value)) (bare 13 (suc (t .at)))
+      (required 2 (attr (bytes "type") t) t λ s.
+      valid (signature (s .value)) (bare 14 (suc (t .at)))
+      (required 3 (attr (bytes "access") t) t λ a.
+      valid (not (eqb (accessOf (a .value)) 0)) (showing 15 (t .after) (rawOf a))
       (opens (row t kinds.property p (some n) (some s) (tpType (t .attrs)) (accessOf (a .value))))))
 
   -- name, value
   abbrev pub annotationRow : ℕ → Tag → Opened A
   annotationRow p t =
-      required (attr (bytes "name") t) t λ n. required (attr (bytes "value") t) t λ v. opens (row t kinds.annotation p (some n) (some v) none 0)
+      required 1 (attr (bytes "name") t) t λ n. required 4 (attr (bytes "value") t) t λ v. opens (row t kinds.annotation p (some n) (some v) none 0)
 
-  -- a direction that is there is `in` or `out` (16 after the tag)
+  -- a direction that is there is `in` or `out` (16 after the tag, showing the raw value)
   abbrev pub directed : Option Shown → Tag → (ℕ → Opened A) → Opened A
   directed none t f = f 0
-  directed (some d) t f = valid (not (eqb (directionOf (d .value)) 0)) 16 (t .after) (f (directionOf (d .value)))
+  directed (some d) t f = valid (not (eqb (directionOf (d .value)) 0)) (showing 16 (t .after) (rawOf d)) (f (directionOf (d .value)))
 
   -- type, signature, direction
   abbrev pub argRow : ℕ → Tag → Opened A
   argRow p t =
-      required (attr (bytes "type") t) t λ s.
-      valid (signature (s .value)) 14 (suc (t .at))
+      required 2 (attr (bytes "type") t) t λ s.
+      valid (signature (s .value)) (bare 14 (suc (t .at)))
       (directed (attr (bytes "direction") t) t λ d. opens (row t kinds.arg p (attr (bytes "name") t) (some s) (tpType (t .attrs)) d))
 
   -- the row of an element of kind k

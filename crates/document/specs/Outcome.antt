@@ -17,9 +17,8 @@ use Rattle.document.specs.Tags.{Shown, lookup, tpType}
 use Rattle.document.specs.Tokens.{Tag, start, close, fault, end, more, last, next}
 use Rattle.document.specs.Rows.{Row, Warning, Tables, wordsFrom, texts, warned}
 use Rattle.document.specs.Elements.{kindOf, among, heldBy, opens, refuses, opensAs}
-pub use Rattle.document.specs.Elements.{whole}
 use Rattle.document.specs.Reading as reading
-use Rattle.document.specs.Reading.{Purpose, Frame, element, State, refused, nameOf, parentOf, closed, withRow, shut, started, child, noted, begins, unsupported, docstringIn, passing, run}
+use Rattle.document.specs.Reading.{Purpose, Frame, element, State, refused, nameOf, parentOf, closed, withRow, shut, started, child, noted, begins, unsupported, docstringIn, passing, run, Name}
 use Rattle.document.specs.declared.Value.{Value}
 use Rattle.document.specs.declared.Values.{Values}
 use Rattle.document.specs.declared.StartTag.{StartTag}
@@ -28,9 +27,14 @@ use Rattle.document.specs.declared.Answer.{Answer}
 use Rattle.document.specs.declared.Token.{Token}
 use Rattle.document.specs.declared.Next.{Next}
 use Rattle.document.specs.declared.Passed.{Passed}
+pub use Rattle.document.specs.Elements.{whole}
 
 abbrev pub runs : List ℕ → ℕ → State Shown → State Shown
 runs doc at s = run whole doc at s
+
+-- the name that stands at a place, with a length
+abbrev pub nameAt : List ℕ → ℕ → ℕ → Name
+nameAt doc at len = record { at = at; bytes = take len (drop at doc) }
 
 -- a value that is there: the attribute's raw value stands in the document, and shows its text
 pub record Held (doc : List ℕ) (v : Value) (s : Shown) : Type 0 where
@@ -218,7 +222,7 @@ pub record Others (doc : List ℕ) (c : StartTag) (i : ℕ) (f : Fill) (rows row
 pub record Child (doc : List ℕ) (hs : List ℕ) (docs : Bool) (c : StartTag) (i : ℕ) (f : Fill) (b b′ : Lent) (r : Answer) : Type 0 where
   pub onward : Onward doc f r
   pub ends :
-      (k : ℕ) (n : List ℕ) (t : Tag) (fs : List Frame) (u : Tables Shown) →
+      (k : ℕ) (n : Name) (t : Tag) (fs : List Frame) (u : Tables Shown) →
       heldBy k ≡ hs →
       not (eqb k kinds.annotation) ≡ docs →
       TagIs doc c t →
@@ -233,7 +237,7 @@ pub record Children (doc : List ℕ) (hs : List ℕ) (docs : Bool) (at len i : �
       heldBy k ≡ hs →
       not (eqb k kinds.annotation) ≡ docs →
       Stands u b f →
-      Ends doc (runs doc (f .at) (reading.reading (element k (take len (drop at doc)) i ∷ fs) u)) fs i (take i (u .rows)) b′ r
+      Ends doc (runs doc (f .at) (reading.reading (element k (nameAt doc at len) i ∷ fs) u)) fs i (take i (u .rows)) b′ r
 
 -- the next token from a place on
 abbrev pub OnwardToken : List ℕ → ℕ → Token → Type 0
@@ -268,18 +272,18 @@ Leads doc from f fs u (Next.Start c) =
 -- from a place on, in an element whose name stands at another, with a length
 pub record Steps (doc : List ℕ) (from at len : ℕ) (r : Next) : Type 0 where
   pub onward : OnwardNext doc from r
-  pub leads : (f : Frame) (fs : List Frame) (u : Tables Shown) → nameOf f ≡ take len (drop at doc) → Leads doc from f fs u r
+  pub leads : (f : Frame) (fs : List Frame) (u : Tables Shown) → nameOf f ≡ nameAt doc at len → Leads doc from f fs u r
 
 -- what passing over the rest of an element says, whatever for, when so many elements are open in what is passed over
 abbrev pub OnwardPassed : List ℕ → ℕ → Passed → Type 0
 OnwardPassed doc from (Passed.Fault x) = Unit {0}
 OnwardPassed doc from (Passed.Closed lt q) = (from ≤ lt) × (lt < q) × (q ≤ length doc) × (getD doc lt 0 ≡ 60)
 
-abbrev pub Passing : List ℕ → ℕ → Purpose → List (List ℕ) → List Frame → Tables Shown → Passed → Type 0
+abbrev pub Passing : List ℕ → ℕ → Purpose → List Name → List Frame → Tables Shown → Passed → Type 0
 Passing doc from p ns fs u (Passed.Fault x) = runs doc from (reading.reading (passing p ns ∷ fs) u) ≡ refused x
 Passing doc from p ns fs u (Passed.Closed lt q) =
     runs doc from (reading.reading (passing p ns ∷ fs) u) ≡ runs doc q (shut doc (passing p ns) fs u lt)
 
 pub record Passes (doc : List ℕ) (from at len depth : ℕ) (r : Passed) : Type 0 where
   pub onward : OnwardPassed doc from r
-  pub leads : (p : Purpose) (ns : List (List ℕ)) (fs : List Frame) (u : Tables Shown) → suc (length ns) ≡ depth → Passing doc from p (take len (drop at doc) ∷ ns) fs u r
+  pub leads : (p : Purpose) (ns : List Name) (fs : List Frame) (u : Tables Shown) → suc (length ns) ≡ depth → Passing doc from p (nameAt doc at len ∷ ns) fs u r

@@ -13,8 +13,22 @@ use Rattle.document.specs.Kinds as kinds
 use Rattle.document.specs.Tags.{Shown}
 use Rattle.document.specs.Tokens.{Tag, Token, start, close, fault, end, tokens}
 use Rattle.document.specs.Rows.{Doc, Row, Warning, Tables, documented}
-use Rattle.document.specs.Elements.{kindOf, mayHold, among, someSignature, attr, bare, Opened, opens, refuses, Keeping, opensAs}
+use Rattle.document.specs.Elements.{kindOf, mayHold, among, someSignature, attr, Opened, opens, refuses, Keeping, opensAs}
+use Rattle.document.specs.Refusals.{excerpt, bare, showing, showingBoth, faultIn}
+use Rattle.document.specs.declared.Excerpt.{Excerpt}
 use Rattle.document.specs.declared.Refusal.{Refusal}
+
+-- the name of an element that is open: its place in the start tag, and its bytes
+pub record Name : Type 0 where
+  pub at : ℕ
+  pub bytes : List ℕ
+
+abbrev pub tagName : Tag → Name
+tagName t = record { at = suc (t .at); bytes = t .name }
+
+-- the name as a message shows it
+abbrev pub nameShown : Name → Excerpt
+nameShown n = excerpt (n .at) (n .bytes)
 
 -- what was seen of a definition's enumvalues or members: how many, whether one is incomplete, whether the first one's type is basic
 pub record Parts : Type 0 where
@@ -22,11 +36,11 @@ pub record Parts : Type 0 where
   pub broken : Bool
   pub basic : Bool
 
--- a definition that is open: kind, place of `<`, name as in the tag, row, why its tag alone drops it (0: it does not), parts
+-- a definition that is open: kind, place of `<`, name in its start tag, row, why its tag alone drops it (0: it does not), parts
 pub record Definition : Type 0 where
   pub kind : ℕ
   pub at : ℕ
-  pub name : List ℕ
+  pub name : Name
   pub row : ℕ
   pub reason : ℕ
   pub parts : Parts
@@ -36,12 +50,12 @@ pub data Purpose : Type 0 where
   ignored : Purpose
   captures : ℕ → ℕ → Purpose
 
--- an open element: kind, name as in the tag, row; a definition; an element whose content is passed over, with the names of
+-- an open element: kind, name in its start tag, row; a definition; an element whose content is passed over, with the names of
 -- what is open in it, innermost first, itself the last
 pub data Frame : Type 0 where
-  element : ℕ → List ℕ → ℕ → Frame
+  element : ℕ → Name → ℕ → Frame
   definition : Definition → Frame
-  passing : Purpose → List (List ℕ) → Frame
+  passing : Purpose → List Name → Frame
 
 pub data State (A : Type 0) : Type 0 where
   begun : State A
@@ -49,12 +63,12 @@ pub data State (A : Type 0) : Type 0 where
   accepted : Tables A → State A
   refused : Refusal → State A
 
-abbrev pub innermost : List (List ℕ) → List ℕ
-innermost [] = []
+abbrev pub innermost : List Name → Name
+innermost [] = record { at = 0; bytes = [] }
 innermost (n ∷ ns) = n
 
--- the name that closes a frame
-abbrev pub nameOf : Frame → List ℕ
+-- the name of the innermost element of a frame, which closes it
+abbrev pub nameOf : Frame → Name
 nameOf (element k n r) = n
 nameOf (definition d) = d .name
 nameOf (passing p ns) = innermost ns
@@ -130,12 +144,12 @@ frameOf k t i =
     let d : Definition = record {
       kind = k;
       at = t .at;
-      name = t .name;
+      name = tagName t;
       row = i;
       reason = tagReason k (attr (bytes "name") t) (attr (bytes "type") t);
       parts = record { count = 0; broken = false; basic = false };
     } in
-    if (among k kinds.definitions) (definition d) (element k (t .name) i)
+    if (among k kinds.definitions) (definition d) (element k (tagName t) i)
 
 module _ {A : Type 0} where
   abbrev pub withRow : Row A → Tables A → Tables A
@@ -151,7 +165,7 @@ module _ {A : Type 0} where
 
   -- a definition that cannot be read whole is left out whole, with a warning after those of its content
   abbrev pub dropped : ℕ → Definition → Tables A → Tables A
-  dropped why d t = withWarning why (d .at) (d .name) (record { rows = take (d .row) (t .rows); warnings = t .warnings })
+  dropped why d t = withWarning why (d .at) (d .name .bytes) (record { rows = take (d .row) (t .rows); warnings = t .warnings })
 
   abbrev pub judged : Definition → Tables A → Tables A
   judged d t = let r = dropped (reasonOf d) d t in if (eqb (reasonOf d) 0) t r
@@ -167,7 +181,7 @@ module _ {A : Type 0} where
   passed doc ignored lt t = t
   passed doc (captures s i) lt t = captured (take (lt - s) (drop s doc)) s i t
 
-  abbrev pub innerClosed : List (List ℕ) → State A → (List (List ℕ) → State A) → State A
+  abbrev pub innerClosed : List Name → State A → (List Name → State A) → State A
   innerClosed [] r f = r
   innerClosed (n ∷ []) r f = r
   innerClosed (n ∷ m ∷ ns) r f = f (m ∷ ns)
@@ -203,11 +217,11 @@ module _ {A : Type 0} (keep : Keeping A) (doc : List ℕ) where
   unfoldable pub unsupported : Tag → List Frame → Tables A → State A
   unsupported t fs u =
       let w = withWarning 1 (t .at) (t .name) u in
-      let o = reading (passing ignored (t .name ∷ []) ∷ fs) w in
+      let o = reading (passing ignored (tagName t ∷ []) ∷ fs) w in
       if (t .self) (closed fs w) o
 
   unfoldable pub docstringIn : Tag → List Frame → ℕ → Tables A → State A
-  docstringIn t fs i u = let o = reading (passing (captures (t .after) i) (t .name ∷ []) ∷ fs) u in if (t .self) (closed fs u) o
+  docstringIn t fs i u = let o = reading (passing (captures (t .after) i) (tagName t ∷ []) ∷ fs) u in if (t .self) (closed fs u) o
 
   -- a start tag in an element of kind k with row i
   abbrev pub child : ℕ → ℕ → Tag → List Frame → Tables A → State A
@@ -219,9 +233,9 @@ module _ {A : Type 0} (keep : Keeping A) (doc : List ℕ) where
       if (eqb c kinds.docstring && not (eqb k kinds.annotation)) d (if (mayHold k c) b o)
 
   -- a start tag in content that is passed over: the 1,025th open element is too deep
-  abbrev pub inner : Purpose → List (List ℕ) → Tag → List Frame → Tables A → State A
+  abbrev pub inner : Purpose → List Name → Tag → List Frame → Tables A → State A
   inner p ns t fs u =
-      let o = reading (passing p (t .name ∷ ns) ∷ fs) u in
+      let o = reading (passing p (tagName t ∷ ns) ∷ fs) u in
       if (t .self) (reading (passing p ns ∷ fs) u) (if (leb 1024 (length ns)) (refused (bare 7 (t .after))) o)
 
   abbrev pub started : Frame → List Frame → Tables A → Tag → State A
@@ -229,18 +243,20 @@ module _ {A : Type 0} (keep : Keeping A) (doc : List ℕ) where
   started (definition d) fs u t = child (d .kind) (d .row) t (definition d ∷ fs) u
   started (passing p ns) fs u t = inner p ns t fs u
 
-  -- a token in an open element: 6 for another closing tag, 5 at the end
+  -- a token in an open element: 6 for another closing tag, whose name is shown, and the open element's; 5 at the end, with that name
   abbrev pub turn : Frame → List Frame → Tables A → Token → State A
   turn f fs u (start t) = started f fs u t
-  turn f fs u (close lt m q) = let r = shut doc f fs u lt in if (same m (nameOf f)) r (refused (bare 6 q))
-  turn f fs u (fault n p) = refused (bare n p)
-  turn f fs u (end p) = refused (bare 5 p)
+  turn f fs u (close lt m q) =
+      let r = shut doc f fs u lt in
+      if (same m (nameOf f .bytes)) r (refused (showingBoth 6 q (excerpt (suc (suc lt)) m) (nameShown (nameOf f))))
+  turn f fs u (fault n p) = refused (faultIn doc n p)
+  turn f fs u (end p) = refused (showing 5 p (nameShown (nameOf f)))
 
   -- before the root, which may have any tag
   abbrev pub root : Token → State A
   root (start t) = begins kinds.node t [] (record { rows = []; warnings = [] })
   root (close lt m q) = refused (bare 4 (suc lt))
-  root (fault n p) = refused (bare n p)
+  root (fault n p) = refused (faultIn doc n p)
   root (end p) = refused (bare 3 p)
 
   abbrev pub inside : List Frame → Tables A → Token → State A

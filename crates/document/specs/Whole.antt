@@ -10,7 +10,8 @@ use Rattle.slices.specs.Bytes.{if}
 use Rattle.utf8.specs.WellFormed.{illFormed}
 use Rattle.document.specs.Tags.{Shown}
 use Rattle.document.specs.Rows.{Tables, wordsFrom, texts, warned}
-use Rattle.document.specs.Elements.{bare, whole}
+use Rattle.document.specs.Refusals.{bare}
+use Rattle.document.specs.Elements.{whole}
 use Rattle.document.specs.Reading.{State, begun, reading, accepted, refused, run}
 use Rattle.document.specs.declared.Verdict.{Verdict}
 use Rattle.document.specs.declared.Verdict.the-variants.{Refused, Accepted}

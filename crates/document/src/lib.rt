@@ -1,13 +1,99 @@
 // The kinds of elements, the structs that the reader's functions share, and the raw bytes of a value. What a document means is in specs/.
 ghost use mathlib.Core.Path.{_≡_};
+ghost use Prim.Native.Nat.{_+_, _<_, _^_};
+ghost use Rattle.document.specs.Refusals.{bare, showing, shownBy};
+ghost use Rattle.document.specs.declared.Excerpt.{Excerpt};
 ghost use Rattle.document.specs.Outcome.{Lies, Raw, moved};
 
 pub mod kinds;
 
-// Why a document is refused: the place, and the number.
+// Bytes of the document, by their place and how many they are.
+pub struct Excerpt {
+    pub at: u32,
+    pub len: u32,
+}
+
+impl Excerpt {
+    // So many bytes at a place.
+    pub fn new(at: usize, len: usize) -> Excerpt
+        requires { ⌜ at + len < 2 ^ 32 ⌝ }
+        ensures { λ r. ⌜ r ≡ record { at = at; len = len } ⌝ }
+    {
+        Excerpt {
+            at: at as u32,
+            len: len as u32,
+        }
+    }
+}
+
+// Why a document is refused: the place, the number, and what the message shows: the key of a missing attribute, and up to two
+// excerpts.
 pub struct Refusal {
     pub place: usize,
     pub number: u32,
+    pub key: u32,
+    pub first: Excerpt,
+    pub second: Excerpt,
+}
+
+// Nothing is shown.
+pub const NOTHING: Excerpt = Excerpt { at: 0, len: 0 };
+
+// A refusal whose message shows nothing.
+pub fn bare(number: u32, place: usize) -> Refusal
+    ensures { λ r. ⌜ r ≡ bare number place ⌝ }
+{
+    Refusal {
+        place,
+        number,
+        key: 0,
+        first: NOTHING,
+        second: NOTHING,
+    }
+}
+
+// A refusal whose message shows one excerpt.
+pub fn showing(number: u32, place: usize, first: Excerpt) -> Refusal
+    ensures { λ r. ⌜ r ≡ showing number place first ⌝ }
+{
+    Refusal {
+        place,
+        number,
+        key: 0,
+        first,
+        second: NOTHING,
+    }
+}
+
+// How many excerpts the message of a number shows.
+pub fn shown_by(number: u32) -> u32
+    ensures { λ r. ⌜ r ≡ shownBy number ⌝ }
+{
+    if number == 6 {
+        return 2;
+    }
+    if number == 5 {
+        return 1;
+    }
+    if number == 8 {
+        return 1;
+    }
+    if number == 10 {
+        return 1;
+    }
+    if number == 11 {
+        return 1;
+    }
+    if number == 12 {
+        return 1;
+    }
+    if number == 15 {
+        return 1;
+    }
+    if number == 16 {
+        return 1;
+    }
+    0
 }
 
 // A refusal, or how many rows, text bytes and warnings were read.

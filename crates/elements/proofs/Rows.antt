@@ -1,6 +1,6 @@
 -- The row of each kind of element, from what its start tag has.
 -- Assumes nothing.
-use Prim.Native.Nat.{ℕ, suc, _+_, _*_, _≤_, _<_}
+use Prim.Native.Nat.{ℕ, suc, _+_, _*_, _≤_, _<_, _^_}
 use mathlib.Core.Path.{_≡_, refl, sym, _∙_, ap}
 use mathlib.Core.List.{List, [], _∷_}
 use mathlib.Core.Option.{Option, none, some}
@@ -17,18 +17,20 @@ use Rattle.document.specs.Kinds as kinds
 use Rattle.document.specs.Tags.{Shown, lookup, tpType}
 use Rattle.document.specs.Tokens.{Tag}
 use Rattle.document.specs.Rows.{Row, Tables}
-use Rattle.document.specs.Elements.{attr, accessOf, directionOf, directed, kept, row, bare, opens, refuses, opensAs, Opened}
+use Rattle.document.specs.Elements.{attr, accessOf, directionOf, directed, kept, row, opens, refuses, opensAs, Opened, required, valid}
+use Rattle.document.specs.Refusals.{nothing, bare, showing, lacking, rawOf}
 use Rattle.document.specs.Outcome.{lent, Held, Lies, ValueIs, ValueFits, Stands, Bounded, Ready, TagIs, Opening, whole}
 use Rattle.document.specs.declared.Value.{Value}
 use Rattle.document.specs.declared.StartTag.{StartTag}
 use Rattle.document.specs.declared.Fill.{Fill}
+use Rattle.document.specs.declared.Excerpt.{Excerpt}
 use Rattle.document.specs.declared.Refusal.{Refusal}
 use Rattle.document.specs.declared.Answer.{Answer}
 use Rattle.document.proofs.Presence.{value-absent, value-there}
 use Rattle.shown.specs.Outcome.{Tests}
 use Rattle.rows.specs.Outcome.{RowFits, RowPut}
 use Rattle.rows.specs.declared.Head.{Head}
-use Rattle.elements.specs.Outcome.{Absent, Accesses, accessWord, Directs, directionWord, PropertyNamed, NamedKind, TypedKind, UntypedKind}
+use Rattle.elements.specs.Outcome.{Absent, Accesses, accessWord, Directs, directionWord, PropertyNamed, NamedKind, TypedKind, UntypedKind, lackingAt}
 
 -- a value of a tag lies in the document, and so does one that is not there
 pub lies : {doc : List ℕ} {c : StartTag} {f : Fill} {v : Value} → Ready doc c f → ValueFits (c .at) (c .end) v → Lies doc v
@@ -163,28 +165,41 @@ module _ {doc : List ℕ} {c : StartTag} {f : Fill} (r : Ready doc c f) {p : ℕ
       (λ t z. (attr (bytes "name") t, attr (bytes "type") t, tpType (t .attrs), refl, z .values .name, z .values .ty, z .values .tp))
 
 -- faults, at the element name
+lacks-tag : {doc : List ℕ} {c : StartTag} {t : Tag} {k : ℕ} → TagIs doc c t → lacking k t ≡ lackingAt k (c .at) (c .len)
+lacks-tag z = rw (z .at, z .named .len)
+
+pub lacking-is : {key at len : ℕ} {e : Excerpt} → e ≡ record { at = at; len = len } → _≡_ {A = Refusal} (record { place = at; number = 12; key = key; first = e; second = nothing }) (lackingAt key at len)
+lacking-is h = rw h
+
+pub tag-small : {doc : List ℕ} {c : StartTag} {f : Fill} → Ready doc c f → c .at + c .len < 2 ^ 32
+tag-small r = omega (arith, r .fits .inside, r .fits .within, r .sound .small)
+
+-- after the tag, the raw value
+shown-after : {doc : List ℕ} {c : StartTag} {t : Tag} {v : Value} {s : Shown} (n : ℕ) → TagIs doc c t → Held doc v s → showing n (t .after) (rawOf s) ≡ showing n (c .end) (record { at = v .at; len = v .len })
+shown-after n z h = rw (z .end, h .at, h .len)
+
 module _ {doc : List ℕ} {c : StartTag} {f : Fill} (r : Ready doc c f) {p : ℕ} {rows text : List ℕ} where
-  pub named-missing : {k : ℕ} {good : List ℕ → Bool} → NamedKind good k → c .values .name .kind ≡ 0 → Opening doc k c p f rows rows text text (Answer.Fault (bare 12 (c .at)))
-  named-missing i e = refused r (λ t z. i .is p t ∙ rw (missing doc (bytes "name") t (c .values .name) (z .values .name) e) (ap (λ q. refuses (bare 12 q)) (sym (z .at))))
+  pub named-missing : {k : ℕ} {good : List ℕ → Bool} {x : Refusal} → NamedKind good k → c .values .name .kind ≡ 0 → x ≡ lackingAt 1 (c .at) (c .len) → Opening doc k c p f rows rows text text (Answer.Fault x)
+  named-missing i e q = refused r (λ t z. i .is p t ∙ rw (missing doc (bytes "name") t (c .values .name) (z .values .name) e) (ap refuses (lacks-tag z ∙ sym q)))
 
-  pub named-bad : {k : ℕ} {good : List ℕ → Bool} {ok : Bool} → NamedKind good k → (c .values .name .kind ≡ 0 → ⊥) → Tests good doc (c .values .name) ok → ok ≡ false → Opening doc k c p f rows rows text text (Answer.Fault (bare 13 (c .at)))
-  named-bad i n o e =
+  pub named-bad : {k : ℕ} {good : List ℕ → Bool} {ok : Bool} {x : Refusal} → NamedKind good k → (c .values .name .kind ≡ 0 → ⊥) → Tests good doc (c .values .name) ok → ok ≡ false → x ≡ bare 13 (c .at) → Opening doc k c p f rows rows text text (Answer.Fault x)
+  named-bad i n o e q =
       refused r
       (λ t z.
       let s = there doc (bytes "name") t (z .values .name) n in
-      i .is p t ∙ rw (s .1, sym (o .is (s .0) (s .2)) ∙ e) (ap (λ q. refuses (bare 13 q)) (sym (z .at))))
+      i .is p t ∙ rw (s .1, sym (o .is (s .0) (s .2)) ∙ e) (ap refuses (ap (bare 13) (sym (z .at)) ∙ sym q)))
 
-  pub annotation-unnamed : c .values .name .kind ≡ 0 → Opening doc kinds.annotation c p f rows rows text text (Answer.Fault (bare 12 (c .at)))
+  pub annotation-unnamed : {x : Refusal} → c .values .name .kind ≡ 0 → x ≡ lackingAt 1 (c .at) (c .len) → Opening doc kinds.annotation c p f rows rows text text (Answer.Fault x)
   unfolding opensAs
-  annotation-unnamed e = refused r (λ t z. rw (missing doc (bytes "name") t (c .values .name) (z .values .name) e) (ap (λ q. refuses (bare 12 q)) (sym (z .at))))
+  annotation-unnamed e q = refused r (λ t z. rw (missing doc (bytes "name") t (c .values .name) (z .values .name) e) (ap refuses (lacks-tag z ∙ sym q)))
 
-  pub annotation-unvalued : (c .values .name .kind ≡ 0 → ⊥) → c .values .value .kind ≡ 0 → Opening doc kinds.annotation c p f rows rows text text (Answer.Fault (bare 12 (c .at)))
+  pub annotation-unvalued : {x : Refusal} → (c .values .name .kind ≡ 0 → ⊥) → c .values .value .kind ≡ 0 → x ≡ lackingAt 4 (c .at) (c .len) → Opening doc kinds.annotation c p f rows rows text text (Answer.Fault x)
   unfolding opensAs
-  annotation-unvalued n e =
+  annotation-unvalued n e q =
       refused r
       (λ t z.
       let s = there doc (bytes "name") t (z .values .name) n in
-      rw (s .1, missing doc (bytes "value") t (c .values .value) (z .values .value) e) (ap (λ q. refuses (bare 12 q)) (sym (z .at))))
+      rw (s .1, missing doc (bytes "value") t (c .values .value) (z .values .value) e) (ap refuses (lacks-tag z ∙ sym q)))
 
 pub lies-name : {doc : List ℕ} {c : StartTag} {f : Fill} → Ready doc c f → Lies doc (c .values .name)
 lies-name r = lies r (r .fits .values .name)
@@ -195,9 +210,6 @@ not-four false true c e = omega arith
 not-four false false true e = omega arith
 not-four false false false e = omega arith
 
-four : (w : ℕ) → w ≡ 4 → w ≡ 0 → ⊥
-four w a b = omega arith
-
 access-missing : (o : Option Shown) → accessWord o ≡ 4 → o ≡ none
 access-missing none e = refl
 access-missing (some s) e = absurd (not-four (same (s .value) (bytes "read")) (same (s .value) (bytes "write")) (same (s .value) (bytes "readwrite")) e)
@@ -205,6 +217,10 @@ access-missing (some s) e = absurd (not-four (same (s .value) (bytes "read")) (s
 access-there : (o : Option Shown) → (accessWord o ≡ 4 → ⊥) → (s : Shown) × (o ≡ some s) × (accessWord o ≡ accessOf (s .value))
 access-there none e = absurd (e refl)
 access-there (some s) e = (s, refl, refl)
+
+access-bad : {doc : List ℕ} {c : StartTag} {t : Tag} (v : Value) → TagIs doc c t → (o : Option Shown) → ValueIs doc v o → (k : Shown → Opened Shown) → accessWord o ≡ 0 → required whole 3 o t (λ a. valid whole (not (eqb (accessOf (a .value)) 0)) (showing 15 (t .after) (rawOf a)) (k a)) ≡ refuses (showing 15 (c .end) (record { at = v .at; len = v .len }))
+access-bad v z none h k e = absurd (omega arith)
+access-bad v z (some s) h k e = rw e (ap refuses (shown-after 15 z h))
 
 pub accesses-none : {doc : List ℕ} {v : Value} → v .kind ≡ 0 → Accesses doc v 4
 accesses-none {doc} {v} e = record { is = λ o h. rw (value-absent doc v o h e) }
@@ -215,60 +231,59 @@ accesses {doc} {v} n l = record { is = λ o h. let s = value-there doc v o h n i
 -- property: the tests in a row
 module _ {doc : List ℕ} {c : StartTag} {f : Fill} (r : Ready doc c f) {p : ℕ} where
   module _ {rows text : List ℕ} where
-    pub property-unnamed : c .values .name .kind ≡ 0 → Opening doc kinds.property c p f rows rows text text (Answer.Fault (bare 12 (c .at)))
+    pub property-unnamed : {x : Refusal} → c .values .name .kind ≡ 0 → x ≡ lackingAt 1 (c .at) (c .len) → Opening doc kinds.property c p f rows rows text text (Answer.Fault x)
     unfolding opensAs
-    property-unnamed e = refused r (λ t z. rw (missing doc (bytes "name") t (c .values .name) (z .values .name) e) (ap (λ q. refuses (bare 12 q)) (sym (z .at))))
+    property-unnamed e q = refused r (λ t z. rw (missing doc (bytes "name") t (c .values .name) (z .values .name) e) (ap refuses (lacks-tag z ∙ sym q)))
 
   module _ (n : c .values .name .kind ≡ 0 → ⊥) {o : Bool} (i : Tests propertyName doc (c .values .name) o) where
-    pub property-bad : {rows text : List ℕ} → not o ≡ true → Opening doc kinds.property c p f rows rows text text (Answer.Fault (bare 13 (c .at)))
+    pub property-bad : {rows text : List ℕ} {x : Refusal} → not o ≡ true → x ≡ bare 13 (c .at) → Opening doc kinds.property c p f rows rows text text (Answer.Fault x)
     unfolding opensAs
-    property-bad e =
+    property-bad e q =
         refused r
         (λ t z.
         let s = there doc (bytes "name") t (z .values .name) n in
-        rw (s .1, sym (i .is (s .0) (s .2)) ∙ not-true o e) (ap (λ q. refuses (bare 13 q)) (sym (z .at))))
+        rw (s .1, sym (i .is (s .0) (s .2)) ∙ not-true o e) (ap refuses (ap (bare 13) (sym (z .at)) ∙ sym q)))
 
   module _ (h : PropertyNamed doc c) where
-    pub property-untyped : {rows text : List ℕ} → c .values .ty .kind ≡ 0 → Opening doc kinds.property c p f rows rows text text (Answer.Fault (bare 12 (c .at)))
+    pub property-untyped : {rows text : List ℕ} {x : Refusal} → c .values .ty .kind ≡ 0 → x ≡ lackingAt 2 (c .at) (c .len) → Opening doc kinds.property c p f rows rows text text (Answer.Fault x)
     unfolding opensAs
-    property-untyped e =
+    property-untyped e q =
         refused r
         (λ t z.
         let s = h .is t z in
-        rw (s .1, s .3, missing doc (bytes "type") t (c .values .ty) (z .values .ty) e) (ap (λ q. refuses (bare 12 q)) (sym (z .at))))
+        rw (s .1, s .3, missing doc (bytes "type") t (c .values .ty) (z .values .ty) e) (ap refuses (lacks-tag z ∙ sym q)))
 
     module _ (m : c .values .ty .kind ≡ 0 → ⊥) {y : Bool} (j : Tests signature doc (c .values .ty) y) where
-      pub property-unsigned : {rows text : List ℕ} → not y ≡ true → Opening doc kinds.property c p f rows rows text text (Answer.Fault (bare 14 (c .at)))
+      pub property-unsigned : {rows text : List ℕ} {x : Refusal} → not y ≡ true → x ≡ bare 14 (c .at) → Opening doc kinds.property c p f rows rows text text (Answer.Fault x)
       unfolding opensAs
-      property-unsigned e =
+      property-unsigned e q =
           refused r
           (λ t z.
           let s = h .is t z in
           let w = there doc (bytes "type") t (z .values .ty) m in
-          rw (s .1, s .3, w .1, sym (j .is (w .0) (w .2)) ∙ not-true y e) (ap (λ q. refuses (bare 14 q)) (sym (z .at))))
+          rw (s .1, s .3, w .1, sym (j .is (w .0) (w .2)) ∙ not-true y e) (ap refuses (ap (bare 14) (sym (z .at)) ∙ sym q)))
 
       module _ (x : not y ≡ false) where
         module _ {word : ℕ} (l : Accesses doc (c .values .access) word) where
-          pub property-unaccessed : {rows text : List ℕ} → word ≡ 4 → Opening doc kinds.property c p f rows rows text text (Answer.Fault (bare 12 (c .at)))
+          pub property-unaccessed : {rows text : List ℕ} {x : Refusal} → word ≡ 4 → x ≡ lackingAt 3 (c .at) (c .len) → Opening doc kinds.property c p f rows rows text text (Answer.Fault x)
           unfolding opensAs
-          property-unaccessed e =
+          property-unaccessed e q =
               refused r
               (λ t z.
               let s = h .is t z in
               let w = there doc (bytes "type") t (z .values .ty) m in
               rw (s .1, s .3, w .1, sym (j .is (w .0) (w .2)) ∙ not-false y x, access-missing (attr (bytes "access") t) (sym (l .is (attr (bytes "access") t) (z .values .access)) ∙ e))
-              (ap (λ q. refuses (bare 12 q)) (sym (z .at))))
+              (ap refuses (lacks-tag z ∙ sym q)))
 
-          pub property-inaccessible : {rows text : List ℕ} → word ≡ 0 → Opening doc kinds.property c p f rows rows text text (Answer.Fault (bare 15 (c .end)))
+          pub property-inaccessible : {rows text : List ℕ} {x : Refusal} → word ≡ 0 → x ≡ showing 15 (c .end) (record { at = c .values .access .at; len = c .values .access .len }) → Opening doc kinds.property c p f rows rows text text (Answer.Fault x)
           unfolding opensAs
-          property-inaccessible e =
+          property-inaccessible e q =
               refused r
               (λ t z.
               let s = h .is t z in
               let w = there doc (bytes "type") t (z .values .ty) m in
-              let v = access-there (attr (bytes "access") t) (λ i. four word (l .is (attr (bytes "access") t) (z .values .access) ∙ i) e) in
-              rw (s .1, s .3, w .1, sym (j .is (w .0) (w .2)) ∙ not-false y x, v .1, ← v .2, ← l .is (attr (bytes "access") t) (z .values .access), e)
-              (ap (λ q. refuses (bare 15 q)) (sym (z .end))))
+              rw (s .1, s .3, w .1, sym (j .is (w .0) (w .2)) ∙ not-false y x)
+              (access-bad (c .values .access) z (attr (bytes "access") t) (z .values .access) _ (sym (l .is (attr (bytes "access") t) (z .values .access)) ∙ e) ∙ ap refuses (sym q)))
 
           pub property-done : {rows rows′ text text′ : List ℕ} {g : Fill} → (word ≡ 4 → ⊥) → (word ≡ 0 → ⊥) → RowPut doc (record { kind = kinds.property; parent = p; word = word; at = c .at }) (c .values .name) (c .values .ty) (c .values .tp) f rows rows′ text text′ g → Opening doc kinds.property c p f rows rows′ text text′ (Answer.Done g)
           unfolding opensAs
@@ -311,13 +326,13 @@ not-three true b e = omega arith
 not-three false true e = omega arith
 not-three false false e = omega arith
 
-direction-bad : (t : Tag) (o : Option Shown) (k : ℕ → Opened Shown) → directionWord o ≡ 3 → directed whole o t k ≡ refuses (bare 16 (t .after))
-direction-bad t none k e = absurd (omega arith)
-direction-bad t (some s) k e = go (eqb (directionOf (s .value)) 0) refl e
+direction-bad : {doc : List ℕ} {c : StartTag} {t : Tag} (v : Value) → TagIs doc c t → (o : Option Shown) → ValueIs doc v o → (k : ℕ → Opened Shown) → directionWord o ≡ 3 → directed whole o t k ≡ refuses (showing 16 (c .end) (record { at = v .at; len = v .len }))
+direction-bad v z none h k e = absurd (omega arith)
+direction-bad {doc} {c} {t} v z (some s) h k e = go (eqb (directionOf (s .value)) 0) refl e
   where
-    go : (b : Bool) → eqb (directionOf (s .value)) 0 ≡ b → if b 3 (directionOf (s .value)) ≡ 3 → directed whole (some s) t k ≡ refuses (bare 16 (t .after))
-    go true h e = rw h
-    go false h e = absurd (not-three (same (s .value) (bytes "in")) (same (s .value) (bytes "out")) e)
+    go : (b : Bool) → eqb (directionOf (s .value)) 0 ≡ b → if b 3 (directionOf (s .value)) ≡ 3 → directed whole (some s) t k ≡ refuses (showing 16 (c .end) (record { at = v .at; len = v .len }))
+    go true i e = rw i (ap refuses (shown-after 16 z h))
+    go false i e = absurd (not-three (same (s .value) (bytes "in")) (same (s .value) (bytes "out")) e)
 
 direction-good : (t : Tag) (o : Option Shown) (k : ℕ → Opened Shown) → (directionWord o ≡ 3 → ⊥) → directed whole o t k ≡ k (directionWord o)
 direction-good t none k e = refl
@@ -328,18 +343,18 @@ direction-good t (some s) k e = go (eqb (directionOf (s .value)) 0) refl e
     go false h e = rw h
 
 module _ {doc : List ℕ} {c : StartTag} {f : Fill} (r : Ready doc c f) where
-  pub arg-untyped : {p : ℕ} {rows text : List ℕ} → c .values .ty .kind ≡ 0 → Opening doc kinds.arg c p f rows rows text text (Answer.Fault (bare 12 (c .at)))
+  pub arg-untyped : {p : ℕ} {rows text : List ℕ} {x : Refusal} → c .values .ty .kind ≡ 0 → x ≡ lackingAt 2 (c .at) (c .len) → Opening doc kinds.arg c p f rows rows text text (Answer.Fault x)
   unfolding opensAs
-  arg-untyped e = refused r (λ t z. rw (missing doc (bytes "type") t (c .values .ty) (z .values .ty) e) (ap (λ q. refuses (bare 12 q)) (sym (z .at))))
+  arg-untyped e q = refused r (λ t z. rw (missing doc (bytes "type") t (c .values .ty) (z .values .ty) e) (ap refuses (lacks-tag z ∙ sym q)))
 
   module _ (m : c .values .ty .kind ≡ 0 → ⊥) {y : Bool} (j : Tests signature doc (c .values .ty) y) where
-    pub arg-unsigned : {p : ℕ} {rows text : List ℕ} → not y ≡ true → Opening doc kinds.arg c p f rows rows text text (Answer.Fault (bare 14 (c .at)))
+    pub arg-unsigned : {p : ℕ} {rows text : List ℕ} {x : Refusal} → not y ≡ true → x ≡ bare 14 (c .at) → Opening doc kinds.arg c p f rows rows text text (Answer.Fault x)
     unfolding opensAs
-    arg-unsigned e =
+    arg-unsigned e q =
         refused r
         (λ t z.
         let w = there doc (bytes "type") t (z .values .ty) m in
-        rw (w .1, sym (j .is (w .0) (w .2)) ∙ not-true y e) (ap (λ q. refuses (bare 14 q)) (sym (z .at))))
+        rw (w .1, sym (j .is (w .0) (w .2)) ∙ not-true y e) (ap refuses (ap (bare 14) (sym (z .at)) ∙ sym q)))
 
     module _ (x : not y ≡ false) {word : ℕ} (l : Directs doc (c .values .direction) word) where
       typed : (p : ℕ) (t : Tag) → TagIs doc c t → (w : Shown) × Held doc (c .values .ty) w × (opensAs whole kinds.arg p t ≡ directed whole (attr (bytes "direction") t) t (λ d. opens (row whole t kinds.arg p (attr (bytes "name") t) (some w) (tpType (t .attrs)) d)))
@@ -348,13 +363,13 @@ module _ {doc : List ℕ} {c : StartTag} {f : Fill} (r : Ready doc c f) where
           let w = there doc (bytes "type") t (z .values .ty) m in
           (w .0, w .2, rw (w .1, sym (j .is (w .0) (w .2)) ∙ not-false y x))
 
-      pub arg-undirected : {p : ℕ} {rows text : List ℕ} → word ≡ 3 → Opening doc kinds.arg c p f rows rows text text (Answer.Fault (bare 16 (c .end)))
-      arg-undirected {p} e =
+      pub arg-undirected : {p : ℕ} {rows text : List ℕ} {x : Refusal} → word ≡ 3 → x ≡ showing 16 (c .end) (record { at = c .values .direction .at; len = c .values .direction .len }) → Opening doc kinds.arg c p f rows rows text text (Answer.Fault x)
+      arg-undirected {p} e q =
           refused r
           (λ t z.
           typed p t z .2
-          ∙ direction-bad t (attr (bytes "direction") t) (λ d. opens (row whole t kinds.arg p (attr (bytes "name") t) (some (typed p t z .0)) (tpType (t .attrs)) d)) (sym (l .is (attr (bytes "direction") t) (z .values .direction)) ∙ e)
-          ∙ ap (λ q. refuses (bare 16 q)) (sym (z .end)))
+          ∙ direction-bad (c .values .direction) z (attr (bytes "direction") t) (z .values .direction) (λ d. opens (row whole t kinds.arg p (attr (bytes "name") t) (some (typed p t z .0)) (tpType (t .attrs)) d)) (sym (l .is (attr (bytes "direction") t) (z .values .direction)) ∙ e)
+          ∙ ap refuses (sym q))
 
       pub arg-done : {p : ℕ} {rows rows′ text text′ : List ℕ} {g : Fill} → (word ≡ 3 → ⊥) → RowPut doc (record { kind = kinds.arg; parent = p; word = word; at = c .at }) (c .values .name) (c .values .ty) (c .values .tp) f rows rows′ text text′ g → Opening doc kinds.arg c p f rows rows′ text text′ (Answer.Done g)
       arg-done {p} e q =
@@ -384,8 +399,8 @@ lies-access r = lies r (r .fits .values .access)
 pub lies-direction : {doc : List ℕ} {c : StartTag} {f : Fill} → Ready doc c f → Lies doc (c .values .direction)
 lies-direction r = lies r (r .fits .values .direction)
 
-pub ruleset properties = (lies-name, lies-ty, lies-access, typed-fits, property-unnamed, property-bad, property-untyped, property-unsigned, property-unaccessed, property-inaccessible, property-done, property-named, accesses-none, accesses, needs)
+pub ruleset properties = (tag-small, lies-name, lies-ty, lies-access, typed-fits, property-unnamed, property-bad, property-untyped, property-unsigned, property-unaccessed, property-inaccessible, property-done, property-named, accesses-none, accesses, needs)
 
-pub ruleset args = (lies-ty, lies-direction, typed-fits, directs-none, directs-bad, directs, arg-untyped, arg-unsigned, arg-undirected, arg-done, needs)
+pub ruleset args = (tag-small, lies-ty, lies-direction, typed-fits, directs-none, directs-bad, directs, arg-untyped, arg-unsigned, arg-undirected, arg-done, needs)
 
-pub ruleset elements = (lies-name, interface-kind, row-fits, absent-fits, node-done, untyped-done, named-done, typed-done, enumvalue-done, annotation-done, member-done, named-missing, named-bad, annotation-unnamed, annotation-unvalued, needs)
+pub ruleset elements = (lacking-is, tag-small, lies-name, interface-kind, row-fits, absent-fits, node-done, untyped-done, named-done, typed-done, enumvalue-done, annotation-done, member-done, named-missing, named-bad, annotation-unnamed, annotation-unvalued, needs)

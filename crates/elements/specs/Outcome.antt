@@ -11,7 +11,9 @@ use Rattle.names.specs.Names.{propertyName}
 use Rattle.document.specs.Tags.{Shown}
 use Rattle.document.specs.Tokens.{Tag}
 use Rattle.document.specs.Elements.{attr, accessOf, directionOf, row, opens, namedRow, opensAs}
+use Rattle.document.specs.Refusals.{nothing}
 use Rattle.document.specs.Outcome.{Held, ValueIs, TagIs, whole}
+use Rattle.document.specs.declared.Refusal.{Refusal}
 use Rattle.document.specs.declared.Value.{Value}
 use Rattle.document.specs.declared.StartTag.{StartTag}
 
@@ -19,6 +21,10 @@ pub record Absent (v : Value) : Type 0 where
   pub at : v .at ≡ 0
   pub len : v .len ≡ 0
   pub kind : v .kind ≡ 0
+
+-- 12 of a tag whose name stands at a place, with a length: the attribute of a key is missing
+abbrev pub lackingAt : ℕ → ℕ → ℕ → Refusal
+lackingAt key at len = record { place = at; number = 12; key = key; first = record { at = at; len = len }; second = nothing }
 
 -- interface, method and signal: name there, name good
 pub record NamedKind (good : List ℕ → Bool) (k : ℕ) : Type 0 where

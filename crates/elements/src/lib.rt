@@ -1,5 +1,6 @@
 // What a start tag needs: the row of each kind of element, or the tag's first fault.
 use document::Answer;
+use document::Excerpt;
 use document::Fill;
 use document::Refusal;
 use document::StartTag;
@@ -7,11 +8,11 @@ use document::Value;
 use document::kinds;
 use rows::Head;
 ghost use mathlib.Core.Path.{_≡_};
-ghost use Prim.Native.Nat.{_≤_, _<_};
+ghost use Prim.Native.Nat.{_≤_, _<_, _+_, _^_};
 ghost use Rattle.names.specs.Names.{memberName};
 ghost use Rattle.document.specs.Kinds as kinds;
 ghost use Rattle.document.specs.Outcome.{Lies, Ready, Opening};
-ghost use Rattle.elements.specs.Outcome.{Absent, Accesses, Directs, PropertyNamed, NamedKind, TypedKind, UntypedKind};
+ghost use Rattle.elements.specs.Outcome.{Absent, Accesses, Directs, PropertyNamed, NamedKind, TypedKind, UntypedKind, lackingAt};
 
 // A value that is not there.
 pub fn absent() -> Value
@@ -21,6 +22,20 @@ pub fn absent() -> Value
         at: 0,
         len: 0,
         kind: 0,
+    }
+}
+
+// 12 of a tag whose name stands at a place, with a length: the attribute of a key is missing, 1 name, 2 type, 3 access, 4 value.
+fn lacking(key: u32, at: usize, len: usize) -> Refusal
+    requires { ⌜ at + len < 2 ^ 32 ⌝ }
+    ensures { λ r. ⌜ r ≡ lackingAt key at len ⌝ }
+{
+    Refusal {
+        place: at,
+        number: 12,
+        key,
+        first: Excerpt::new(at, len),
+        second: document::NOTHING,
     }
 }
 
@@ -59,10 +74,7 @@ pub fn interface_row(
 {
     let name = c.values.name;
     if name.kind == 0 {
-        return Answer::Fault(Refusal {
-            number: 12,
-            place: c.at,
-        });
+        return Answer::Fault(lacking(1, c.at, c.len));
     }
     if shown::interface_name(doc, name) {
         let head = Head {
@@ -73,10 +85,7 @@ pub fn interface_row(
         };
         return Answer::Done(rows::put_row(doc, rows, text, head, name, absent(), absent(), f));
     }
-    Answer::Fault(Refusal {
-        number: 13,
-        place: c.at,
-    })
+    Answer::Fault(document::bare(13, c.at))
 }
 
 // A method or a signal: name there, name good.
@@ -94,10 +103,7 @@ pub fn callable_row(
 {
     let name = c.values.name;
     if name.kind == 0 {
-        return Answer::Fault(Refusal {
-            number: 12,
-            place: c.at,
-        });
+        return Answer::Fault(lacking(1, c.at, c.len));
     }
     if shown::member_name(doc, name) {
         let head = Head {
@@ -108,10 +114,7 @@ pub fn callable_row(
         };
         return Answer::Done(rows::put_row(doc, rows, text, head, name, absent(), absent(), f));
     }
-    Answer::Fault(Refusal {
-        number: 13,
-        place: c.at,
-    })
+    Answer::Fault(document::bare(13, c.at))
 }
 
 // An annotation: name, value.
@@ -129,16 +132,10 @@ pub fn annotation_row(
     let name = c.values.name;
     let value = c.values.value;
     if name.kind == 0 {
-        return Answer::Fault(Refusal {
-            number: 12,
-            place: c.at,
-        });
+        return Answer::Fault(lacking(1, c.at, c.len));
     }
     if value.kind == 0 {
-        return Answer::Fault(Refusal {
-            number: 12,
-            place: c.at,
-        });
+        return Answer::Fault(lacking(4, c.at, c.len));
     }
     let head = Head {
         kind: kinds::ANNOTATION,
@@ -276,16 +273,10 @@ pub fn property_row(
 {
     let v = c.values;
     if v.name.kind == 0 {
-        return Answer::Fault(Refusal {
-            number: 12,
-            place: c.at,
-        });
+        return Answer::Fault(lacking(1, c.at, c.len));
     }
     if !shown::property_name(doc, v.name) {
-        return Answer::Fault(Refusal {
-            number: 13,
-            place: c.at,
-        });
+        return Answer::Fault(document::bare(13, c.at));
     }
     accessed_row(doc, rows, text, c, parent, f)
 }
@@ -304,29 +295,21 @@ fn accessed_row(
 {
     let v = c.values;
     if v.ty.kind == 0 {
-        return Answer::Fault(Refusal {
-            number: 12,
-            place: c.at,
-        });
+        return Answer::Fault(lacking(2, c.at, c.len));
     }
     if !shown::signature(doc, v.ty) {
-        return Answer::Fault(Refusal {
-            number: 14,
-            place: c.at,
-        });
+        return Answer::Fault(document::bare(14, c.at));
     }
     let word = access_word(doc, v.access);
     if word == 4 {
-        return Answer::Fault(Refusal {
-            number: 12,
-            place: c.at,
-        });
+        return Answer::Fault(lacking(3, c.at, c.len));
     }
     if word == 0 {
-        return Answer::Fault(Refusal {
-            number: 15,
-            place: c.end,
-        });
+        let first = Excerpt {
+            at: v.access.at,
+            len: v.access.len,
+        };
+        return Answer::Fault(document::showing(15, c.end, first));
     }
     let head = Head {
         kind: kinds::PROPERTY,
@@ -377,23 +360,18 @@ pub fn arg_row(
 {
     let v = c.values;
     if v.ty.kind == 0 {
-        return Answer::Fault(Refusal {
-            number: 12,
-            place: c.at,
-        });
+        return Answer::Fault(lacking(2, c.at, c.len));
     }
     if !shown::signature(doc, v.ty) {
-        return Answer::Fault(Refusal {
-            number: 14,
-            place: c.at,
-        });
+        return Answer::Fault(document::bare(14, c.at));
     }
     let word = direction_word(doc, v.direction);
     if word == 3 {
-        return Answer::Fault(Refusal {
-            number: 16,
-            place: c.end,
-        });
+        let first = Excerpt {
+            at: v.direction.at,
+            len: v.direction.len,
+        };
+        return Answer::Fault(document::showing(16, c.end, first));
     }
     let head = Head {
         kind: kinds::ARG,

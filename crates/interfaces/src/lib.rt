@@ -1,5 +1,6 @@
 // Interfaces: the children of one, and which of them are definitions.
 use document::Answer;
+use document::Excerpt;
 use document::Fill;
 use document::Next;
 use document::Refusal;
@@ -70,6 +71,15 @@ fn interface_child(
                 return Answer::Fault(Refusal {
                     place: refusal.place,
                     number: refusal.number,
+                    key: refusal.key,
+                    first: Excerpt {
+                        at: refusal.first.at,
+                        len: refusal.first.len,
+                    },
+                    second: Excerpt {
+                        at: refusal.second.at,
+                        len: refusal.second.len,
+                    },
                 });
             }
             Answer::Done(g) => {
@@ -130,6 +140,15 @@ fn interface_children(
                         return Answer::Fault(Refusal {
                             place: refusal.place,
                             number: refusal.number,
+                            key: refusal.key,
+                            first: Excerpt {
+                                at: refusal.first.at,
+                                len: refusal.first.len,
+                            },
+                            second: Excerpt {
+                                at: refusal.second.at,
+                                len: refusal.second.len,
+                            },
                         });
                     }
                     Answer::Done(k) => {

@@ -5,30 +5,38 @@ use mathlib.Core.Path.{_≡_, refl, ap, _∙_}
 use mathlib.Core.List.{List, [], _∷_}
 use mathlib.Core.Bool.{Bool}
 use borrow.Author.Needs.{needs}
+use lib.Dec.{ltb}
+use lib.ListN.{getD}
 use Rattle.tables.specs.declared.Triple.{Triple}
 use Rattle.tables.specs.Triple.{inside, resolved}
 use Rattle.columns.specs.Entries.{Outcome}
 use Rattle.columns.specs.Entries as entries-of
 use Rattle.columns.specs.declared.ColumnsAnswer.{ColumnsAnswer}
 use Rattle.columns.specs.declared.ColumnsAnswer.the-variants as columns
-use Rattle.answers.specs.Text.{Text, answerOf, leftOf}
+use Rattle.answers.specs.Text.{Text, answerOf, leftOf, Says}
 use Rattle.answers.specs.declared.TextAnswer.{TextAnswer}
 use Rattle.answers.specs.declared.TextAnswer.the-variants as answer
-use Rattle.document.specs.Whole.{Room, Says}
+use Rattle.messages.specs.Message.{messageOf, warningMessageOf}
+use Rattle.document.specs.Refusals.{shownBy}
+use Rattle.document.specs.Whole.{Room}
+use Rattle.document.specs.Whole as whole
 use Rattle.document.specs.declared.Refusal.{Refusal}
 use Rattle.document.specs.declared.Verdict.{Verdict}
 use Rattle.document.specs.declared.Verdict.the-variants as verdict
 use Rattle.items.specs.Writing.{writing, Writes}
-use Rattle.introspection.specs.Words.{verdictWords, answerWords, columnsWords, Reads, textWords, outcomeWords, partWords, lookupWords}
+use Rattle.introspection.specs.Words.{bit, verdictWords, answerWords, columnsWords, Reads, textWords, outcomeWords, partWords, lookupWords, toldBy, messageBy, warningMessageBy, refusalWords}
+
+pub refusal-words : {x : Refusal} {a b n : ℕ} → n ≡ shownBy (x .number) → a ≡ bit (ltb 0 n) → b ≡ bit (ltb 1 n) → (x .number ∷ x .place ∷ 0 ∷ 0 ∷ 0 ∷ a ∷ x .first .at ∷ x .first .len ∷ b ∷ x .second .at ∷ x .second .len ∷ x .key ∷ 0 ∷ 0 ∷ 0 ∷ 0 ∷ []) ≡ refusalWords x
+refusal-words n a b = rw (a, b, n) refl
 
 module _ {v : Verdict} where
-  pub verdict-refused : {x : Refusal} → v ≡ verdict.Refused x → (x .number ∷ x .place ∷ 0 ∷ 0 ∷ 0 ∷ []) ≡ verdictWords v
-  verdict-refused e = rw e refl
+  pub verdict-refused : {x : Refusal} {ws : List ℕ} → v ≡ verdict.Refused x → ws ≡ refusalWords x → ws ≡ verdictWords v
+  verdict-refused e h = h ∙ rw e refl
 
-  pub verdict-accepted : {r t w : ℕ} → v ≡ verdict.Accepted r t w → (0 ∷ 0 ∷ r ∷ t ∷ w ∷ []) ≡ verdictWords v
+  pub verdict-accepted : {r t w : ℕ} → v ≡ verdict.Accepted r t w → (0 ∷ 0 ∷ r ∷ t ∷ w ∷ 0 ∷ 0 ∷ 0 ∷ 0 ∷ 0 ∷ 0 ∷ 0 ∷ 0 ∷ 0 ∷ 0 ∷ 0 ∷ []) ≡ verdictWords v
   verdict-accepted e = rw e refl
 
-  pub reads : {doc rows warnings text ws : List ℕ} {room : Room} → Says doc room rows warnings text v → ws ≡ verdictWords v → Reads doc room rows warnings text ws
+  pub reads : {doc rows warnings text ws : List ℕ} {room : Room} → whole.Says doc room rows warnings text v → ws ≡ verdictWords v → Reads doc room rows warnings text ws
   reads s h = record { words = h ∙ ap verdictWords (s .verdict); rows-left = s .rows-left; warnings-left = s .warnings-left; text-left = s .text-left }
 
 module _ {a : TextAnswer} where
@@ -61,6 +69,24 @@ write-words h w = h ∙ ap answerWords (w .says .answer)
 pub write-left : {document x ws out : List ℕ} {n i room : ℕ} {a : TextAnswer} → Writes document x ws n i room out a → out ≡ leftOf room (writing document x ws n i room)
 write-left w = w .says .left
 
-pub ruleset words = (verdict-refused, verdict-accepted, answer-refused, answer-done, columns-refused, columns-done, needs)
+-- of a message
+module _ (document ws : List ℕ) (room : ℕ) {out : List ℕ} {a : TextAnswer} where
+  pub message-words : {rs : List ℕ} → rs ≡ answerWords a → Says (messageOf document (toldBy ws) room) room out a → rs ≡ textWords (messageBy document ws room)
+  unfolding messageBy
+  message-words h s = h ∙ ap answerWords (s .answer)
 
-pub ruleset entries = (reads, text-words, outcome-words, write-words, write-left, lookup-words, needs)
+  pub message-left : Says (messageOf document (toldBy ws) room) room out a → out ≡ leftOf room (messageBy document ws room)
+  unfolding messageBy
+  message-left s = s .left
+
+  pub warning-words : {rs : List ℕ} → rs ≡ answerWords a → Says (warningMessageOf document (getD ws 0 0) (getD ws 2 0) (getD ws 3 0) room) room out a → rs ≡ textWords (warningMessageBy document ws room)
+  unfolding warningMessageBy
+  warning-words h s = h ∙ ap answerWords (s .answer)
+
+  pub warning-left : Says (warningMessageOf document (getD ws 0 0) (getD ws 2 0) (getD ws 3 0) room) room out a → out ≡ leftOf room (warningMessageBy document ws room)
+  unfolding warningMessageBy
+  warning-left s = s .left
+
+pub ruleset words = (refusal-words, verdict-refused, verdict-accepted, answer-refused, answer-done, columns-refused, columns-done, needs)
+
+pub ruleset entries = (reads, text-words, outcome-words, write-words, write-left, lookup-words, message-words, message-left, warning-words, warning-left, needs)

@@ -1,9 +1,11 @@
 -- The words of each answer, in the order of include/introspection.h.
 -- Assumes nothing.
-use Prim.Native.Nat.{ℕ}
+use Prim.Native.Nat.{ℕ, suc}
 use mathlib.Core.Path.{_≡_}
 use mathlib.Core.List.{List, [], _∷_}
 use mathlib.Core.Bool.{Bool}
+use lib.Dec.{ltb}
+use lib.ListN.{replicate, getD}
 use Rattle.slices.specs.Bytes.{if}
 use Rattle.tables.specs.Triple.{inside, resolved}
 use Rattle.tables.specs.declared.Triple.{Triple}
@@ -14,16 +16,34 @@ use Rattle.columns.specs.declared.ColumnsAnswer.the-variants as columns
 use Rattle.answers.specs.Text.{Text, answerOf}
 use Rattle.answers.specs.declared.TextAnswer.{TextAnswer}
 use Rattle.answers.specs.declared.TextAnswer.the-variants as answer
+use Rattle.messages.specs.Message.{messageOf, warningMessageOf}
+use Rattle.messages.specs.declared.Wide.{Wide}
+use Rattle.messages.specs.declared.Told.{Told}
 use Rattle.document.specs.Tags.{Shown}
 use Rattle.document.specs.Reading.{State}
+use Rattle.document.specs.Refusals.{shownBy}
 use Rattle.document.specs.Whole.{Room, read, verdictOf, rowsLeft, warningsLeft, textLeft}
+use Rattle.document.specs.declared.Refusal.{Refusal}
 use Rattle.document.specs.declared.Verdict.{Verdict}
 use Rattle.document.specs.declared.Verdict.the-variants as verdict
 
--- number, place, rows, text bytes, warnings
+abbrev pub bit : Bool → ℕ
+bit b = if b 1 0
+
+-- number, place, rows, text bytes, warnings; then what a refusal's message shows: two triples, whose source is 1 where the number
+-- shows so many, and a key; then four zeros
+abbrev pub shownWords : Refusal → List ℕ
+shownWords x =
+    bit (ltb 0 (shownBy (x .number))) ∷ x .first .at ∷ x .first .len
+    ∷ bit (ltb 1 (shownBy (x .number))) ∷ x .second .at ∷ x .second .len
+    ∷ x .key ∷ 0 ∷ 0 ∷ 0 ∷ 0 ∷ []
+
+abbrev pub refusalWords : Refusal → List ℕ
+refusalWords x = x .number ∷ x .place ∷ 0 ∷ 0 ∷ 0 ∷ shownWords x
+
 abbrev pub verdictWords : Verdict → List ℕ
-verdictWords (verdict.Refused x) = x .number ∷ x .place ∷ 0 ∷ 0 ∷ 0 ∷ []
-verdictWords (verdict.Accepted rows text warnings) = 0 ∷ 0 ∷ rows ∷ text ∷ warnings ∷ []
+verdictWords (verdict.Refused x) = refusalWords x
+verdictWords (verdict.Accepted rows text warnings) = 0 ∷ 0 ∷ rows ∷ text ∷ warnings ∷ replicate 11 0
 
 -- number, place, bytes written
 abbrev pub answerWords : TextAnswer → List ℕ
@@ -54,12 +74,23 @@ textWords t = answerWords (answerOf t)
 abbrev pub outcomeWords : Outcome → List ℕ
 outcomeWords o = columnsWords (entries.answerOf o)
 
-abbrev pub bit : Bool → ℕ
-bit b = if b 1 0
-
 -- 1 or 0; source, start and length of the part
 abbrev pub partWords : Bool → Triple → List ℕ
 partWords b t = bit b ∷ t .source ∷ t .start ∷ t .len ∷ []
 
 abbrev pub lookupWords : List ℕ → List ℕ → Triple → List ℕ
 lookupWords document text t = partWords (inside document text t) (resolved document text t)
+
+-- a refusal by its words, as `introspection_read` answers it, or of whatever content
+abbrev pub wideAt : ℕ → List ℕ → Wide
+wideAt k ws = record { source = getD ws k 0; start = getD ws (suc k) 0; len = getD ws (suc (suc k)) 0 }
+
+abbrev pub toldBy : List ℕ → Told
+toldBy ws = record { number = getD ws 0 0; key = getD ws 11 0; first = wideAt 5 ws; second = wideAt 8 ws }
+
+-- the message of a refusal; of a warning by its four words
+unfoldable pub messageBy : List ℕ → List ℕ → ℕ → Text
+messageBy document ws room = messageOf document (toldBy ws) room
+
+unfoldable pub warningMessageBy : List ℕ → List ℕ → ℕ → Text
+warningMessageBy document ws room = warningMessageOf document (getD ws 0 0) (getD ws 2 0) (getD ws 3 0) room

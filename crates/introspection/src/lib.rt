@@ -1,7 +1,10 @@
 // The library for C: the public entries, each answer written into the array that is lent last (include/introspection.h).
 use answers::TextAnswer;
 use columns::ColumnsAnswer;
+use document::Refusal;
 use document::Verdict;
+use messages::Told;
+use messages::Wide;
 use tables::Triple;
 ghost use mathlib.Core.Path.{_≡_};
 ghost use lib.ListN.{length};
@@ -11,16 +14,56 @@ ghost use Rattle.answers.specs.Text.{leftOf};
 ghost use Rattle.references.specs.Entries.{escaping, unescaping};
 ghost use Rattle.document.specs.Whole.{roomOf};
 ghost use Rattle.items.specs.Writing.{writing};
-ghost use Rattle.introspection.specs.Words.{verdictWords, answerWords, columnsWords, partWords, bit, Reads, textWords, outcomeWords, lookupWords};
+ghost use Rattle.introspection.specs.Words.{verdictWords, answerWords, columnsWords, partWords, bit, Reads, textWords, outcomeWords, lookupWords, messageBy, warningMessageBy, refusalWords};
 
-fn verdict_words(v: Verdict) -> [u64; 5]
+// What a refusal's message shows goes with it, each excerpt as a triple.
+fn refusal_words(x: Refusal) -> [u64; 16]
+    ensures { λ r. ⌜ r ≡ refusalWords x ⌝ }
+{
+    let shown = document::shown_by(x.number);
+    [
+        x.number as u64,
+        x.place as u64,
+        0,
+        0,
+        0,
+        bit(0 < shown),
+        x.first.at as u64,
+        x.first.len as u64,
+        bit(1 < shown),
+        x.second.at as u64,
+        x.second.len as u64,
+        x.key as u64,
+        0,
+        0,
+        0,
+        0,
+    ]
+}
+
+fn verdict_words(v: Verdict) -> [u64; 16]
     ensures { λ r. ⌜ r ≡ verdictWords v ⌝ }
 {
     match v {
-        Verdict::Refused(refusal) => [refusal.number as u64, refusal.place as u64, 0, 0, 0],
-        Verdict::Accepted(rows, text, warnings) => {
-            [0, 0, rows as u64, text as u64, warnings as u64]
-        }
+        Verdict::Refused(x) => refusal_words(x),
+        Verdict::Accepted(rows, text, warnings) => [
+            0,
+            0,
+            rows as u64,
+            text as u64,
+            warnings as u64,
+            0,
+            0,
+            0,
+            0,
+            0,
+            0,
+            0,
+            0,
+            0,
+            0,
+            0,
+        ],
     }
 }
 
@@ -64,12 +107,58 @@ pub extern "C" fn introspection_read(
     rows: &mut [u32],
     warnings: &mut [u32],
     text: &mut [u8],
-    answer: &mut [u64; 5],
+    answer: &mut [u64; 16],
 )
     ensures { λ _. ⌜ Reads (now (document .entry)) (roomOf (now (rows .entry)) (now (warnings .entry)) (now (text .entry))) (now (rows .exit)) (now (warnings .exit)) (now (text .exit)) (now (answer .exit)) ⌝ }
 {
     let v = reader::parse_with_warnings(document, rows, warnings, text);
     *answer = verdict_words(v);
+}
+
+// The message of a refusal, by the words of a reader's answer, or of whatever content.
+#[no_mangle]
+pub extern "C" fn introspection_message(
+    document: &[u8],
+    refusal: &[u64; 16],
+    output: &mut [u8],
+    answer: &mut [u64; 3],
+)
+    ensures answer { λ _. ⌜ now (answer .exit) ≡ textWords (messageBy (now (document .entry)) (now (refusal .entry)) (length (now (output .entry)))) ⌝ }
+    ensures output { λ _. ⌜ now (output .exit) ≡ leftOf (length (now (output .entry))) (messageBy (now (document .entry)) (now (refusal .entry)) (length (now (output .entry)))) ⌝ }
+{
+    let first = Wide {
+        source: refusal[5],
+        start: refusal[6],
+        len: refusal[7],
+    };
+    let second = Wide {
+        source: refusal[8],
+        start: refusal[9],
+        len: refusal[10],
+    };
+    let told = Told {
+        number: refusal[0],
+        key: refusal[11],
+        first,
+        second,
+    };
+    let a = messages::message(document, told, output);
+    *answer = answer_words(a);
+}
+
+// The message of a warning, by its words, or of whatever content.
+#[no_mangle]
+pub extern "C" fn introspection_warning_message(
+    document: &[u8],
+    warning: &[u32; 4],
+    output: &mut [u8],
+    answer: &mut [u64; 3],
+)
+    ensures answer { λ _. ⌜ now (answer .exit) ≡ textWords (warningMessageBy (now (document .entry)) (now (warning .entry)) (length (now (output .entry)))) ⌝ }
+    ensures output { λ _. ⌜ now (output .exit) ≡ leftOf (length (now (output .entry))) (warningMessageBy (now (document .entry)) (now (warning .entry)) (length (now (output .entry)))) ⌝ }
+{
+    let a = messages::warning_message(document, warning[0], warning[2], warning[3], output);
+    *answer = answer_words(a);
 }
 
 // Escapes a value.

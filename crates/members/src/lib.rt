@@ -1,5 +1,6 @@
 // Members: annotation, arg, property, method, signal.
 use document::Answer;
+use document::Excerpt;
 use document::Fill;
 use document::Next;
 use document::Refusal;
@@ -48,6 +49,15 @@ fn annotation_children(
                         return Answer::Fault(Refusal {
                             place: refusal.place,
                             number: refusal.number,
+                            key: refusal.key,
+                            first: Excerpt {
+                                at: refusal.first.at,
+                                len: refusal.first.len,
+                            },
+                            second: Excerpt {
+                                at: refusal.second.at,
+                                len: refusal.second.len,
+                            },
                         });
                     }
                     Answer::Done(k) => {
@@ -135,6 +145,15 @@ fn value_children(
                         return Answer::Fault(Refusal {
                             place: refusal.place,
                             number: refusal.number,
+                            key: refusal.key,
+                            first: Excerpt {
+                                at: refusal.first.at,
+                                len: refusal.first.len,
+                            },
+                            second: Excerpt {
+                                at: refusal.second.at,
+                                len: refusal.second.len,
+                            },
                         });
                     }
                     Answer::Done(k) => {
@@ -218,6 +237,15 @@ fn callable_child(
                 return Answer::Fault(Refusal {
                     place: refusal.place,
                     number: refusal.number,
+                    key: refusal.key,
+                    first: Excerpt {
+                        at: refusal.first.at,
+                        len: refusal.first.len,
+                    },
+                    second: Excerpt {
+                        at: refusal.second.at,
+                        len: refusal.second.len,
+                    },
                 });
             }
             Answer::Done(g) => {
@@ -262,6 +290,15 @@ fn callable_children(
                         return Answer::Fault(Refusal {
                             place: refusal.place,
                             number: refusal.number,
+                            key: refusal.key,
+                            first: Excerpt {
+                                at: refusal.first.at,
+                                len: refusal.first.len,
+                            },
+                            second: Excerpt {
+                                at: refusal.second.at,
+                                len: refusal.second.len,
+                            },
                         });
                     }
                     Answer::Done(k) => {

@@ -15,7 +15,7 @@ use Rattle.tables.specs.Table.{Rep, Wiped, cleared}
 use Rattle.tables.proofs.Tables.{clear-all, clear-rest, rows-fit}
 use Rattle.document.specs.Tags.{Shown}
 use Rattle.document.specs.Rows.{Tables, wordsFrom, texts, warned}
-use Rattle.document.specs.Elements.{bare}
+use Rattle.document.specs.Refusals.{bare}
 use Rattle.document.specs.Reading.{begun, accepted, refused}
 use Rattle.document.specs.Whole.{meaning, read, filled, roomOf, Says}
 use Rattle.document.specs.Outcome.{Lent, lent, Stands, Sound, runs}
@@ -104,13 +104,13 @@ turned : {doc : List ℕ} {x : Refusal} {r r′ w w′ t t′ : List ℕ} {v : V
 turned e z = record { verdict = rw e (z .verdict); rows-left = rw e (z .rows-left); warnings-left = rw e (z .warnings-left); text-left = rw e (z .text-left) }
 
 module _ {doc : List ℕ} {r r′ w w′ t t′ : List ℕ} {v : Verdict} where
-  pub too-long : 1048576 < length doc → Refuses (bare 2 1048576) r r′ w w′ t t′ v → Says doc (roomOf r w t) r′ w′ t′ v
+  pub too-long : {y : Refusal} → 1048576 < length doc → y ≡ bare 2 1048576 → Refuses y r r′ w w′ t t′ v → Says doc (roomOf r w t) r′ w′ t′ v
   unfolding read
-  too-long h = turned (rw (long doc h))
+  too-long h q = turned (rw (long doc h, q))
 
-  pub not-utf8 : {p : ℕ} → length doc ≤ 1048576 → p ≡ illFormed doc → p < length doc → Refuses (bare 1 p) r r′ w w′ t t′ v → Says doc (roomOf r w t) r′ w′ t′ v
+  pub not-utf8 : {p : ℕ} {y : Refusal} → length doc ≤ 1048576 → p ≡ illFormed doc → p < length doc → y ≡ bare 1 p → Refuses y r r′ w w′ t t′ v → Says doc (roomOf r w t) r′ w′ t′ v
   unfolding read
-  not-utf8 h e l = turned (rw (ill doc h (rw e at l), e))
+  not-utf8 h e l q = turned (rw (ill doc h (rw e at l), q, e))
 
   module _ {a : Answer} (x : Ended doc r w t a) where
     pub faulty : {y : Refusal} → a ≡ Answer.Fault y → Refuses y r r′ w w′ t t′ v → Says doc (roomOf r w t) r′ w′ t′ v
@@ -118,11 +118,11 @@ module _ {doc : List ℕ} {r r′ w w′ t t′ : List ℕ} {v : Verdict} where
     faulty e = turned (rw (sound doc (x .sound) ∙ (rw e at x) .ends))
 
     module _ {f : Fill} (e : a ≡ Answer.Done f) where
-      pub crowded : {b : Bool} → HasRoom (length r) (length w) (length t) f b → b ≡ false → Refuses (bare 18 (length doc)) r r′ w w′ t t′ v → Says doc (roomOf r w t) r′ w′ t′ v
+      pub crowded : {b : Bool} {y : Refusal} → HasRoom (length r) (length w) (length t) f b → b ≡ false → y ≡ bare 18 (length doc) → Refuses y r r′ w w′ t t′ v → Says doc (roomOf r w t) r′ w′ t′ v
       unfolding read
-      crowded {b} h g =
+      crowded {b} h g q =
           let d = done x e in
-          turned (rw (d .2, d .1 .many, many-warnings (d .1), text-counted (d .1), not-false (crowds (length r) (length w) (length t) f) (sym (h .is) ∙ g)))
+          turned (rw (d .2, d .1 .many, many-warnings (d .1), text-counted (d .1), not-false (crowds (length r) (length w) (length t) f) (sym (h .is) ∙ g), q))
 
       pub fitting : {b : Bool} → HasRoom (length r) (length w) (length t) f b → b ≡ true → Accepts f r r′ w w′ t t′ v → Says doc (roomOf r w t) r′ w′ t′ v
       unfolding read

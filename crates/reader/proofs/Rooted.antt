@@ -9,15 +9,16 @@ use native.Mathlib.Numerals.{add-one}
 use native.Mathlib.Omega.{arith}
 use mir.Syntax.{w64}
 use mir.Val.{Fits}
-use lib.ListN.{length, take, drop, getD}
+use lib.ListN.{length, getD}
 use Rattle.tables.proofs.Tables.{empty-stands}
 use Rattle.document.specs.Kinds as kinds
 use Rattle.document.specs.Tags.{Shown}
 use Rattle.document.specs.Tokens.{Tag}
 use Rattle.document.specs.Rows.{Row, Tables}
-use Rattle.document.specs.Elements.{bare, opens, opensAs}
-use Rattle.document.specs.Reading.{Frame, element, State, begun, reading, accepted, refused, withRow, entered, begins, step}
-use Rattle.document.specs.Outcome.{Lent, lent, Stands, Bounded, Ready, Sound, TagIs, TagFits, Tokenises, Opening, runs, whole}
+use Rattle.document.specs.Elements.{opens, opensAs}
+use Rattle.document.specs.Refusals.{bare, faultIn}
+use Rattle.document.specs.Reading.{Name, Frame, element, State, begun, reading, accepted, refused, withRow, entered, begins, step}
+use Rattle.document.specs.Outcome.{Lent, lent, nameAt, Stands, Bounded, Ready, Sound, TagIs, TagFits, Tokenises, Opening, runs, whole}
 use Rattle.document.specs.declared.StartTag.{StartTag}
 use Rattle.document.specs.declared.ClosingTag.{ClosingTag}
 use Rattle.document.specs.declared.Refusal.{Refusal}
@@ -25,35 +26,35 @@ use Rattle.document.specs.declared.Fill.{Fill}
 use Rattle.document.specs.declared.Answer.{Answer}
 use Rattle.document.specs.declared.Token.{Token}
 use Rattle.document.proofs.Runs.{run-more, run-last, run-refused, run-accepted}
-use Rattle.reader.specs.Nodes.{framesOf, Nested, Walking, Turns, Walks, Levels, RootOpen, EndsNodes, ReadsRoot, ReadsWhole}
+use Rattle.document.proofs.Openings.{tag-named}
+use Rattle.tags.proofs.Stepping.{fault-inside}
+use Rattle.reader.specs.Nodes.{framesOf, Walking, Turns, Walks, Levels, RootOpen, EndsNodes, ReadsRoot, ReadsWhole}
 use Rattle.reader.specs.declared.Walk.{Walk}
 use Rattle.reader.specs.declared.Turn.{Turn}
 use Rattle.reader.specs.declared.Turn.the-variants.{Fault, Done, On}
 
 -- a walk that began with s₀ came to s
-pub record Sofar (doc root opened₀ : List ℕ) (s₀ : Walk) (b₀ : Lent) (opened : List ℕ) (s : Walk) (b : Lent) : Type 0 where
+pub record Sofar (doc : List ℕ) (root : Name) (opened₀ : List ℕ) (s₀ : Walk) (b₀ : Lent) (opened : List ℕ) (s : Walk) (b : Lent) : Type 0 where
   pub walks : Walking doc opened s
   pub leads :
       (v : Tables Shown) →
-      Nested doc s₀ →
       Stands v b₀ (s₀ .fill) →
       (u : Tables Shown)
       × Stands u b (s .fill)
-      × (runs doc (s₀ .fill .at) (reading (framesOf root opened₀ (s₀ .depth)) v) ≡ runs doc (s .fill .at) (reading (framesOf root opened (s .depth)) u))
-      × Nested doc s
+      × (runs doc (s₀ .fill .at) (reading (framesOf doc root opened₀ (s₀ .depth)) v) ≡ runs doc (s .fill .at) (reading (framesOf doc root opened (s .depth)) u))
 
-pub walk-begins : {doc root opened : List ℕ} {s : Walk} {b : Lent} → Walking doc opened s → Sofar doc root opened s b opened s b
-walk-begins g = record { walks = g; leads = λ v d y. (v, y, refl, d) }
+pub walk-begins : {doc : List ℕ} {root : Name} {opened : List ℕ} {s : Walk} {b : Lent} → Walking doc opened s → Sofar doc root opened s b opened s b
+walk-begins g = record { walks = g; leads = λ v y. (v, y, refl) }
 
-module _ {doc root opened₀ opened opened′ : List ℕ} {s₀ s : Walk} {b₀ b b′ : Lent} (g : Sofar doc root opened₀ s₀ b₀ opened s b) {k : Turn} (h : Turns doc root opened opened′ s b b′ k) where
+module _ {doc : List ℕ} {root : Name} {opened₀ opened opened′ : List ℕ} {s₀ s : Walk} {b₀ b b′ : Lent} (g : Sofar doc root opened₀ s₀ b₀ opened s b) {k : Turn} (h : Turns doc root opened opened′ s b b′ k) where
   pub walk-fault : {x : Refusal} → k ≡ Fault x → Walks doc root opened₀ s₀ b₀ b′ (Answer.Fault x)
-  walk-fault e = record { leads = λ v d y. let x = g .leads v d y in x .2 ∙ (rw e at h) .leads (x .0) (x .3) (x .1) }
+  walk-fault e = record { leads = λ v y. let x = g .leads v y in x .2 ∙ (rw e at h) .leads (x .0) (x .1) }
 
   pub walk-done : {f : Fill} → k ≡ Done f → Walks doc root opened₀ s₀ b₀ b′ (Answer.Done f)
   walk-done e = record {
-    leads = λ v d y.
-        let x = g .leads v d y in
-        let z = (rw e at h) .leads (x .0) (x .3) (x .1) in
+    leads = λ v y.
+        let x = g .leads v y in
+        let z = (rw e at h) .leads (x .0) (x .1) in
         (z .0, z .1, x .2 ∙ z .2);
   }
 
@@ -62,10 +63,10 @@ module _ {doc root opened₀ opened opened′ : List ℕ} {s₀ s : Walk} {b₀ 
       let t : Turns doc root opened opened′ s b b′ (On s′) = rw e at h in
       record {
         walks = t .onward .1;
-        leads = λ v d y.
-            let x = g .leads v d y in
-            let z = t .leads (x .0) (x .3) (x .1) in
-            (z .0, z .1, x .2 ∙ z .2, z .3);
+        leads = λ v y.
+            let x = g .leads v y in
+            let z = t .leads (x .0) (x .1) in
+            (z .0, z .1, x .2 ∙ z .2);
       }
 
   pub walk-less : {s′ : Walk} → k ≡ On s′ → length doc - s′ .fill .at < length doc - s .fill .at
@@ -123,32 +124,32 @@ module _ {doc : List ℕ} {c : StartTag} {rows rows′ text text′ : List ℕ} 
       stands = λ t w z. let j = after t w z in (record { rows = j .0 ∷ []; warnings = [] }, j .2, j .1 ∙ inside t z (j .0));
     }
       where
-        inside : (t : Tag) → TagIs doc c t → (row : Row Shown) → entered whole doc kinds.node t row [] (record { rows = []; warnings = [] }) ≡ reading (element kinds.node (take (c .len) (drop (c .at) doc)) 0 ∷ []) (record { rows = row ∷ []; warnings = [] })
-        inside t z row = rw (sym (z .closes) ∙ x, z .named .is)
+        inside : (t : Tag) → TagIs doc c t → (row : Row Shown) → entered whole doc kinds.node t row [] (record { rows = []; warnings = [] }) ≡ reading (element kinds.node (nameAt doc (c .at) (c .len)) 0 ∷ []) (record { rows = row ∷ []; warnings = [] })
+        inside t z row = rw (sym (z .closes) ∙ x, tag-named z)
 
 -- the first of the open nodes
 module _ {doc opened : List ℕ} {c : StartTag} {g : Fill} {rows text : List ℕ} (o : RootOpen doc c g rows text) (q : Levels opened) where
-  pub levels-walk : Walking doc opened (record { depth = 1; at = 0; len = 0; fill = g })
+  pub levels-walk : Walking doc opened (record { depth = 1; fill = g })
   levels-walk = record {
     bounds = o .bounds;
     deep = omega arith;
     few = omega arith;
     long = q .long;
-    named = omega arith;
+    named = λ j p b. absurd (omega arith);
     owners = λ j b. let i : j ≡ 0 = omega arith in rw (i, q .root) (omega (arith, o .one));
   }
 
   pub levels-named : c .at + c .len ≤ length doc
   levels-named = o .named
 
-  pub levels-read : {w : List ℕ} {b : Lent} {r : Answer} → Walks doc (take (c .len) (drop (c .at) doc)) opened (record { depth = 1; at = 0; len = 0; fill = g }) (lent rows w text) b r → ReadsRoot doc c b r
+  pub levels-read : {w : List ℕ} {b : Lent} {r : Answer} → Walks doc (nameAt doc (c .at) (c .len)) opened (record { depth = 1; fill = g }) (lent rows w text) b r → ReadsRoot doc c b r
   levels-read {w} {b} {r} k = record {
     ends = λ t z.
         let j = o .stands t w z in
-        carried b r (ap (runs doc (c .end)) (j .2) ∙ there (j .0)) (k .leads (j .0) (λ d. absurd (omega arith)) (j .1));
+        carried b r (ap (runs doc (c .end)) (j .2) ∙ there (j .0)) (k .leads (j .0) (j .1));
   }
     where
-      there : (v : Tables Shown) → runs doc (c .end) (reading (element kinds.node (take (c .len) (drop (c .at) doc)) 0 ∷ []) v) ≡ runs doc (g .at) (reading (framesOf (take (c .len) (drop (c .at) doc)) opened 1) v)
+      there : (v : Tables Shown) → runs doc (c .end) (reading (element kinds.node (nameAt doc (c .at) (c .len)) 0 ∷ []) v) ≡ runs doc (g .at) (reading (framesOf doc (nameAt doc (c .at) (c .len)) opened 1) v)
       there v = rw (o .at, q .root)
 
 pub ruleset leveled = (levels-walk, levels-named, levels-read, needs)
@@ -157,19 +158,22 @@ pub ruleset rooted = (root-ready, root-fault, root-closes, root-open, needs)
 
 -- the first token
 module _ {doc : List ℕ} {k : Token} (x : Tokenises doc 0 k) where
-  pub first-fault : {b : Lent} {n p : ℕ} → k ≡ Token.Fault n p → ReadsWhole doc b (Answer.Fault (bare n p))
-  unfolding step
-  first-fault e = record { ends = run-last whole doc 0 begun _ ((rw e at x) .is) }
+  pub first-inside : {n p : ℕ} → k ≡ Token.Fault n p → p ≤ length doc
+  first-inside e = fault-inside 0 0 x (omega arith) e
 
-  pub first-end : {b : Lent} {p : ℕ} → k ≡ Token.End p → ReadsWhole doc b (Answer.Fault (bare 3 p))
+  pub first-fault : {b : Lent} {n p : ℕ} {y : Refusal} → k ≡ Token.Fault n p → y ≡ faultIn doc n p → ReadsWhole doc b (Answer.Fault y)
   unfolding step
-  first-end e = record { ends = run-last whole doc 0 begun _ ((rw e at x) .is) }
+  first-fault e q = rw q record { ends = run-last whole doc 0 begun _ ((rw e at x) .is) }
 
-  pub first-close : {b : Lent} {c : ClosingTag} → k ≡ Token.Close c → ReadsWhole doc b (Answer.Fault (bare 4 (c .lt + 1)))
+  pub first-end : {b : Lent} {p : ℕ} {y : Refusal} → k ≡ Token.End p → y ≡ bare 3 p → ReadsWhole doc b (Answer.Fault y)
   unfolding step
-  first-close {c = c} e =
+  first-end e q = rw q record { ends = run-last whole doc 0 begun _ ((rw e at x) .is) }
+
+  pub first-close : {b : Lent} {c : ClosingTag} {y : Refusal} → k ≡ Token.Close c → y ≡ bare 4 (c .lt + 1) → ReadsWhole doc b (Answer.Fault y)
+  unfolding step
+  first-close {c = c} e q =
       let t : Tokenises doc 0 (Token.Close c) = rw e at x in
-      record {
+      rw q record {
         ends = run-more whole doc 0 begun _ (c .end) (t .is) (omega (arith, t .onward)) (t .onward .3) ∙ rw add-one (run-refused whole doc (c .end) (bare 4 (suc (c .lt))));
       }
 
@@ -192,4 +196,4 @@ module _ {doc : List ℕ} {k : Token} (x : Tokenises doc 0 k) where
 pub first-wide : {doc : List ℕ} {k : Token} → Tokenises doc 0 k → Sound doc → {c : ClosingTag} → k ≡ Token.Close c → Fits w64 (c .lt + 1)
 first-wide {doc} x s {c} e = let t : Tokenises doc 0 (Token.Close c) = rw e at x in omega (arith, t .onward, s .small)
 
-pub ruleset firsts = (first-fault, first-end, first-close, first-further, first-fits, first-root, first-wide, needs)
+pub ruleset firsts = (first-inside, first-fault, first-end, first-close, first-further, first-fits, first-root, first-wide, needs)

@@ -10,20 +10,18 @@ use document::kinds;
 use tags::step;
 ghost use mathlib.Core.Path.{_≡_};
 ghost use mathlib.Core.Bool.{true, false};
-ghost use Prim.Native.Nat.{_+_, _*_, _≤_, _<_};
-ghost use lib.ListN.{length, take, drop};
+ghost use Prim.Native.Nat.{_+_, _*_, _≤_, _<_, _^_};
+ghost use lib.ListN.{length, set};
 ghost use Rattle.scan.specs.Classes.{Classes};
 ghost use Rattle.document.specs.Kinds as kinds;
-ghost use Rattle.document.specs.Outcome.{lent, Ready, Sound, TagFits, Child, moved};
+ghost use Rattle.document.specs.Outcome.{lent, nameAt, Ready, Sound, TagFits, Child, moved};
 ghost use Rattle.document.specs.Whole.{roomOf, Says};
 ghost use Rattle.reader.specs.Entry.{Ended, Refuses, HasRoom, Accepts};
 ghost use Rattle.reader.specs.Nodes.{Walking, Turns, Opens, Looks, NextIn, Shuts, ChildIn, Started, Begun, Walks, Levels, RootOpen, ReadsRoot, ReadsWhole};
 
-// How many nodes are open, the place and length of the name of one that is open in the root, and the counts so far.
+// How many nodes are open, and the counts so far.
 pub struct Walk {
     pub depth: usize,
-    pub at: usize,
-    pub len: usize,
     pub fill: Fill,
 }
 
@@ -58,7 +56,17 @@ fn node_child(
     skip::docstring_or_skip(doc, classes, rows, warnings, c, i, f)
 }
 
-// A node in a node: its row, and where it is open one more level.
+// Keeps the row of an open node, and the place of its name.
+fn keep_level(opened: &mut [u32], depth: usize, row: usize, at: usize)
+    requires { ⌜ depth + 1024 < length (now opened) ⌝ ∗ ⌜ depth < 1024 ⌝ ∗ ⌜ row < 2 ^ 32 ⌝ ∗ ⌜ at < 2 ^ 32 ⌝ }
+    ensures { λ _. ⌜ now (opened .exit) ≡ set (set (now (opened .entry)) depth row) (depth + 1024) «at» ⌝ }
+{
+    opened[depth] = row as u32;
+    let level = depth + 1024;
+    opened[level] = at as u32;
+}
+
+// A node in a node: its row, and where it is open one more level, with the place of its name.
 fn open_node(
     doc: &[u8],
     rows: &mut [u32],
@@ -84,40 +92,30 @@ fn open_node(
         Answer::Fault(refusal) => Turn::Fault(refusal),
         Answer::Done(g) => {
             if closes {
-                return Turn::On(Walk {
-                    depth,
-                    at: s.at,
-                    len: s.len,
-                    fill: g,
-                });
+                return Turn::On(Walk { depth, fill: g });
             }
             if depth == 1024 {
-                return Turn::Fault(Refusal {
-                    number: 7,
-                    place: c.end,
-                });
+                return Turn::Fault(document::bare(7, c.end));
             }
-            opened[depth] = f.rows as u32;
+            keep_level(opened, depth, f.rows, c.at);
             Turn::On(Walk {
                 depth: depth + 1,
-                at: c.at,
-                len: c.len,
                 fill: g,
             })
         }
     }
 }
 
-// What comes next in the innermost open node; the root's name stands at a place.
-fn next_in(doc: &[u8], classes: &[u8; 256], at: usize, len: usize, s: Walk) -> Next
-    requires { ⌜ Looks (now doc) «at» len s ⌝ ∗ ⌜ Classes (now classes) ⌝ }
-    ensures { λ r. ⌜ NextIn (now (doc .entry)) (take len (drop «at» (now (doc .entry)))) s r ⌝ }
+// What comes next in the innermost open node; the root's name stands at a place, and `node` at another where it is not the root.
+fn next_in(doc: &[u8], classes: &[u8; 256], at: usize, len: usize, inner: usize, s: Walk) -> Next
+    requires { ⌜ Looks (now doc) «at» len inner s ⌝ ∗ ⌜ Classes (now classes) ⌝ }
+    ensures { λ r. ⌜ NextIn (now (doc .entry)) (nameAt (now (doc .entry)) «at» len) inner s r ⌝ }
 {
     let from = s.fill.at;
     if s.depth == 1 {
         return step(doc, classes, from, at, len);
     }
-    step(doc, classes, from, s.at, s.len)
+    step(doc, classes, from, inner, 4)
 }
 
 // The closing tag of the innermost open node.
@@ -132,8 +130,6 @@ fn close_node(s: Walk, end: usize) -> Turn
     }
     Turn::On(Walk {
         depth: s.depth - 1,
-        at: s.at,
-        len: s.len,
         fill,
     })
 }
@@ -158,8 +154,6 @@ fn read_child(
         Answer::Fault(refusal) => Turn::Fault(refusal),
         Answer::Done(g) => Turn::On(Walk {
             depth: s.depth,
-            at: s.at,
-            len: s.len,
             fill: g,
         }),
     }
@@ -200,9 +194,12 @@ fn turn_at(
     s: Walk,
 ) -> Turn
     requires { ⌜ Walking (now doc) (now opened) s ⌝ ∗ ⌜ at + len ≤ length (now doc) ⌝ ∗ ⌜ Classes (now classes) ⌝ }
-    ensures { λ r. ⌜ Turns (now (doc .entry)) (take len (drop «at» (now (doc .entry)))) (now (opened .entry)) (now (opened .exit)) s (lent (now (rows .entry)) (now (warnings .entry)) (now (text .entry))) (lent (now (rows .exit)) (now (warnings .exit)) (now (text .exit))) r ⌝ }
+    ensures { λ r. ⌜ Turns (now (doc .entry)) (nameAt (now (doc .entry)) «at» len) (now (opened .entry)) (now (opened .exit)) s (lent (now (rows .entry)) (now (warnings .entry)) (now (text .entry))) (lent (now (rows .exit)) (now (warnings .exit)) (now (text .exit))) r ⌝ }
 {
-    match next_in(doc, classes, at, len, s) {
+    let last = s.depth - 1;
+    let level = last + 1024;
+    let inner = wide(opened[level]);
+    match next_in(doc, classes, at, len, inner, s) {
         Next::Fault(refusal) => Turn::Fault(refusal),
         Next::Close(_, end) => close_node(s, end),
         Next::Start(c) => start_in(doc, classes, rows, warnings, text, opened, c, s),
@@ -228,7 +225,7 @@ fn nodes(
     s: Walk,
 ) -> Answer
     requires { ⌜ Walking (now doc) (now opened) s ⌝ ∗ ⌜ at + len ≤ length (now doc) ⌝ ∗ ⌜ Classes (now classes) ⌝ }
-    ensures { λ r. ⌜ Walks (now (doc .entry)) (take len (drop «at» (now (doc .entry)))) (now (opened .entry)) s (lent (now (rows .entry)) (now (warnings .entry)) (now (text .entry))) (lent (now (rows .exit)) (now (warnings .exit)) (now (text .exit))) r ⌝ }
+    ensures { λ r. ⌜ Walks (now (doc .entry)) (nameAt (now (doc .entry)) «at» len) (now (opened .entry)) s (lent (now (rows .entry)) (now (warnings .entry)) (now (text .entry))) (lent (now (rows .exit)) (now (warnings .exit)) (now (text .exit))) r ⌝ }
 {
     let mut w = s;
     loop {
@@ -246,11 +243,11 @@ fn nodes(
     }
 }
 
-// Room for the rows of the open nodes.
-fn levels() -> [u32; 1024]
+// Room for the rows of the open nodes, and for the places of their names.
+fn levels() -> [u32; 2048]
     ensures { λ r. ⌜ Levels r ⌝ }
 {
-    [0u32; 1024]
+    [0u32; 2048]
 }
 
 // The children of the root, whose row is put.
@@ -267,12 +264,7 @@ fn open_root(
     ensures { λ r. ⌜ ReadsRoot (now (doc .entry)) c (lent (now (rows .exit)) (now (warnings .exit)) (now (text .exit))) r ⌝ }
 {
     let mut opened = levels();
-    let s = Walk {
-        depth: 1,
-        at: 0,
-        len: 0,
-        fill: g,
-    };
+    let s = Walk { depth: 1, fill: g };
     nodes(
         doc,
         classes,
@@ -327,12 +319,9 @@ fn document_node(
     ensures { λ r. ⌜ ReadsWhole (now (doc .entry)) (lent (now (rows .exit)) (now (warnings .exit)) (now (text .exit))) r ⌝ }
 {
     match tags::token(doc, classes, 0) {
-        Token::Fault(number, place) => Answer::Fault(Refusal { number, place }),
-        Token::End(place) => Answer::Fault(Refusal { number: 3, place }),
-        Token::Close(c) => Answer::Fault(Refusal {
-            number: 4,
-            place: c.lt + 1,
-        }),
+        Token::Fault(number, place) => Answer::Fault(tags::fault_in(doc, classes, number, place)),
+        Token::End(place) => Answer::Fault(document::bare(3, place)),
+        Token::Close(c) => Answer::Fault(document::bare(4, c.lt + 1)),
         Token::Start(c) => root_node(doc, classes, rows, warnings, text, c),
     }
 }
@@ -382,10 +371,7 @@ fn finish(doc: &[u8], rows: &mut [u32], warnings: &mut [u32], text: &mut [u8], a
             if has_room(rows.len(), warnings.len(), text.len(), f) {
                 return accept(rows, warnings, text, f);
             }
-            let short = Refusal {
-                number: 18,
-                place: doc.len(),
-            };
+            let short = document::bare(18, doc.len());
             refuse(rows, warnings, text, short)
         }
     }
@@ -401,18 +387,12 @@ pub fn parse_with_warnings(
     ensures { λ r. ⌜ Says (now (document .entry)) (roomOf (now (rows .entry)) (now (warnings .entry)) (now (text .entry))) (now (rows .exit)) (now (warnings .exit)) (now (text .exit)) r ⌝ }
 {
     if 1048576 < document.len() {
-        let long = Refusal {
-            number: 2,
-            place: 1048576,
-        };
+        let long = document::bare(2, 1048576);
         return refuse(rows, warnings, text, long);
     }
     let bad = utf8::ill_formed(document);
     if bad < document.len() {
-        let ill = Refusal {
-            number: 1,
-            place: bad,
-        };
+        let ill = document::bare(1, bad);
         return refuse(rows, warnings, text, ill);
     }
     read_sound(document, rows, warnings, text)

@@ -1,4 +1,5 @@
 // Whole documents: what the reader answers, the rows, the warnings and the text, and whether all past them is zero.
+use document::Excerpt;
 use document::Refusal;
 use document::Verdict;
 ghost use Prim.Native.Nat.{_<_, _≤_};
@@ -24,19 +25,40 @@ fn put_tails(out: &mut [u8], n: usize, rows: bool, warnings: bool, text: bool) -
     output::put_bytes(out, n, b" tail bad")
 }
 
+// Puts an excerpt as a triple, whose source is 1 where the message shows it.
+fn put_excerpt(out: &mut [u8], n: usize, shown: bool, x: Excerpt) -> usize {
+    let source = if shown { 1 } else { 0 };
+    let m = output::put_word(out, n, source);
+    let k = output::put_word(out, m, x.at as u64);
+    output::put_word(out, k, x.len as u64)
+}
+
+// Puts the key and the two excerpts, if they are asked for.
+fn put_shown(out: &mut [u8], n: usize, asked: bool, x: Refusal) -> usize {
+    if asked {
+        let count = document::shown_by(x.number);
+        let m = output::put_word(out, n, x.key as u64);
+        let k = put_excerpt(out, m, 0 < count, x.first);
+        return put_excerpt(out, k, 1 < count, x.second);
+    }
+    n
+}
+
 // Puts what was refused.
 fn put_refused(
     out: &mut [u8],
     n: usize,
+    asked: bool,
     rows: &[u32],
     warnings: &[u32],
     text: &[u8],
     refusal: Refusal,
 ) -> usize {
     let m = output::put_refused(out, n, refusal.number, refusal.place);
+    let k = put_shown(out, m, asked, refusal);
     put_tails(
         out,
-        m,
+        k,
         notation::words::zero_words(rows, 0),
         notation::words::zero_words(warnings, 0),
         notation::words::zero_bytes(text, 0),
@@ -80,26 +102,40 @@ fn put_read(
     )
 }
 
+// Fills the tables with something else than zeros.
+fn fill(rows: &mut [u32], warnings: &mut [u32], text: &mut [u8]) {
+    notation::words::fill(rows, 2863311530);
+    notation::words::fill(warnings, 2863311530);
+    notation::text::fill(text, 170);
+}
+
 // Reads a document into tables that hold something else.
 fn lent(
     out: &mut [u8],
     n: usize,
+    asked: bool,
     document: &[u8],
     rows: &mut [u32],
     warnings: &mut [u32],
     text: &mut [u8],
 ) -> usize {
-    notation::words::fill(rows, 2863311530);
-    notation::words::fill(warnings, 2863311530);
-    notation::text::fill(text, 170);
+    fill(rows, warnings, text);
     match reader::parse_with_warnings(document, rows, warnings, text) {
-        Verdict::Refused(refusal) => put_refused(out, n, rows, warnings, text, refusal),
+        Verdict::Refused(refusal) => put_refused(out, n, asked, rows, warnings, text, refusal),
         Verdict::Accepted(r, t, w) => put_read(out, n, rows, warnings, text, r, t, w),
     }
 }
 
-// A case of a whole document: words for rows, words for warnings, bytes for text, the document.
-pub fn read(out: &mut [u8], n: usize, s: &[u8], first: &mut [u8], second: &mut [u8]) -> usize {
+// A case of a whole document: words for rows, words for warnings, bytes for text, the document. What the message of a refusal shows is put
+// if it is asked for.
+pub fn read(
+    out: &mut [u8],
+    n: usize,
+    asked: bool,
+    s: &[u8],
+    first: &mut [u8],
+    second: &mut [u8],
+) -> usize {
     let a = notation::number(s);
     let b = output::after(s, a.after);
     let c = notation::number(b);
@@ -114,6 +150,7 @@ pub fn read(out: &mut [u8], n: usize, s: &[u8], first: &mut [u8], second: &mut [
     lent(
         out,
         n,
+        asked,
         output::front(first, k),
         row_words,
         warning_words,

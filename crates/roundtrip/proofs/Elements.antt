@@ -3,7 +3,7 @@
 use Prim.Native.Nat.{ℕ, zero, suc, _+_, _-_, _≤_}
 use native.Mathlib.Omega.{arith}
 use native.Mathlib.Nat.{add-zero}
-use mathlib.Core.Path.{_≡_, refl, _∙_}
+use mathlib.Core.Path.{_≡_, refl, ap, _∙_}
 use mathlib.Core.List.{List, [], _∷_, _++_, append-assoc}
 use mathlib.Core.Bool.{Bool, true, false}
 use borrow.Author.Tests.{eq-eqb}
@@ -109,17 +109,21 @@ all-pass (child x xs) = pass-then x (all-pass xs)
 
 -- ---- elements
 
--- an element of kind k begins, with its row, and ends at once if it is `/>`
-abbrev pub entered : ℕ → List ℕ → Bool → Row → List Frame → List Row → List Warning → State
-entered k n true r fs rs ws = closed fs (table (rs ++ r ∷ []) ws)
-entered k n false r fs rs ws = inside (reading.element k n (length rs) ∷ fs) (rs ++ r ∷ []) ws
+-- the name of an element whose `<` stands at a place
+abbrev pub nameFrom : ℕ → List ℕ → reading.Name
+nameFrom at n = record { at = suc at; bytes = n }
+
+-- an element of kind k begins at a place, with its row, and ends at once if it is `/>`
+abbrev pub entered : ℕ → List ℕ → ℕ → Bool → Row → List Frame → List Row → List Warning → State
+entered k n at true r fs rs ws = closed fs (table (rs ++ r ∷ []) ws)
+entered k n at false r fs rs ws = inside (reading.element k (nameFrom at n) (length rs) ∷ fs) (rs ++ r ∷ []) ws
 
 -- a tag of a name with such attributes begins, in a state, an element of a kind, whose row is r
 pub record Opens (k : ℕ) (n : List ℕ) (ps : List Pair) (s : State) (r : Row) (fs : List Frame) (rs : List Row) (ws : List Warning) : Type 0 where
   pub name : TagName n
   pub keys : Keys [] ps
   pub few : length ps ≤ 256
-  pub enters : (doc : List ℕ) (at : ℕ) (self : Bool) → step keeps doc s (start (tagAt at n ps self)) ≡ entered k n self r fs rs ws
+  pub enters : (doc : List ℕ) (at : ℕ) (self : Bool) → step keeps doc s (start (tagAt at n ps self)) ≡ entered k n at self r fs rs ws
 
 tag-name : (n : List ℕ) → TagName n → Name n
 tag-name [] h = h
@@ -129,9 +133,9 @@ pub same-self : (s : List ℕ) → same s s ≡ true
 same-self [] = refl
 same-self (a ∷ s) = rw (eq-eqb a a refl) (same-self s)
 
-closes : (doc : List ℕ) (k : ℕ) (n : List ℕ) (i : ℕ) (fs : List Frame) (rs : List Row) (ws : List Warning) (p q : ℕ) → step keeps doc (inside (reading.element k n i ∷ fs) rs ws) (close p n q) ≡ closed fs (table rs ws)
+closes : (doc : List ℕ) (k : ℕ) (n : reading.Name) (i : ℕ) (fs : List Frame) (rs : List Row) (ws : List Warning) (p q : ℕ) → step keeps doc (inside (reading.element k n i ∷ fs) rs ws) (close p (n .bytes) q) ≡ closed fs (table rs ws)
 unfolding step
-closes doc k n i fs rs ws p q = rw (same-self n)
+closes doc k n i fs rs ws p q = rw (same-self (n .bytes))
 
 -- tokens that close what they open, between a start and a close
 module _ (t : Tag) (m : List Token) (p : ℕ) (n : List ℕ) (q : ℕ) (open-tag : t .self ≡ false) (h : (d : ℕ) (ts : List Token) → upto (suc d) (m ++ ts) ≡ m ++ upto (suc d) ts) where
@@ -143,26 +147,30 @@ module _ (t : Tag) (m : List Token) (p : ℕ) (n : List ℕ) (q : ℕ) (open-tag
 
 -- a written element is read: its row is added, then its children's
 module _ {k : ℕ} {n : List ℕ} {ps : List Pair} {s : State} {r : Row} {fs : List Frame} {rs : List Row} {ws : List Warning} (o : Opens k n ps s r fs rs ws) where
-  abbrev one-tag : (self : Bool) → Reads (tag n ps self) s (entered k n self r fs rs ws)
-  one-tag self = record {
-    toks = λ at. start (tagAt at n ps self) ∷ [];
-    lexed = λ at q. tag-tokens at n ps self q (o .name) (o .keys) (o .few);
-    folds = λ doc at. o .enters doc at self;
-  }
-
   empty-element : Element (tag n ps true) s (closed fs (table (rs ++ r ∷ []) ws))
   empty-element = record {
-    passes = record { does = one-tag true; inner = λ at d ts. refl };
+    passes = record {
+      does = record {
+        toks = λ at. start (tagAt at n ps true) ∷ [];
+        lexed = λ at q. tag-tokens at n ps true q (o .name) (o .keys) (o .few);
+        folds = λ doc at. o .enters doc at true;
+      };
+      inner = λ at d ts. refl;
+    };
     whole = λ at ts. refl;
   }
 
-  full-element : (b : List ℕ) (rs′ : List Row) → Passes b (inside (reading.element k n (length rs) ∷ fs) (rs ++ r ∷ []) ws) (inside (reading.element k n (length rs) ∷ fs) rs′ ws) → Element (tag n ps false ++ (b ++ closingTag n)) s (closed fs (table rs′ ws))
+  -- where the element is open, its name's place is known only where it stands
+  abbrev opened : ℕ → List Frame
+  opened at = reading.element k (nameFrom at n) (length rs) ∷ fs
+
+  full-element : (b : List ℕ) (rs′ : List Row) → ((at : ℕ) → Passes b (inside (opened at) (rs ++ r ∷ []) ws) (inside (opened at) rs′ ws)) → Element (tag n ps false ++ (b ++ closingTag n)) s (closed fs (table rs′ ws))
   full-element b rs′ x = record {
     passes = record {
-      does = then (one-tag false) (then (x .does) shuts);
-      inner = λ at. wrap-inner (tagAt at n ps false) (x .does .toks (body at)) (end-at at) n (end-at at + length (closingTag n)) refl (x .inner (body at));
+      does = record { toks = toks; lexed = lexed; folds = folds };
+      inner = λ at. wrap-inner (tagAt at n ps false) (within at) (end-at at) n (end-at at + length (closingTag n)) refl (x at .inner (body at));
     };
-    whole = λ at. wrap-whole (tagAt at n ps false) (x .does .toks (body at)) (end-at at) n (end-at at + length (closingTag n)) refl (x .inner (body at));
+    whole = λ at. wrap-whole (tagAt at n ps false) (within at) (end-at at) n (end-at at + length (closingTag n)) refl (x at .inner (body at));
   }
     where
       body : ℕ → ℕ
@@ -171,13 +179,27 @@ module _ {k : ℕ} {n : List ℕ} {ps : List Pair} {s : State} {r : Row} {fs : L
       end-at : ℕ → ℕ
       end-at at = body at + length b
 
-      shuts : Reads (closingTag n) (inside (reading.element k n (length rs) ∷ fs) rs′ ws) (closed fs (table rs′ ws))
-      shuts = record {
-        toks = λ at. close at n (at + length (closingTag n)) ∷ [];
-        lexed = λ at q. close-tokens at n q (tag-name n (o .name));
-        folds = λ doc at. closes doc k n (length rs) fs rs′ ws at (at + length (closingTag n));
-      }
+      within : ℕ → List Token
+      within at = x at .does .toks (body at)
 
-  pub an-element : {cs : List (List ℕ)} {rs′ : List Row} → Children (reading.element k n (length rs) ∷ fs) ws cs (rs ++ r ∷ []) rs′ → Element (element n ps cs) s (closed fs (table rs′ ws))
-  an-element childless = empty-element
-  an-element (child x xs) = full-element _ _ (pass-then x (all-pass xs))
+      toks : ℕ → List Token
+      toks at = start (tagAt at n ps false) ∷ (within at ++ (close (end-at at) n (end-at at + length (closingTag n)) ∷ []))
+
+      lexed : (at : ℕ) (q : List ℕ) → tokens ((tag n ps false ++ (b ++ closingTag n)) ++ q) at ≡ toks at ++ tokens q (at + length (tag n ps false ++ (b ++ closingTag n)))
+      lexed at q =
+          let e : end-at at + length (closingTag n) ≡ at + length (tag n ps false ++ (b ++ closingTag n)) = omega (arith, length-append (tag n ps false) (b ++ closingTag n), length-append b (closingTag n)) in
+          rw (append-assoc (tag n ps false) (b ++ closingTag n) q, append-assoc b (closingTag n) q, tag-tokens at n ps false (b ++ (closingTag n ++ q)) (o .name) (o .keys) (o .few), x at .does .lexed (body at) (closingTag n ++ q), close-tokens (end-at at) n q (tag-name n (o .name)), e, append-assoc (within at))
+
+      folds : (doc : List ℕ) (at : ℕ) → fold keeps doc s (toks at) ≡ closed fs (table rs′ ws)
+      folds doc at =
+          ap (λ (y : State). fold keeps doc y (within at ++ (close (end-at at) n (end-at at + length (closingTag n)) ∷ []))) (o .enters doc at false)
+          ∙ fold-append doc (inside (opened at) (rs ++ r ∷ []) ws) (within at) (close (end-at at) n (end-at at + length (closingTag n)) ∷ [])
+          ∙ ap (λ (y : State). step keeps doc y (close (end-at at) n (end-at at + length (closingTag n)))) (x at .does .folds doc (body at))
+          ∙ closes doc k (nameFrom at n) (length rs) fs rs′ ws (end-at at) (end-at at + length (closingTag n))
+
+  none-added : {gs : List Frame} {qs qs′ : List Row} → Children gs ws [] qs qs′ → qs ≡ qs′
+  none-added childless = refl
+
+  pub an-element : (cs : List (List ℕ)) {rs′ : List Row} → ((at : ℕ) → Children (opened at) ws cs (rs ++ r ∷ []) rs′) → Element (element n ps cs) s (closed fs (table rs′ ws))
+  an-element [] h = rw (none-added (h 0)) at empty-element
+  an-element (c ∷ cs) h = full-element (c ++ concat cs) _ (λ at. all-pass (h at))

@@ -19,7 +19,7 @@ use Rattle.items.specs.Content.{content}
 use Rattle.roundtrip.specs.Items.{annotationRows, argRows, argsRows, memberRows, rows, nodeRow}
 use Rattle.roundtrip.specs.Statement.{Told}
 use Rattle.roundtrip.proofs.Held.{Held, keeps, mark, Row, State, marked}
-use Rattle.roundtrip.proofs.Elements.{Element, upto}
+use Rattle.roundtrip.proofs.Elements.{nameFrom, Element, upto}
 use Rattle.roundtrip.proofs.Items.{Good, kind, item-element}
 use Rattle.roundtrip.proofs.Content.{content-back}
 
@@ -97,7 +97,7 @@ item-of c d e =
 meet : (k : ℕ) (c d : Item) → mayHold k (kind c) ≡ true → mayHold k (kind d) ≡ true → Good c → Good d → (x : List ℕ) → written d ≡ written c ++ x → c ≡ d
 unfolding rowsIn
 meet k c d i j g h x e =
-    let s = one-end (item-element k c i g [] 0 [] (marked nodeRow ∷ []) []) (item-element k d j h [] 0 [] (marked nodeRow ∷ []) []) x e in
+    let s = one-end (item-element k c i g (nameFrom 0 []) 0 [] (marked nodeRow ∷ []) []) (item-element k d j h (nameFrom 0 []) 0 [] (marked nodeRow ∷ []) []) x e in
     let r : map marked (nodeRow ∷ rows 1 1 c) ≡ map marked (nodeRow ∷ rows 1 1 d) = ap rowsIn s in
     item-of c d (sym (unmarked (nodeRow ∷ rows 1 1 c) (refl, item-placeless 1 1 c)) ∙ ap (map (viewRow valueOf)) r ∙ unmarked (nodeRow ∷ rows 1 1 d) (refl, item-placeless 1 1 d))
 

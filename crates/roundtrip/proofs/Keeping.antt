@@ -76,7 +76,7 @@ module _ {A B : Type 0} (f : A → B) (keep : Keeping A) where
 
   view-opens : (p : ℕ) (t : Tag) (k : ℕ) → viewOpened f (opensAs keep k p t) ≡ opensAs seen k p t
   view-opens p t k =
-      any-way keep seen p t (λ o o′. viewOpened f o ≡ o′) (λ n h. refl) (λ n h. refl) (λ k w n v tp c. view-row t k p n v tp w) k
+      any-way keep seen p t (λ o o′. viewOpened f o ≡ o′) (λ x r. refl) (λ k w n v tp c. view-row t k p n v tp w) k
 
   -- ---- steps
 
@@ -119,7 +119,7 @@ module _ {A B : Type 0} (f : A → B) (keep : Keeping A) where
 
     view-turn : (g : Frame) (fs : List Frame) (u : Tables A) (t : Token) → view f (turn keep doc g fs u t) ≡ turn seen doc g fs (viewTables f u) t
     view-turn g fs u (start t) = view-started g fs u t
-    view-turn g fs u (close lt m q) = branch (view f) (same m (nameOf g)) (view-shut f doc g fs u lt) refl
+    view-turn g fs u (close lt m q) = branch (view f) (same m (nameOf g .bytes)) (view-shut f doc g fs u lt) refl
     view-turn g fs u (fault n p) = refl
     view-turn g fs u (end p) = refl
 

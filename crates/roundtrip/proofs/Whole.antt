@@ -31,7 +31,7 @@ use Rattle.roundtrip.specs.Items.{rows, nodeRow, interfaceRow, values, r
 use Rattle.roundtrip.specs.Statement.{around, Fits}
 use Rattle.roundtrip.proofs.Tags.{tagAt}
 use Rattle.roundtrip.proofs.Held.{Held, held, keeps, State, marked, table, inside}
-use Rattle.roundtrip.proofs.Elements.{Reads, Element, entered, Opens, an-element, child, childless, fold-append}
+use Rattle.roundtrip.proofs.Elements.{Reads, Element, nameFrom, entered, Opens, an-element, child, childless, fold-append}
 use Rattle.roundtrip.proofs.Items.{Good, kind, item-element}
 use Rattle.roundtrip.proofs.Equal.{valueOf, item-placeless, unmarked}
 use Rattle.roundtrip.proofs.SoundRows.{AllFormed}
@@ -44,7 +44,7 @@ use Rattle.roundtrip.proofs.Room.{sizes, texts-size, table-size}
 abbrev holding : List ℕ → Item → List ℕ
 holding n c = element (bytes "node") [] (element (bytes "interface") (named n ∷ []) (written c ∷ []) ∷ [])
 
-node-enters : (doc : List ℕ) (at : ℕ) (self : Bool) → step keeps doc begun (start (tagAt at (bytes "node") [] self)) ≡ entered 1 (bytes "node") self (marked nodeRow) [] [] []
+node-enters : (doc : List ℕ) (at : ℕ) (self : Bool) → step keeps doc begun (start (tagAt at (bytes "node") [] self)) ≡ entered 1 (bytes "node") at self (marked nodeRow) [] [] []
 unfolding step begins opensAs
 node-enters doc at true = refl
 node-enters doc at false = refl
@@ -52,22 +52,22 @@ node-enters doc at false = refl
 node-opens : Opens 1 (bytes "node") [] begun (marked nodeRow) [] [] []
 node-opens = record { name = (refl, refl, refl, refl); keys = tt; few = omega arith; enters = node-enters }
 
-abbrev inNode : List states.Frame
-inNode = states.element 1 (bytes "node") 0 ∷ []
+abbrev inNode : ℕ → List states.Frame
+inNode at = states.element 1 (nameFrom at (bytes "node")) 0 ∷ []
 
 module _ (n : List ℕ) (h : interfaceName n ≡ true) where
-  interface-enters : (doc : List ℕ) (at : ℕ) (self : Bool) → step keeps doc (inside inNode (marked nodeRow ∷ []) []) (start (tagAt at (bytes "interface") (named n ∷ []) self)) ≡ entered 2 (bytes "interface") self (marked (interfaceRow n)) inNode (marked nodeRow ∷ []) []
+  interface-enters : (root : ℕ) (doc : List ℕ) (at : ℕ) (self : Bool) → step keeps doc (inside (inNode root) (marked nodeRow ∷ []) []) (start (tagAt at (bytes "interface") (named n ∷ []) self)) ≡ entered 2 (bytes "interface") at self (marked (interfaceRow n)) (inNode root) (marked nodeRow ∷ []) []
   unfolding step begins opensAs kindOf mayHold
-  interface-enters doc at true = rw h
-  interface-enters doc at false = rw h
+  interface-enters root doc at true = rw h
+  interface-enters root doc at false = rw h
 
-  interface-opens : Opens 2 (bytes "interface") (named n ∷ []) (inside inNode (marked nodeRow ∷ []) []) (marked (interfaceRow n)) inNode (marked nodeRow ∷ []) []
-  interface-opens = record { name = (refl, refl, refl, refl); keys = (refl, refl, tt); few = omega arith; enters = interface-enters }
+  interface-opens : (root : ℕ) → Opens 2 (bytes "interface") (named n ∷ []) (inside (inNode root) (marked nodeRow ∷ []) []) (marked (interfaceRow n)) (inNode root) (marked nodeRow ∷ []) []
+  interface-opens root = record { name = (refl, refl, refl, refl); keys = (refl, refl, tt); few = omega arith; enters = interface-enters root }
 
   holding-element : (c : Item) → mayHold 2 (kind c) ≡ true → Good c → Element (holding n c) begun (accepted (table (map marked (nodeRow ∷ interfaceRow n ∷ rows 2 2 c)) []))
   holding-element c i g =
-      an-element node-opens
-      (child (an-element interface-opens (child (item-element 2 c i g (bytes "interface") 1 inNode (marked nodeRow ∷ marked (interfaceRow n) ∷ []) [] .passes) childless) .passes) childless)
+      an-element node-opens _
+      (λ root. child (an-element (interface-opens root) _ (λ at. child (item-element 2 c i g (nameFrom at (bytes "interface")) 1 (inNode root) (marked nodeRow ∷ marked (interfaceRow n) ∷ []) [] .passes) childless) .passes) childless)
 
   -- the name holds nothing that is escaped
   same-escaped : escape n ≡ n

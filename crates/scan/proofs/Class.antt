@@ -1,16 +1,17 @@
--- The table of classes: one test that computes, and what it says of each byte.
+-- The table of classes: one test that computes, and what it says of each byte; and which bytes are below 128.
 -- Assumes nothing.
 use Prim.Native.Nat.{ℕ, zero, suc, _+_, _/_, _%_, _<_}
 use mathlib.Core.Path.{_≡_, refl, _∙_, sym}
 use mathlib.Core.List.{List, [], _∷_}
-use mathlib.Core.Bool.{Bool, true, false}
+use mathlib.Core.Bool.{Bool, true, false, false≢true}
 use native.Mathlib.Omega.{arith}
 use native.Mathlib.Nat.{add-zero, zero-add}
 use borrow.Author.Needs.{needs}
 use lib.Dec.{eqb}
 use lib.ListN.{length, getD}
 use Rattle.slices.specs.Bytes.{if}
-use Rattle.scan.specs.Classes.{Classes, classOf, white, ncNameByte, escapable}
+use Rattle.slices.proofs.Runs.{by-byte}
+use Rattle.scan.specs.Classes.{Classes, classOf, white, nameByte, ncNameByte, escapable}
 
 -- f at each of n numbers from i on
 abbrev tabulated : (ℕ → ℕ) → ℕ → ℕ → List ℕ
@@ -54,3 +55,23 @@ module _ {t : List ℕ} (c : Classes t) {b : ℕ} (h : b < 256) where
   escape-digit = sym (one (escapable b) (getD t b 0 / 4 % 2) (rw (c .rule b h) (digits (white b) (ncNameByte b) (escapable b) .2)))
 
 pub ruleset classed = (white-digit, name-digit, escape-digit, needs)
+
+-- a byte that is no name's, and so white space, is below 128
+abbrev Small : ℕ → Type 0
+Small b = nameByte b ≡ false → b < 128
+
+pub name-small : (b : ℕ) → Small b
+name-small b =
+    by-byte Small b 32 (λ e. omega arith)
+    λ f. by-byte Small b 9 (λ e. omega arith)
+    λ g. by-byte Small b 10 (λ e. omega arith)
+    λ h. by-byte Small b 12 (λ e. omega arith)
+    λ i. by-byte Small b 13 (λ e. omega arith)
+    λ j. by-byte Small b 61 (λ e. omega arith)
+    λ k. by-byte Small b 47 (λ e. omega arith)
+    λ l. by-byte Small b 60 (λ e. omega arith)
+    λ m. by-byte Small b 62 (λ e. omega arith)
+    λ n e. absurd (false≢true (sym (rw (f, g, h, i, j, k, l, m, n) at e)))
+
+pub white-small : (b : ℕ) → white b ≡ true → b < 128
+white-small b e = name-small b (rw e)

@@ -22,14 +22,15 @@ use Rattle.document.specs.Tags.{Shown}
 use Rattle.document.specs.Tokens.{Tag}
 use Rattle.slices.specs.Bytes.{if}
 use Rattle.document.specs.Rows.{Tables, documented}
-use Rattle.document.specs.Reading.{Frame, State, reading, refused, closed, passing, captures, captured, docstringIn}
-use Rattle.document.specs.Outcome.{lent, Stands, Bounded, Ready, TagIs, Passes, Captures, runs, whole, moved}
+use Rattle.document.specs.Reading.{Name, Frame, State, reading, refused, closed, passing, captures, captured, docstringIn}
+use Rattle.document.specs.Outcome.{lent, nameAt, Stands, Bounded, Ready, TagIs, Passes, Captures, runs, whole, moved}
 use Rattle.document.specs.declared.Refusal.{Refusal}
 use Rattle.document.specs.declared.StartTag.{StartTag}
 use Rattle.document.specs.declared.Fill.{Fill}
 use Rattle.document.specs.declared.Answer.{Answer}
 use Rattle.document.specs.declared.Passed.{Passed}
 use Rattle.document.proofs.Loops.{moved-stands, name-inside}
+use Rattle.document.proofs.Openings.{tag-named}
 use Rattle.rows.proofs.Tables.{docstring-put}
 use Rattle.rows.proofs.Words.{take-documented}
 use Rattle.skip.specs.Outcome.{Puts}
@@ -105,9 +106,9 @@ module _ {doc : List ℕ} {c : StartTag} {f : Fill} (r : Ready doc c f) where
       (rw n (cut-ascii doc (r .sound .utf8) lt l (omega (arith, b))))
 
   module _ {d : Passed} (x : c .closes ≡ false) (l : Passes doc (c .end) (c .at) (c .len) 1 d) where
-    opens : (i : ℕ) (t : Tag) (fs : List Frame) (u : Tables Shown) → TagIs doc c t → runs doc (c .end) (docstringIn whole doc t fs i u) ≡ runs doc (c .end) (reading (passing (captures (c .end) i) (take (c .len) (drop (c .at) doc) ∷ []) ∷ fs) u)
+    opens : (i : ℕ) (t : Tag) (fs : List Frame) (u : Tables Shown) → TagIs doc c t → runs doc (c .end) (docstringIn whole doc t fs i u) ≡ runs doc (c .end) (reading (passing (captures (c .end) i) (nameAt doc (c .at) (c .len) ∷ []) ∷ fs) u)
     unfolding docstringIn
-    opens i t fs u z = rw (sym (z .closes) ∙ x) (ap (λ n. runs doc (c .end) (reading (passing (captures (t .after) i) (n ∷ []) ∷ fs) u)) (z .named .is) ∙ ap (λ e. runs doc (c .end) (reading (passing (captures e i) (take (c .len) (drop (c .at) doc) ∷ []) ∷ fs) u)) (sym (z .end)))
+    opens i t fs u z = rw (sym (z .closes) ∙ x) (ap (λ (n : Name). runs doc (c .end) (reading (passing (captures (t .after) i) (n ∷ []) ∷ fs) u)) (tag-named z) ∙ ap (λ e. runs doc (c .end) (reading (passing (captures e i) (nameAt doc (c .at) (c .len) ∷ []) ∷ fs) u)) (sym (z .end)))
 
     pub captured-fault : {i : ℕ} {y : Refusal} {rows : List ℕ} → d ≡ Passed.Fault y → Captures doc c i f rows rows (Answer.Fault y)
     captured-fault {i} e = record {

@@ -13,20 +13,21 @@ use lib.ListN.{length, take, drop, getD}
 use Rattle.document.specs.Tags.{Shown}
 use Rattle.document.specs.Tokens.{Tag}
 use Rattle.document.specs.Rows.{Tables}
-use Rattle.document.specs.Elements.{bare}
-use Rattle.document.specs.Reading.{Purpose, Frame, State, reading, refused, passing, shut, started}
-use Rattle.document.specs.Outcome.{Steps, OnwardNext, Leads, Passes, OnwardPassed, Passing, TagFits, TagIs, NameIs, runs, whole}
+use Rattle.document.specs.Refusals.{bare}
+use Rattle.document.specs.Reading.{Name, Purpose, Frame, State, reading, refused, passing, shut, started}
+use Rattle.document.specs.Outcome.{nameAt, Steps, OnwardNext, Leads, Passes, OnwardPassed, Passing, TagFits, TagIs, NameIs, runs, whole}
 use Rattle.document.specs.declared.Refusal.{Refusal}
 use Rattle.document.specs.declared.StartTag.{StartTag}
 use Rattle.document.specs.declared.Next.{Next}
 use Rattle.document.specs.declared.Passed.{Passed}
 use Rattle.document.proofs.Runs.{run-refused}
+use Rattle.document.proofs.Openings.{tag-named}
 
 -- the run from a place in an element that is passed over has come to another place in it
 pub record Sofar (doc : List ℕ) (from at len depth here : ℕ) : Type 0 where
   pub since : from ≤ here
   pub inside : here ≤ length doc
-  pub leads : (p : Purpose) (ns : List (List ℕ)) (fs : List Frame) (u : Tables Shown) → suc (length ns) ≡ depth → runs doc from (reading (passing p (take len (drop at doc) ∷ ns) ∷ fs) u) ≡ runs doc here (reading (passing p (take len (drop at doc) ∷ ns) ∷ fs) u)
+  pub leads : (p : Purpose) (ns : List Name) (fs : List Frame) (u : Tables Shown) → suc (length ns) ≡ depth → runs doc from (reading (passing p (nameAt doc at len ∷ ns) ∷ fs) u) ≡ runs doc here (reading (passing p (nameAt doc at len ∷ ns) ∷ fs) u)
 
 pub pass-begins : {doc : List ℕ} {from at len depth : ℕ} → from ≤ length doc → Sofar doc from at len depth from
 pass-begins h = record { since = omega arith; inside = h; leads = λ p ns fs u e. refl }
@@ -35,7 +36,7 @@ module _ {doc : List ℕ} {from at len depth here : ℕ} (g : Sofar doc from at 
   pub pass-fault : {x : Refusal} → r ≡ Next.Fault x → Passes doc from at len depth (Passed.Fault x)
   pass-fault q = record {
     onward = tt;
-    leads = λ p ns fs u e. g .leads p ns fs u e ∙ (rw q at s) .leads (passing p (take len (drop at doc) ∷ ns)) fs u refl;
+    leads = λ p ns fs u e. g .leads p ns fs u e ∙ (rw q at s) .leads (passing p (nameAt doc at len ∷ ns)) fs u refl;
   }
 
   pub pass-close : {lt end : ℕ} → r ≡ Next.Close lt end → Passes doc from at len depth (Passed.Closed lt end)
@@ -43,15 +44,15 @@ module _ {doc : List ℕ} {from at len depth here : ℕ} (g : Sofar doc from at 
       let d : Steps doc here at len (Next.Close lt end) = rw q at s in
       record {
         onward = (omega (arith, d .onward, g .since), d .onward .1, d .onward .2, d .onward .3);
-        leads = λ p ns fs u e. g .leads p ns fs u e ∙ d .leads (passing p (take len (drop at doc) ∷ ns)) fs u refl;
+        leads = λ p ns fs u e. g .leads p ns fs u e ∙ d .leads (passing p (nameAt doc at len ∷ ns)) fs u refl;
       }
 
   module _ {c : StartTag} (q : r ≡ Next.Start c) where
     -- what the start tag comes to
-    child : (p : Purpose) (ns : List (List ℕ)) (fs : List Frame) (u : Tables Shown) → suc (length ns) ≡ depth → (t : Tag) × TagIs doc c t × (runs doc from (reading (passing p (take len (drop at doc) ∷ ns) ∷ fs) u) ≡ runs doc (c .end) (started whole doc (passing p (take len (drop at doc) ∷ ns)) fs u t))
+    child : (p : Purpose) (ns : List Name) (fs : List Frame) (u : Tables Shown) → suc (length ns) ≡ depth → (t : Tag) × TagIs doc c t × (runs doc from (reading (passing p (nameAt doc at len ∷ ns) ∷ fs) u) ≡ runs doc (c .end) (started whole doc (passing p (nameAt doc at len ∷ ns)) fs u t))
     child p ns fs u e =
         let d : Steps doc here at len (Next.Start c) = rw q at s in
-        let i = d .leads (passing p (take len (drop at doc) ∷ ns)) fs u refl in
+        let i = d .leads (passing p (nameAt doc at len ∷ ns)) fs u refl in
         (i .0, i .1, g .leads p ns fs u e ∙ i .2)
 
     pass-fits : (here < c .at) × TagFits doc c
@@ -64,8 +65,8 @@ module _ {doc : List ℕ} {from at len depth here : ℕ} (g : Sofar doc from at 
       leads = λ p ns fs u e. let i = child p ns fs u e in i .2 ∙ rw (sym (i .1 .closes) ∙ k);
     }
 
-    pub pass-deep : c .closes ≡ false → depth ≡ 1024 → Passes doc from at len depth (Passed.Fault (bare 7 (c .end)))
-    pass-deep k h = record {
+    pub pass-deep : {x : Refusal} → c .closes ≡ false → depth ≡ 1024 → x ≡ bare 7 (c .end) → Passes doc from at len depth (Passed.Fault x)
+    pass-deep k h b = rw b record {
       onward = tt;
       leads = λ p ns fs u e.
           let i = child p ns fs u e in
@@ -75,16 +76,16 @@ module _ {doc : List ℕ} {from at len depth here : ℕ} (g : Sofar doc from at 
 
     -- what is open in it is passed over too
     module _ (k : c .closes ≡ false) (h : depth ≡ 1024 → ⊥) (b : depth ≤ 1024) {r′ : Passed} (d : Passes doc (c .end) (c .at) (c .len) (depth + 1) r′) where
-      inner : (p : Purpose) (ns : List (List ℕ)) (fs : List Frame) (u : Tables Shown) → suc (length ns) ≡ depth → runs doc from (reading (passing p (take len (drop at doc) ∷ ns) ∷ fs) u) ≡ runs doc (c .end) (reading (passing p (take (c .len) (drop (c .at) doc) ∷ take len (drop at doc) ∷ ns) ∷ fs) u)
+      inner : (p : Purpose) (ns : List Name) (fs : List Frame) (u : Tables Shown) → suc (length ns) ≡ depth → runs doc from (reading (passing p (nameAt doc at len ∷ ns) ∷ fs) u) ≡ runs doc (c .end) (reading (passing p (nameAt doc (c .at) (c .len) ∷ nameAt doc at len ∷ ns) ∷ fs) u)
       inner p ns fs u e =
           let i = child p ns fs u e in
           let l : leb 1024 (suc (length ns)) ≡ false = lt-leb 1024 (suc (length ns)) (omega arith) in
-          i .2 ∙ rw (sym (i .1 .closes) ∙ k, l, i .1 .named .is)
+          i .2 ∙ rw (sym (i .1 .closes) ∙ k, l, tag-named (i .1))
 
       pub pass-inner-fault : {x : Refusal} → r′ ≡ Passed.Fault x → Passes doc from at len depth (Passed.Fault x)
       pass-inner-fault w = record {
         onward = tt;
-        leads = λ p ns fs u e. inner p ns fs u e ∙ (rw w at d) .leads p (take len (drop at doc) ∷ ns) fs u (rw add-one (ap suc e));
+        leads = λ p ns fs u e. inner p ns fs u e ∙ (rw w at d) .leads p (nameAt doc at len ∷ ns) fs u (rw add-one (ap suc e));
       }
 
       pub pass-inner : {lt end : ℕ} → r′ ≡ Passed.Closed lt end → Sofar doc from at len depth end
@@ -93,7 +94,7 @@ module _ {doc : List ℕ} {from at len depth here : ℕ} (g : Sofar doc from at 
           record {
             since = omega (arith, g .since, pass-fits .0, pass-fits .1 .inside, z .onward);
             inside = z .onward .2;
-            leads = λ p ns fs u e. inner p ns fs u e ∙ z .leads p (take len (drop at doc) ∷ ns) fs u (rw add-one (ap suc e));
+            leads = λ p ns fs u e. inner p ns fs u e ∙ z .leads p (nameAt doc at len ∷ ns) fs u (rw add-one (ap suc e));
           }
 
       pub pass-less : {lt end : ℕ} → r′ ≡ Passed.Closed lt end → length doc - end < length doc - here
@@ -117,4 +118,6 @@ module _ {doc : List ℕ} {from at len depth here : ℕ} (g : Sofar doc from at 
 pub pass-depth : (depth : ℕ) → depth ≤ 1024 → (depth ≡ 1024 → ⊥) → depth + 1 ≤ 1024
 pass-depth depth h n = omega arith
 
-pub ruleset passes = (pass-depth, pass-within, pass-named, pass-falls, pass-begins, pass-fault, pass-close, pass-self, pass-self-less, pass-deep, pass-inner-fault, pass-inner, pass-less, needs)
+pub ruleset passes = (pass-depth, pass-within, pass-named, pass-falls, pass-begins, pass-fault, pass-close, pass-self, pass-self-less, pass-inner-fault, pass-inner, pass-less, needs)
+
+pub ruleset deep = (pass-deep, passes)

@@ -11,14 +11,15 @@ use lib.Seq.{take-all}
 use Rattle.document.specs.Tags.{Shown}
 use Rattle.document.specs.Tokens.{Tag}
 use Rattle.document.specs.Rows.{Tables}
-use Rattle.document.specs.Reading.{Frame, State, reading, refused, closed, passing, ignored, withWarning, unsupported}
-use Rattle.document.specs.Outcome.{lent, Stands, Bounded, Ready, TagIs, Passes, Ignores, runs, whole, moved}
+use Rattle.document.specs.Reading.{Name, Frame, State, reading, refused, closed, passing, ignored, withWarning, unsupported}
+use Rattle.document.specs.Outcome.{lent, nameAt, Stands, Bounded, Ready, TagIs, Passes, Ignores, runs, whole, moved}
 use Rattle.document.specs.declared.Refusal.{Refusal}
 use Rattle.document.specs.declared.StartTag.{StartTag}
 use Rattle.document.specs.declared.Fill.{Fill}
 use Rattle.document.specs.declared.Answer.{Answer}
 use Rattle.document.specs.declared.Passed.{Passed}
 use Rattle.document.proofs.Loops.{moved-stands, name-inside}
+use Rattle.document.proofs.Openings.{tag-named}
 use Rattle.rows.specs.Outcome.{WarningPut, WarningFits}
 
 -- the counts after a start tag are small enough for its warning
@@ -67,9 +68,9 @@ module _ {doc : List ℕ} {c : StartTag} {f g : Fill} {w w′ : List ℕ} (r : R
   }
 
   module _ (x : c .closes ≡ false) {d : Passed} (l : Passes doc (c .end) (c .at) (c .len) 1 d) where
-    opens : (t : Tag) (fs : List Frame) (u : Tables Shown) → TagIs doc c t → runs doc (c .end) (unsupported whole doc t fs u) ≡ runs doc (c .end) (reading (passing ignored (take (c .len) (drop (c .at) doc) ∷ []) ∷ fs) (withWarning 1 (t .at) (t .name) u))
+    opens : (t : Tag) (fs : List Frame) (u : Tables Shown) → TagIs doc c t → runs doc (c .end) (unsupported whole doc t fs u) ≡ runs doc (c .end) (reading (passing ignored (nameAt doc (c .at) (c .len) ∷ []) ∷ fs) (withWarning 1 (t .at) (t .name) u))
     unfolding unsupported
-    opens t fs u z = rw (sym (z .closes) ∙ x) (ap (λ n. runs doc (c .end) (reading (passing ignored (n ∷ []) ∷ fs) (withWarning 1 (t .at) (t .name) u))) (z .named .is))
+    opens t fs u z = rw (sym (z .closes) ∙ x) (ap (λ (n : Name). runs doc (c .end) (reading (passing ignored (n ∷ []) ∷ fs) (withWarning 1 (t .at) (t .name) u))) (tag-named z))
 
     pub skipped-fault : {y : Refusal} → d ≡ Passed.Fault y → Ignores doc c f w w′ (Answer.Fault y)
     skipped-fault e = record {

@@ -3,7 +3,6 @@ use document::Answer;
 use document::Fill;
 use document::Next;
 use document::Passed;
-use document::Refusal;
 use document::StartTag;
 use document::kinds;
 use tags::step;
@@ -41,10 +40,7 @@ pub fn skip_element(
                     here = t.end;
                 } else {
                     if depth == 1024 {
-                        return Passed::Fault(Refusal {
-                            number: 7,
-                            place: t.end,
-                        });
+                        return Passed::Fault(document::bare(7, t.end));
                     }
                     match skip_element(doc, classes, t.end, t.at, t.len, depth + 1) {
                         Passed::Fault(refusal) => {

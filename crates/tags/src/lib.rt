@@ -1,18 +1,20 @@
 // Tags: the kind of a name, closing tags, start tags, and the next token from a place on.
 ghost use mathlib.Core.Path.{_≡_};
-ghost use Prim.Native.Nat.{_+_, _≤_, _-_, _<_, _^_};
+ghost use Prim.Native.Nat.{suc, _+_, _≤_, _-_, _<_, _^_};
 ghost use lib.ListN.{length, drop, take};
-ghost use Rattle.slices.specs.Bytes.{if, same};
+ghost use Rattle.slices.specs.Bytes.{if, other, same, span};
 ghost use Rattle.scan.specs.Classes.{Classes};
 ghost use Rattle.scan.specs.Colons.{Scanned};
 ghost use Rattle.document.specs.Tokens.{opening, closing, tag};
 ghost use Rattle.document.specs.Elements.{localKind, kindOf, localName};
 ghost use Rattle.document.specs.Prefixes.{localStart};
+ghost use Rattle.document.specs.Refusals.{showing, faultIn};
 ghost use Rattle.document.specs.Outcome.{Tokenises, Steps};
 ghost use Rattle.tags.specs.Kinds.{exactKind};
 ghost use Rattle.tags.specs.Outcome.{TagStart, TagAt, Ends};
 use attributes::Attrs;
 use document::ClosingTag;
+use document::Excerpt;
 use document::Next;
 use document::Refusal;
 use document::StartTag;
@@ -229,14 +231,41 @@ pub fn token(doc: &[u8], classes: &[u8; 256], from: usize) -> Token
     }
 }
 
+// A fault at a reference, which is shown from its place to its `;`.
+fn reference_in(doc: &[u8], number: u32, place: usize) -> Refusal
+    requires { ⌜ (place ≤ length (now doc)) × (length (now doc) ≤ 1048576) ⌝ }
+    ensures { λ r. ⌜ r ≡ showing number place (record { at = place; len = suc (length (span (other 59) (drop place (now (doc .entry))))) }) ⌝ }
+{
+    let end = slices::find(doc, place, b';');
+    document::showing(number, place, Excerpt::new(place, end - place + 1))
+}
+
+// The refusal of a fault: 8 shows the attribute's name, 10 and 11 the reference.
+pub fn fault_in(doc: &[u8], classes: &[u8; 256], number: u32, place: usize) -> Refusal
+    requires { ⌜ (place ≤ length (now doc)) × (length (now doc) ≤ 1048576) × Classes (now classes) ⌝ }
+    ensures { λ r. ⌜ r ≡ faultIn (now (doc .entry)) number place ⌝ }
+{
+    if number == 8 {
+        let name = scan::name_at(doc, classes, place);
+        return document::showing(number, place, Excerpt::new(place, name.end - place));
+    }
+    if number == 10 {
+        return reference_in(doc, number, place);
+    }
+    if number == 11 {
+        return reference_in(doc, number, place);
+    }
+    document::bare(number, place)
+}
+
 // What comes next in an open element, whose name stands at a place with a length: 5 at the end, 6 after another closing tag.
 pub fn step(doc: &[u8], classes: &[u8; 256], from: usize, at: usize, len: usize) -> Next
     requires { ⌜ (from ≤ length (now doc)) × (at + len ≤ length (now doc)) × (length (now doc) ≤ 1048576) × Classes (now classes) ⌝ }
     ensures { λ r. ⌜ Steps (now (doc .entry)) from at len r ⌝ }
 {
     match token(doc, classes, from) {
-        Token::Fault(number, place) => Next::Fault(Refusal { number, place }),
-        Token::End(place) => Next::Fault(Refusal { number: 5, place }),
+        Token::Fault(number, place) => Next::Fault(fault_in(doc, classes, number, place)),
+        Token::End(place) => Next::Fault(document::showing(5, place, Excerpt::new(at, len))),
         Token::Close(c) => {
             let open = at + len;
             let named = c.at;
@@ -244,9 +273,14 @@ pub fn step(doc: &[u8], classes: &[u8; 256], from: usize, at: usize, len: usize)
             if slices::equal(&doc[named..close], &doc[at..open]) {
                 return Next::Close(c.lt, c.end);
             }
+            let first = Excerpt::new(named, c.len);
+            let second = Excerpt::new(at, len);
             Next::Fault(Refusal {
-                number: 6,
                 place: c.end,
+                number: 6,
+                key: 0,
+                first,
+                second,
             })
         }
         Token::Start(c) => Next::Start(c),

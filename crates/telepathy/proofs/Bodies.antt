@@ -1,7 +1,7 @@
 -- The content of a definition: its parts and other children, and the loop over them.
 -- Assumes nothing.
 use Prim.Native.Nat.{ℕ, _+_, _-_, _≤_, _<_}
-use mathlib.Core.Path.{_≡_, refl, sym, _∙_, ap}
+use mathlib.Core.Path.{_≡_, refl, sym, _∙_, ap, subst}
 use mathlib.Core.List.{List, [], _∷_}
 use mathlib.Core.Bool.{Bool, true, false, not}
 use borrow.Author.Needs.{needs}
@@ -16,14 +16,15 @@ use Rattle.document.specs.Tokens.{Tag}
 use Rattle.document.specs.Rows.{Row, Tables}
 use Rattle.document.specs.Elements.{kindOf, among, heldBy, mayHold}
 use Rattle.document.specs.Reading as reading
-use Rattle.document.specs.Reading.{Frame, definition, State, reading, closed, child, begins, noted, oneMore}
+use Rattle.document.specs.Reading.{Name, Frame, definition, State, reading, closed, judged, child, begins, noted, oneMore}
 use Rattle.document.specs.Outcome as outcome
-use Rattle.document.specs.Outcome.{Lent, lent, Stands, Bounded, Ready, Steps, Begins, Others, runs, whole, moved}
+use Rattle.document.specs.Outcome.{Lent, lent, nameAt, Stands, Bounded, Ready, Steps, Begins, Others, runs, whole, moved}
 use Rattle.document.specs.declared.Refusal.{Refusal}
 use Rattle.document.specs.declared.StartTag.{StartTag}
 use Rattle.document.specs.declared.Fill.{Fill}
 use Rattle.document.specs.declared.Answer.{Answer}
 use Rattle.document.specs.declared.Next.{Next}
+use Rattle.document.proofs.Openings.{tag-named}
 use Rattle.document.proofs.Loops.{moved-stands, rows-kept}
 use Rattle.telepathy.specs.Outcome.{DefinitionKind, PartKind, Holds, Unseen, More, Noted, Child, Body, Content, Ends, seen, openAs, noParts}
 use Rattle.telepathy.specs.declared.Parts.{Parts}
@@ -53,7 +54,7 @@ pub ruleset holding = (holds-none, holds-enumvalue, holds-member, needs)
 -- ---- a part
 
 -- the part is noted in its definition
-noted-is : {m : ℕ} (k i lt why : ℕ) (n : List ℕ) (t : Tag) (fs : List Frame) (p q : Parts) → PartKind m → seen q ≡ oneMore m t (seen p) → noted m t (definition (openAs k i lt n why p) ∷ fs) ≡ definition (openAs k i lt n why q) ∷ fs
+noted-is : {m : ℕ} (k i lt why : ℕ) (n : Name) (t : Tag) (fs : List Frame) (p q : Parts) → PartKind m → seen q ≡ oneMore m t (seen p) → noted m t (definition (openAs k i lt n why p) ∷ fs) ≡ definition (openAs k i lt n why q) ∷ fs
 noted-is {m} k i lt why n t fs p q h e = rw (h .is) (ap (λ (x : reading.Parts). definition (record { kind = k; at = lt; name = n; row = i; reason = why; parts = x }) ∷ fs) (sym e))
 
 module _ {doc : List ℕ} {c : StartTag} {i : ℕ} {f : Fill} {b b′ : Lent} {a : Answer} (h : Begins doc (c .kind) c (i + 1) f b b′ a) where
@@ -138,7 +139,7 @@ pub record Sofar (doc : List ℕ) (k at len i : ℕ) (f₀ : Fill) (b₀ : Lent)
       Stands u b₀ f₀ →
       (v : Tables Shown)
       × Stands v b f
-      × (runs doc (f₀ .at) (reading (definition (openAs k i lt (take len (drop at doc)) why noParts) ∷ fs) u) ≡ runs doc (f .at) (reading (definition (openAs k i lt (take len (drop at doc)) why p) ∷ fs) v))
+      × (runs doc (f₀ .at) (reading (definition (openAs k i lt (nameAt doc at len) why noParts) ∷ fs) u) ≡ runs doc (f .at) (reading (definition (openAs k i lt (nameAt doc at len) why p) ∷ fs) v))
       × (take i (v .rows) ≡ take i (u .rows))
 
 module _ {doc : List ℕ} {k at len i : ℕ} {f₀ : Fill} {b₀ : Lent} where
@@ -158,7 +159,7 @@ module _ {doc : List ℕ} {k at len i : ℕ} {f₀ : Fill} {b₀ : Lent} where
       onward = tt;
       ends = λ lt why fs u z.
           let x = g .leads lt why fs u z in
-          x .2 ∙ (rw e at s) .leads (definition (openAs k i lt (take len (drop at doc)) why p)) fs (x .0) refl;
+          x .2 ∙ (rw e at s) .leads (definition (openAs k i lt (nameAt doc at len) why p)) fs (x .0) refl;
     }
 
     pub body-close : {lt end : ℕ} → r ≡ Next.Close lt end → Body doc k at len i f₀ b₀ b (Inner.Done (moved f end) p)
@@ -178,7 +179,7 @@ module _ {doc : List ℕ} {k at len i : ℕ} {f₀ : Fill} {b₀ : Lent} where
           );
           ends = λ lt why fs u z.
               let x = g .leads lt why fs u z in
-              (x .0, moved-stands end (x .1), x .2 ∙ c .leads (definition (openAs k i lt (take len (drop at doc)) why p)) fs (x .0) refl, x .3);
+              (x .0, moved-stands end (x .1), x .2 ∙ c .leads (definition (openAs k i lt (nameAt doc at len) why p)) fs (x .0) refl, x .3);
         }
 
     module _ {c : StartTag} (q : r ≡ Next.Start c) where
@@ -203,8 +204,8 @@ module _ {doc : List ℕ} {k at len i : ℕ} {f₀ : Fill} {b₀ : Lent} where
           onward = tt;
           ends = λ lt why fs u z.
               let x = g .leads lt why fs u z in
-              let y = start .leads (definition (openAs k i lt (take len (drop at doc)) why p)) fs (x .0) refl in
-              x .2 ∙ y .2 ∙ (rw w at h) .ends lt why (take len (drop at doc)) (y .0) fs (x .0) (y .1) (moved-stands (c .end) (x .1));
+              let y = start .leads (definition (openAs k i lt (nameAt doc at len) why p)) fs (x .0) refl in
+              x .2 ∙ y .2 ∙ (rw w at h) .ends lt why (nameAt doc at len) (y .0) fs (x .0) (y .1) (moved-stands (c .end) (x .1));
         }
 
         pub body-child : {g′ : Fill} {p′ : Parts} → a ≡ Inner.Done g′ p′ → Sofar doc k at len i f₀ b₀ g′ p′ b′
@@ -218,8 +219,8 @@ module _ {doc : List ℕ} {k at len i : ℕ} {f₀ : Fill} {b₀ : Lent} where
               few = j .onward .2;
               leads = λ lt why fs u z.
                   let x = g .leads lt why fs u z in
-                  let y = start .leads (definition (openAs k i lt (take len (drop at doc)) why p)) fs (x .0) refl in
-                  let o = j .ends lt why (take len (drop at doc)) (y .0) fs (x .0) (y .1) (moved-stands (c .end) (x .1)) in
+                  let y = start .leads (definition (openAs k i lt (nameAt doc at len) why p)) fs (x .0) refl in
+                  let o = j .ends lt why (nameAt doc at len) (y .0) fs (x .0) (y .1) (moved-stands (c .end) (x .1)) in
                   (o .0, o .1, x .2 ∙ y .2 ∙ o .2, o .3 ∙ x .3);
             }
 
@@ -244,7 +245,7 @@ module _ {doc : List ℕ} {c : StartTag} {i : ℕ} {f : Fill} {b : Lent} where
   content-body {b′} {r} d x l = record {
     kind = d;
     onward = l .onward;
-    ends = λ why t fs u z s. rw (sym (z .closes) ∙ x, z .named .is) (l .ends (t .at) why fs u s);
+    ends = λ why t fs u z s. rw (sym (z .closes) ∙ x) (subst (λ (n : Name). Ends doc (runs doc (f .at) (reading (definition (openAs (c .kind) i (t .at) n why noParts) ∷ fs) u)) (λ q v. closed fs (judged (openAs (c .kind) i (t .at) n why q) v)) i (take i (u .rows)) b′ r) (sym (tag-named z)) (l .ends (t .at) why fs u s));
   }
 
 pub ruleset contents = (content-none, content-body, needs)

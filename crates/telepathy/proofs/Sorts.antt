@@ -16,13 +16,13 @@ use Rattle.document.specs.Tags.{Shown}
 use Rattle.document.specs.Tokens.{Tag}
 use Rattle.document.specs.Rows.{Row, Tables}
 use Rattle.document.specs.Elements.{among, heldBy}
-use Rattle.document.specs.Reading.{Frame, element, State, reading, closed, parentOf, withRow, noted, entered, begins}
+use Rattle.document.specs.Reading.{tagName, Frame, element, State, reading, closed, parentOf, withRow, noted, entered, begins}
 use Rattle.document.specs.Outcome.{Lent, lent, Stands, Ready, Bounded, TagIs, Opening, Begins, Others, Child, Children, Steps, Onward, Ends, runs, whole, moved}
 use Rattle.document.specs.declared.StartTag.{StartTag}
 use Rattle.document.specs.declared.Fill.{Fill}
 use Rattle.document.specs.declared.Answer.{Answer}
 use Rattle.document.specs.declared.Next.{Next}
-use Rattle.document.proofs.Openings.{opening-fault, opening-bounds, opening-owner}
+use Rattle.document.proofs.Openings.{tag-named, opening-fault, opening-bounds, opening-owner}
 use Rattle.document.proofs.Loops.{Sofar, loop-begins, loop-fault, loop-close, loop-ready, loop-child-fault, loop-child, loop-less, child-other, name-inside, moved-owner}
 use Rattle.telepathy.specs.Outcome.{DefinitionKind, PartKind, PartContent}
 
@@ -83,7 +83,7 @@ module _ {doc : List ℕ} {c : StartTag} {i : ℕ} {f : Fill} {b : Lent} where
     kind = j;
     onward = l .onward;
     ends = λ t fs u z s.
-        rw (sym (z .closes) ∙ x, z .named .is)
+        rw (sym (z .closes) ∙ x, tag-named z)
         (l .ends (c .kind) fs u (by-part (λ m. heldBy m ≡ []) refl refl j) (by-part (λ m. not (eqb m kinds.annotation) ≡ true) refl refl j) s);
   }
 
@@ -129,7 +129,7 @@ part-done {doc} {c} {f = f} {g = g} {b} {r} o e l =
     carried doc (f .rows) (noted (c .kind) t fs) b r (inside t fs u (s .many) row) refl
     (l .ends t (noted (c .kind) t fs) (withRow row u) z j))
   where
-    inside : (t : Tag) (fs : List Frame) (u : Tables Shown) → length (u .rows) ≡ f .rows → (row : Row Shown) → runs doc (c .end) (entered whole doc (c .kind) t row fs u) ≡ runs doc (g .at) (if (t .self) (closed (noted (c .kind) t fs) (withRow row u)) (reading (element (c .kind) (t .name) (f .rows) ∷ noted (c .kind) t fs) (withRow row u)))
+    inside : (t : Tag) (fs : List Frame) (u : Tables Shown) → length (u .rows) ≡ f .rows → (row : Row Shown) → runs doc (c .end) (entered whole doc (c .kind) t row fs u) ≡ runs doc (g .at) (if (t .self) (closed (noted (c .kind) t fs) (withRow row u)) (reading (element (c .kind) (tagName t) (f .rows) ∷ noted (c .kind) t fs) (withRow row u)))
     inside t fs u n row = rw (opening-end o e, by-part (λ m. among m kinds.definitions ≡ false) refl refl (l .kind), by-part (λ m. eqb m 1 ≡ false) refl refl (l .kind), n)
 
 pub part-parent : {doc : List ℕ} {c : StartTag} {f : Fill} {i : ℕ} → Ready doc c f → i < f .rows → i + 1 ≤ 1048576

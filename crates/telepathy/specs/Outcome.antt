@@ -14,9 +14,9 @@ use Rattle.document.specs.Tokens.{Tag}
 use Rattle.document.specs.Rows.{Row, Tables}
 use Rattle.document.specs.Elements.{among, heldBy, attr}
 use Rattle.document.specs.Reading as reading
-use Rattle.document.specs.Reading.{Definition, Frame, element, definition, State, refused, closed, judged, child, begins, tagReason, partsReason, reasonOf, complete, isSome, oneMore}
+use Rattle.document.specs.Reading.{Name, tagName, Definition, Frame, element, definition, State, refused, closed, judged, child, begins, tagReason, partsReason, reasonOf, complete, isSome, oneMore}
 use Rattle.document.specs.Outcome as outcome
-use Rattle.document.specs.Outcome.{Lent, lent, Stands, Bounded, Ready, TagIs, runs, whole}
+use Rattle.document.specs.Outcome.{Lent, lent, nameAt, Stands, Bounded, Ready, TagIs, runs, whole}
 use Rattle.document.specs.declared.StartTag.{StartTag}
 use Rattle.document.specs.declared.Fill.{Fill}
 use Rattle.document.specs.declared.Answer.{Answer}
@@ -39,7 +39,7 @@ pub record PartContent (doc : List ℕ) (c : StartTag) (i : ℕ) (f : Fill) (b b
       (t : Tag) (fs : List Frame) (u : Tables Shown) →
       TagIs doc c t →
       Stands u b f →
-      outcome.Ends doc (runs doc (f .at) (if (t .self) (closed fs u) (reading.reading (element (c .kind) (t .name) i ∷ fs) u))) fs i (take i (u .rows)) b′ r
+      outcome.Ends doc (runs doc (f .at) (if (t .self) (closed fs u) (reading.reading (element (c .kind) (tagName t) i ∷ fs) u))) fs i (take i (u .rows)) b′ r
 
 -- whether a definition holds parts of a kind
 pub record Holds (k c : ℕ) (r : Bool) : Type 0 where
@@ -73,7 +73,7 @@ pub record More (doc : List ℕ) (c : StartTag) (f : Fill) (p r : Parts) : Type 
   pub is : (t : Tag) → TagIs doc c t → seen r ≡ oneMore (c .kind) t (seen p)
 
 -- a definition that is open: kind, row, place of `<`, name, the tag's reason, parts
-abbrev pub openAs : ℕ → ℕ → ℕ → List ℕ → ℕ → Parts → Definition
+abbrev pub openAs : ℕ → ℕ → ℕ → Name → ℕ → Parts → Definition
 openAs k i lt n why p = record { kind = k; at = lt; name = n; row = i; reason = why; parts = seen p }
 
 -- why a definition is dropped: by its tag, by its parts, by both
@@ -84,7 +84,7 @@ pub record PartsTold (k : ℕ) (p : Parts) (r : ℕ) : Type 0 where
   pub is : r ≡ partsReason k (seen p)
 
 abbrev pub tagged : StartTag → ℕ → Tag → Parts → Definition
-tagged c i t p = openAs (c .kind) i (t .at) (t .name) (tagReason (c .kind) (attr (bytes "name") t) (attr (bytes "type") t)) p
+tagged c i t p = openAs (c .kind) i (t .at) (tagName t) (tagReason (c .kind) (attr (bytes "name") t) (attr (bytes "type") t)) p
 
 pub record Told (doc : List ℕ) (c : StartTag) (p : Parts) (r : ℕ) : Type 0 where
   pub is : (t : Tag) (i : ℕ) → TagIs doc c t → r ≡ reasonOf (tagged c i t p)
@@ -105,7 +105,7 @@ Ends doc s after i before b (Inner.Done g p) =
 pub record Noted (doc : List ℕ) (c : StartTag) (i : ℕ) (p : Parts) (f : Fill) (b b′ : Lent) (r : Inner) : Type 0 where
   pub onward : Onward doc f r
   pub ends :
-      (k lt why : ℕ) (n : List ℕ) (t : Tag) (fs : List Frame) (u : Tables Shown) →
+      (k lt why : ℕ) (n : Name) (t : Tag) (fs : List Frame) (u : Tables Shown) →
       TagIs doc c t →
       Stands u b f →
       Ends doc (runs doc (c .end) (begins whole doc (c .kind) t (definition (openAs k i lt n why p) ∷ fs) u)) (λ q v. reading.reading (definition (openAs k i lt n why q) ∷ fs) v) (f .rows) (u .rows) b′ r
@@ -114,7 +114,7 @@ pub record Noted (doc : List ℕ) (c : StartTag) (i : ℕ) (p : Parts) (f : Fill
 pub record Child (doc : List ℕ) (k i : ℕ) (c : StartTag) (p : Parts) (f : Fill) (b b′ : Lent) (r : Inner) : Type 0 where
   pub onward : Onward doc f r
   pub ends :
-      (lt why : ℕ) (n : List ℕ) (t : Tag) (fs : List Frame) (u : Tables Shown) →
+      (lt why : ℕ) (n : Name) (t : Tag) (fs : List Frame) (u : Tables Shown) →
       TagIs doc c t →
       Stands u b f →
       Ends doc (runs doc (c .end) (child whole doc k i t (definition (openAs k i lt n why p) ∷ fs) u)) (λ q v. reading.reading (definition (openAs k i lt n why q) ∷ fs) v) i (take i (u .rows)) b′ r
@@ -125,7 +125,7 @@ pub record Body (doc : List ℕ) (k at len i : ℕ) (f : Fill) (b b′ : Lent) (
   pub ends :
       (lt why : ℕ) (fs : List Frame) (u : Tables Shown) →
       Stands u b f →
-      Ends doc (runs doc (f .at) (reading.reading (definition (openAs k i lt (take len (drop at doc)) why noParts) ∷ fs) u)) (λ q v. closed fs (judged (openAs k i lt (take len (drop at doc)) why q) v)) i (take i (u .rows)) b′ r
+      Ends doc (runs doc (f .at) (reading.reading (definition (openAs k i lt (nameAt doc at len) why noParts) ∷ fs) u)) (λ q v. closed fs (judged (openAs k i lt (nameAt doc at len) why q) v)) i (take i (u .rows)) b′ r
 
 -- a definition whose row is put: it closes, or goes on
 abbrev pub entering : Tag → Definition → List Frame → Tables Shown → State Shown
@@ -139,7 +139,7 @@ pub record Content (doc : List ℕ) (c : StartTag) (i : ℕ) (f : Fill) (b b′ 
       (why : ℕ) (t : Tag) (fs : List Frame) (u : Tables Shown) →
       TagIs doc c t →
       Stands u b f →
-      Ends doc (runs doc (f .at) (entering t (openAs (c .kind) i (t .at) (t .name) why noParts) fs u)) (λ q v. closed fs (judged (openAs (c .kind) i (t .at) (t .name) why q) v)) i (take i (u .rows)) b′ r
+      Ends doc (runs doc (f .at) (entering t (openAs (c .kind) i (t .at) (tagName t) why noParts) fs u)) (λ q v. closed fs (judged (openAs (c .kind) i (t .at) (tagName t) why q) v)) i (take i (u .rows)) b′ r
 
 -- a definition that began at f is read up to h
 pub record Judging (doc : List ℕ) (c : StartTag) (f h : Fill) : Type 0 where

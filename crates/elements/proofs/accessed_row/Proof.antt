@@ -8,13 +8,17 @@ pub accessed-row-spec : {M : Type 1} → statement M
 accessed-row-spec =
     tie.close
     (tie.spec
+    (λ c κs. search properties)
     (λ c. search properties)
+    (λ c κs. search properties)
+    (λ c κs. search properties)
     (λ c. search properties)
+    (λ c κs. search properties)
+    (λ c κs. search properties)
     (λ c. search properties)
+    (λ c κs. search properties)
     (λ c. search properties)
-    (λ c. search properties)
-    (λ c. search properties)
-    (λ c. search properties)
+    (λ c κs. search properties)
     (λ c. search properties)
     (λ c. search properties)
     (λ c. search properties))

@@ -8,10 +8,12 @@ pub annotation-row-spec : {M : Type 1} → statement M
 annotation-row-spec =
     tie.close
     (tie.spec
+    (λ c κs. search elements)
     (λ c. search elements)
+    (λ c κs. search elements)
     (λ c. search elements)
-    (λ c. search elements)
-    (λ c. search elements)
+    (λ c κs. search elements)
+    (λ c κs. search elements)
     (λ c. search elements)
     (λ c. search elements)
     (λ c. search elements))

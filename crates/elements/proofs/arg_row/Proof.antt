@@ -8,12 +8,15 @@ pub arg-row-spec : {M : Type 1} → statement M
 arg-row-spec =
     tie.close
     (tie.spec
+    (λ c κs. search args)
     (λ c. search args)
+    (λ c κs. search args)
+    (λ c κs. search args)
     (λ c. search args)
+    (λ c κs. search args)
+    (λ c κs. search args)
     (λ c. search args)
-    (λ c. search args)
-    (λ c. search args)
-    (λ c. search args)
+    (λ c κs. search args)
     (λ c. search args)
     (λ c. search args)
     (λ c. search args))

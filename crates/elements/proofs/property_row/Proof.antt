@@ -8,10 +8,12 @@ pub property-row-spec : {M : Type 1} → statement M
 property-row-spec =
     tie.close
     (tie.spec
+    (λ c κs. search properties)
     (λ c. search properties)
+    (λ c κs. search properties)
+    (λ c κs. search properties)
     (λ c. search properties)
-    (λ c. search properties)
-    (λ c. search properties)
+    (λ c κs. search properties)
     (λ c. search properties)
     (λ c. search properties)
     (λ c. search properties))

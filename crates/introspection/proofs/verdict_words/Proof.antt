@@ -9,7 +9,7 @@ verdict-words-spec =
     tie.close
     (tie.spec
     (λ c. search words)
-    (λ c. search words)
+    (λ c κs. search words)
     (λ c. search words)
     (λ c. search words)
     (λ c. search words))

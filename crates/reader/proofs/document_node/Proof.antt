@@ -8,13 +8,16 @@ pub document-node-spec : {M : Type 1} → statement M
 document-node-spec =
     tie.close
     (tie.spec
+    (λ c κs. search firsts)
+    (λ c. search firsts)
+    (λ c κs. search firsts)
+    (λ c. search firsts)
+    (λ c κs. search firsts)
     (λ c. search firsts)
     (λ c. search firsts)
+    (λ c κs. search firsts)
     (λ c. search firsts)
-    (λ c. search firsts)
-    (λ c. search firsts)
-    (λ c. search firsts)
-    (λ c. search firsts)
+    (λ c κs. search firsts)
     (λ c. search firsts)
     (λ c. search firsts)
     (λ c. search firsts)

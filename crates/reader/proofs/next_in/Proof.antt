@@ -8,7 +8,7 @@ pub next-in-spec : {M : Type 1} → statement M
 next-in-spec =
     tie.close
     (tie.spec
+    (λ c κs. search nexts)
     (λ c. search nexts)
-    (λ c. search nexts)
-    (λ c. search nexts)
+    (λ c κs. search nexts)
     (λ c. search nexts))

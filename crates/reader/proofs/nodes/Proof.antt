@@ -2,8 +2,8 @@
 -- Assumes nothing.
 use Prim.Native.Nat.{_-_}
 use mathlib.Core.Path.{_≡_}
-use lib.ListN.{length, take, drop}
-use Rattle.document.specs.Outcome.{lent}
+use lib.ListN.{length}
+use Rattle.document.specs.Outcome.{lent, nameAt}
 use Rattle.reader.proofs.Rooted.{Sofar}
 use Rattle.reader.proofs.Rooted.{walking}
 use Rattle.reader.proofs.nodes.Statement.{statement}
@@ -11,7 +11,7 @@ use Rattle.reader.proofs.nodes.Tie as tie
 
 abbrev Inv-loop : tie.InvT-loop
 Inv-loop doc classes rows₀ warnings₀ text₀ opened₀ at len w₀ rows warnings text opened w =
-    Sofar doc (take len (drop at doc)) opened₀ w₀ (lent rows₀ warnings₀ text₀) opened w (lent rows warnings text)
+    Sofar doc (nameAt doc at len) opened₀ w₀ (lent rows₀ warnings₀ text₀) opened w (lent rows warnings text)
     × (length rows ≡ length rows₀)
     × (length warnings ≡ length warnings₀)
     × (length text ≡ length text₀)

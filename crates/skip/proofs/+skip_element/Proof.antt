@@ -2,12 +2,13 @@
 -- Assumes nothing.
 use Prim.Native.Nat.{ℕ, _<_, _-_}
 use lib.ListN.{length}
-use Rattle.skip.proofs.Passing.{Sofar, passes}
+use Rattle.skip.proofs.Passing.{Sofar, passes, deep}
 use borrow.Fn.Kinds.{In}
 use borrow.Fn.PlainCycle.{Measures, is, falls, and}
 use Rattle.skip.proofs.skip_element.Reads as skip
 use Rattle.skip.proofs.skip_element.Kinds as skip-kinds
 use Rattle.skip.proofs.+skip_element.Lts-skip_element as skip-lts
+use Rattle.document.proofs.bare.Reads as bare-reads
 use Rattle.tags.proofs.step.Reads as step-reads
 use Rattle.skip.proofs.+skip_element.{statement}
 use Rattle.skip.proofs.+skip_element.Tie.{close}
@@ -31,6 +32,8 @@ pub +skip-element-spec : {M : Type 1} → statement M
 +skip-element-spec = close μ-skip λ t. skip-lts.spec (
   step-reads.Asked,
   step-reads.Learnt,
+  bare-reads.Asked,
+  bare-reads.Learnt,
   skip-below t,
   skip.Post,
 )
@@ -47,11 +50,12 @@ pub +skip-element-spec : {M : Type 1} → statement M
     (λ c. search passes)
     (λ c. search passes)
     (λ c. search passes)
-    (λ c. search passes)
+    (λ c κs. search passes)
+    (λ c. search deep)
     (λ c. search passes)
     (λ c κs. (search passes, (search passes, (search passes, (search passes, (search passes, search passes))))))
     (λ c. search passes)
-    (λ c. search passes)
+    (λ c. search (c .before .before .before .before .before .before .before .before .before .step .ensures, c .before .before .before .before .before .before .before .before .before .before .loop .inv, c .before .before .before .before .before .before .before .before .before .before .before .before .pre, passes))
     (λ c. search passes)
     (λ c. search passes)
     (λ c. search passes)

@@ -8,6 +8,12 @@ pub step-spec : {M : Type 1} → statement M
 step-spec =
     tie.close
     (tie.spec
+    (λ c κs. search stepping)
+    (λ c. search stepping)
+    (λ c κs. search stepping)
+    (λ c. search stepping)
+    (λ c κs. search stepping)
+    (λ c κs. search stepping)
     (λ c. search stepping)
     (λ c. search stepping)
     (λ c. search stepping)
@@ -17,11 +23,10 @@ step-spec =
     (λ c. search stepping)
     (λ c. search stepping)
     (λ c. search stepping)
+    (λ c κs. search stepping)
     (λ c. search stepping)
-    (λ c. search stepping)
-    (λ c. search stepping)
-    (λ c. search stepping)
-    (λ c. search stepping)
+    (λ c κs. search stepping)
+    (λ c κs. search stepping)
     (λ c. search stepping)
     (λ c. search stepping)
     (λ c. search stepping)

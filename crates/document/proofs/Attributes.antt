@@ -13,11 +13,11 @@ use Rattle.scan.specs.Ignorable.{quote}
 use Rattle.answers.specs.Text.{Text, text, wrong}
 use Rattle.references.specs.Unescape.{unescape}
 use Rattle.references.proofs.Shapes.{unescape-short}
 use Rattle.document.specs.Tags.{Attr, Found, absent, found, closeQuote, openQuote, equals, named, spaced, attribute, Gathered, gathered, tooMany, with, another, noMore, gather, Shown, Checked, good, also, member, check}
 use Rattle.document.specs.Tags as tags
 use Rattle.document.proofs.Tests.{either}
-use Rattle.bounds.proofs.Branches.{span-past, Number}
-use Rattle.bounds.proofs.Values.{Told, unescape-told}
+use Rattle.document.proofs.Branches.{span-past, Number}
+use Rattle.document.proofs.Unescapes.{Told, unescape-told, faulty-number}
 
 -- the number and place of a fault met while reading
 pub record Met (top n p : ℕ) : Type 0 where
@@ -130,8 +130,8 @@ module _ (top : ℕ) where
   Checks xs (good ss) = textTotal ss ≤ rawTotal xs
   Checks xs (tags.fault n p) = Met top n p
 
-  also-checks : (a : Attr) (xs : List Attr) (t : Text) (c : Checked) → Lies top a → unescape (a .raw) ≡ t → Told (length (a .raw)) t → Checks xs c → Checks (a ∷ xs) (also a t c)
-  also-checks a xs (wrong n p) c l e h i = record { number = h .0; place = omega (arith, h .1, l .value) }
+  also-checks : (a : Attr) (xs : List Attr) (t : Text) (c : Checked) → Lies top a → unescape (a .raw) ≡ t → Told (a .raw) t → Checks xs c → Checks (a ∷ xs) (also a t c)
+  also-checks a xs (wrong n p) c l e h i = record { number = faulty-number (h .1); place = omega (arith, h .0, l .value) }
   also-checks a xs (text t) (good ss) l e h i = omega (arith, unescape-short (a .raw) t e)
   also-checks a xs (text t) (tags.fault n p) l e h i = i
 

@@ -12,13 +12,15 @@ use Rattle.scan.specs.Classes.{white, nameByte}
 use Rattle.scan.specs.Ignorable.{ignorable}
 use Rattle.scan.specs.declared.Scan.{Scan}
 use Rattle.scan.specs.declared.Scan.the-variants.{Fault, At}
 use Rattle.document.specs.Tags.{Attr, Gathered, gathered, tooMany, gather, Shown, Checked, good, check}
 use Rattle.document.specs.Tags as tags
 use Rattle.document.specs.Tokens.{Tag, Token, start, close, fault, end, Next, more, last, slashEnd, tagEnd, withShown, withAttrs, opening, closeEnd, closing, tag, tagOrEnd, pastIgnorable, next}
-use Rattle.document.proofs.Tests.{either}
-use Rattle.bounds.proofs.Branches.{span-past, not-empty}
-use Rattle.bounds.proofs.Ignorables.{Scanned, ignorable-within}
-use Rattle.bounds.proofs.Attributes.{Met, rawTotal, textTotal, Gathers, gather-within, Checks, check-within}
+use Rattle.document.specs.Elements.{among}
+use Rattle.document.specs.Refusals.{faults}
+use Rattle.document.proofs.Tests.{either, among-all}
+use Rattle.document.proofs.Branches.{span-past, not-empty}
+use Rattle.document.proofs.Ignorables.{Scanned, ignorable-within}
+use Rattle.document.proofs.Attributes.{Met, rawTotal, textTotal, Gathers, gather-within, Checks, check-within}
 
 -- a start tag that is looked for from a place on, and the place after it: `<`, a name, `>` or `/>`
 pub record Starts (from top : ℕ) (t : Tag) (q : ℕ) : Type 0 where
@@ -127,5 +129,5 @@ unfolding next
 next-reaches l at = go (ignorable l at) (ignorable-within l at)
   where
     go : (s : Scan) → Scanned at (at + length l) s → Reaches at (at + length l) (pastIgnorable s l at)
-    go (Fault n p) h = record { number = h .0; place = h .1 }
+    go (Fault n p) h = record { number = among-all (λ m. among m faults) n (22 ∷ 23 ∷ 24 ∷ 25 ∷ []) refl (h .0); place = h .1 }
     go (At p) h = tag-or-end at (at + length l) (drop (p - at) l) p (h .0) (rw length-drop (omega (arith, h)))

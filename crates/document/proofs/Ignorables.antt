@@ -3,6 +3,7 @@
 use Prim.Native.Nat.{ℕ, zero, suc, _+_, _-_, _≤_}
 use mathlib.Core.Path.{_≡_, refl}
 use mathlib.Core.List.{List, [], _∷_}
+use mathlib.Core.Bool.{true}
 use native.Mathlib.Omega.{arith}
 use lib.Dec.{eqb}
 use lib.ListN.{length, drop, length-drop}
@@ -13,16 +14,20 @@ use Rattle.scan.specs.declared.Scan.{Scan}
 use Rattle.scan.specs.declared.Scan.the-variants.{Fault, At}
 use Rattle.scan.specs.declared.Markup.{Markup}
 use Rattle.scan.specs.declared.Markup.the-variants.{Tag, Ignored}
 use Rattle.document.proofs.Tests.{either}
-use Rattle.bounds.proofs.Branches.{Number}
+use Rattle.document.specs.Elements.{among}
+
+-- the numbers of what is not ended: a comment, a CDATA section, a processing instruction, a declaration
+abbrev pub Unended : ℕ → Type 0
+Unended n = among n (22 ∷ 23 ∷ 24 ∷ 25 ∷ []) ≡ true
 
 -- a scan comes to a place from `from` to `top`, or to a fault at a place up to `top`
 abbrev pub Scanned : ℕ → ℕ → Scan → Type 0
-Scanned from top (Fault n p) = Number n × (p ≤ top)
+Scanned from top (Fault n p) = Unended n × (p ≤ top)
 Scanned from top (At p) = (from ≤ p) × (p ≤ top)
 
 module _ (from top : ℕ) where
-  seek-within : (n : ℕ) → Number n → (key : List ℕ) (c : ℕ) (l : List ℕ) (p : ℕ) → c ≤ top → from ≤ p → p + length l ≡ top → Scanned from top (seek n key c l p)
+  seek-within : (n : ℕ) → Unended n → (key : List ℕ) (c : ℕ) (l : List ℕ) (p : ℕ) → c ≤ top → from ≤ p → p + length l ≡ top → Scanned from top (seek n key c l p)
   seek-within n m key c [] p h f e = (m, h)
   seek-within n m key c (b ∷ l) p h f e =
       either (Scanned from top) (starts key (b ∷ l))

@@ -11,7 +11,7 @@ use lib.ListN.{length, drop, take, getD, length-drop}
 use lib.Seq.{drop-drop, getD-drop, take-at}
 use Rattle.slices.specs.Bytes.{if, span, past}
 use Rattle.slices.proofs.Runs.{Stops, past-at}
-use Rattle.bounds.proofs.Branches.{span-and-past}
+use Rattle.document.proofs.Branches.{span-and-past}
 
 -- what follows a run does not begin with a byte of its class
 pub past-begins : (p : ℕ → Bool) (l : List ℕ) → Stops p (past p l)

@@ -1,0 +1,6 @@
+-- The laws on messages.
+-- Assumes nothing.
+pub mod Excerpts
+pub mod Framed
+pub mod Numbers
+pub mod Entries
