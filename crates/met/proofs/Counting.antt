@@ -99,7 +99,7 @@ module _ (doc : List ℕ) where
   unfolding step
   close-counted n begun lt m q h = absurd (omega arith)
   close-counted n (reading [] u) lt m q h = absurd h
-  close-counted n (reading (f ∷ fs) u) lt m q h = either (Counted n) (same m (nameOf f)) (λ e. shut-counted n f fs u lt h) (λ e. tt)
+  close-counted n (reading (f ∷ fs) u) lt m q h = either (Counted n) (same m (nameOf f .bytes)) (λ e. shut-counted n f fs u lt h) (λ e. tt)
   close-counted n (accepted u) lt m q h = absurd h
   close-counted n (refused x) lt m q h = absurd h
 
