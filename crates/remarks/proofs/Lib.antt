@@ -12,3 +12,5 @@ pub mod Contents
 pub mod Standing
 pub mod Whole
 pub mod Symmetry
+pub mod Showing
+pub mod Shown

@@ -29,16 +29,16 @@ use Rattle.remarks.proofs.Standing.{Begins, starts-split, Found, seek-s
 
 -- ---- the two documents, from `<` to `>` and around it
 
-record Shape (c e : ℕ) (d d′ : List ℕ) : Type 0 where
-  before : List ℕ
-  inside : List ℕ
-  other : List ℕ
-  after : List ℕ
-  is : before ++ 60 ∷ (inside ++ 62 ∷ after) ≡ d
-  is-other : before ++ 60 ∷ (other ++ 62 ∷ after) ≡ d′
-  place : length before ≡ c
-  long : length inside ≡ length other
-  ends : c + suc (length inside + 1) ≡ e
+pub record Shape (c e : ℕ) (d d′ : List ℕ) : Type 0 where
+  pub before : List ℕ
+  pub inside : List ℕ
+  pub other : List ℕ
+  pub after : List ℕ
+  pub is : before ++ 60 ∷ (inside ++ 62 ∷ after) ≡ d
+  pub is-other : before ++ 60 ∷ (other ++ 62 ∷ after) ≡ d′
+  pub place : length before ≡ c
+  pub long : length inside ≡ length other
+  pub ends : c + suc (length inside + 1) ≡ e
 
 -- what follows the key that was found
 found-rest : (key x l : List ℕ) (at e : ℕ) (f : Found key l at e) → l ≡ drop at x → drop e x ≡ f .rest
@@ -78,7 +78,7 @@ module _ (c e : ℕ) (d d′ : List ℕ) (w : Differ c e d d′) where
   rests =
       sym (found-rest (bytes "-->") d′ (drop (c + 4) d′) (c + 4) e there refl) ∙ sym (w .after) ∙ found-rest (bytes "-->") d (drop (c + 4) d) (c + 4) e here refl
 
-  shape : Shape c e d d′
+  pub shape : Shape c e d d′
   shape = record {
     before = take c d;
     inside = 33 ∷ 45 ∷ 45 ∷ (here .front ++ 45 ∷ 45 ∷ []);
@@ -110,7 +110,7 @@ module _ (c e : ℕ) (d d′ : List ℕ) (w : Differ c e d d′) where
   far : (x : List ℕ) → Found (bytes "-->") x (c + 4) e → e ≤ c + 4 + length x
   far x f = rw (f .is, length-append (f .front) (bytes "-->" ++ f .rest)) (omega (arith, f .long))
 
-  same-tokens : (tokens d 0 ≡ tokens d′ 0) × AllOut c e (tokens d 0)
+  pub same-tokens : (tokens d 0 ≡ tokens d′ 0) × AllOut c e (tokens d 0)
   unfolding tokens comments
   same-tokens =
       let s = take (c + 4) d in
@@ -123,7 +123,7 @@ module _ (c e : ℕ) (d d′ : List ℕ) (w : Differ c e d d′) where
 -- ---- the same state
 
 -- a closing tag begins outside of the comment
-close-out : (c e lt : ℕ) (n : List ℕ) → (suc (suc lt) + length n ≤ c) ⊎ (e ≤ lt) → Out c e lt
+pub close-out : (c e lt : ℕ) (n : List ℕ) → (suc (suc lt) + length n ≤ c) ⊎ (e ≤ lt) → Out c e lt
 close-out c e lt n (inl h) = inl (omega arith)
 close-out c e lt n (inr h) = inr h
 
