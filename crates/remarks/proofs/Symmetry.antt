@@ -23,7 +23,7 @@ use Rattle.remarks.proofs.Comments.{among-first, among-second, among-ei
 use Rattle.remarks.specs.Differing.{Differ, MetInBoth}
 use Rattle.remarks.proofs.Local.{markup-local}
 use Rattle.remarks.proofs.Meeting.{passed-since, comment-bytes}
-use Rattle.remarks.proofs.Whole.{room, met-same}
+use Rattle.remarks.proofs.Whole.{room, front-also, met-same}
 
 -- ---- among others
 
@@ -98,7 +98,7 @@ module _ (c e : ℕ) (d d′ : List ℕ) (w : Differ c e d d′) where
   from-place : (at : ℕ) → at ≤ c → (stretch at ++ drop (c + 4) d ≡ drop at d) × (stretch at ++ drop (c + 4) d′ ≡ drop at d′)
   from-place at h = (
     sym (drop-append-le at (take (c + 4) d) (drop (c + 4) d) (omega (arith, long))) ∙ ap (drop at) (take-append-drop (c + 4) d),
-    sym (drop-append-le at (take (c + 4) d) (drop (c + 4) d′) (omega (arith, long))) ∙ ap (drop at) (rw (w .before) (take-append-drop (c + 4) d′)),
+    sym (drop-append-le at (take (c + 4) d) (drop (c + 4) d′) (omega (arith, long))) ∙ ap (drop at) (front-also c e d d′ w),
   )
 
   over-also : (at : ℕ) → among c (passedOver (drop at d) at) ≡ true → among c (passedOver (drop at d′) at) ≡ true

@@ -68,6 +68,10 @@ module _ (c e : ℕ) (d d′ : List ℕ) (w : Differ c e d d′) where
   front-is : take (c + 4) d ≡ take c d ++ (60 ∷ 33 ∷ 45 ∷ 45 ∷ [])
   front-is = take-add c 4 d ∙ ap (λ l. take c d ++ take 4 l) (mark .is)
 
+  -- the same front before what follows in the second
+  pub front-also : take (c + 4) d ++ drop (c + 4) d′ ≡ d′
+  front-also = ap (λ (l : List ℕ). l ++ drop (c + 4) d′) (w .before) ∙ take-append-drop (c + 4) d′
+
   here : Found (bytes "-->") (drop (c + 4) d) (c + 4) e
   here = seek-split 22 (bytes "-->") (c + 4) (drop (c + 4) d) (c + 4) e (w .closes)
 
@@ -91,10 +95,10 @@ module _ (c e : ℕ) (d d′ : List ℕ) (w : Differ c e d d′) where
         ∙ take-append-drop (c + 4) d;
     is-other =
         sym (around (take c d) (there .front) (here .rest))
-        ∙ ap (λ l. l ++ (there .front ++ 45 ∷ 45 ∷ 62 ∷ here .rest)) (sym front-is ∙ w .before)
-        ∙ ap (λ l. take (c + 4) d′ ++ (there .front ++ 45 ∷ 45 ∷ 62 ∷ l)) (sym rests)
-        ∙ ap (λ l. take (c + 4) d′ ++ l) (sym (there .is))
-        ∙ take-append-drop (c + 4) d′;
+        ∙ ap (λ l. l ++ (there .front ++ 45 ∷ 45 ∷ 62 ∷ here .rest)) (sym front-is)
+        ∙ ap (λ l. take (c + 4) d ++ (there .front ++ 45 ∷ 45 ∷ 62 ∷ l)) (sym rests)
+        ∙ ap (λ l. take (c + 4) d ++ l) (sym (there .is))
+        ∙ front-also;
     place = length-take-le c d (omega (arith, room));
     long = rw (length-append (here .front) (45 ∷ 45 ∷ []), length-append (there .front) (45 ∷ 45 ∷ [])) (omega (arith, here .long, there .long));
     ends = rw (length-append (here .front) (45 ∷ 45 ∷ [])) (omega (arith, here .long));
@@ -115,7 +119,7 @@ module _ (c e : ℕ) (d d′ : List ℕ) (w : Differ c e d d′) where
   same-tokens =
       let s = take (c + 4) d in
       let u : s ++ drop (c + 4) d ≡ d = take-append-drop (c + 4) d in
-      let v : s ++ drop (c + 4) d′ ≡ d′ = rw (w .before) (take-append-drop (c + 4) d′) in
+      let v : s ++ drop (c + 4) d′ ≡ d′ = front-also in
       let l : 0 + length s ≡ c + 4 = rw (length-take-le (c + 4) d room) (omega arith) in
       let t = tokens-same c e (drop (c + 4) d) (drop (c + 4) d′) (drop e d) (w .closes) (w .also) (omega (arith, here .long)) (far (drop (c + 4) d) here) (far (drop (c + 4) d′) there) (rest-is d) (rest-is d′ ∙ sym (w .after)) 0 s 0 l (rw u met) in
       rw (u, v) at t
