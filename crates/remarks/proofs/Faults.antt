@@ -2,23 +2,22 @@
 -- the tag.
 -- Assumes nothing.
 use Prim.Native.Nat.{ℕ, zero, suc, _+_, _-_, _≤_}
-use mathlib.Core.Path.{_≡_, refl}
 use mathlib.Core.List.{List, [], _∷_}
 use native.Mathlib.Omega.{arith}
 use lib.Dec.{eqb}
 use lib.ListN.{length, drop}
 use Rattle.slices.specs.Bytes.{bytes, other, span, past, empty, starts}
 use Rattle.scan.specs.Classes.{white, nameByte}
-use Rattle.scan.specs.Ignorable.{Mode, bare, quoted, quote, changed, ends, declarationIn, declared, markup, seek, further, ignorableFrom, ignorable}
+use Rattle.scan.specs.Ignorable.{Mode, bare, quoted, quote, changed, ends, declarationIn, markup, seek, further, ignorableFrom, ignorable}
 use Rattle.scan.specs.declared.Scan.{Scan}
 use Rattle.scan.specs.declared.Scan.the-variants.{Fault, At}
 use Rattle.scan.specs.declared.Markup.{Markup}
 use Rattle.scan.specs.declared.Markup.the-variants.{Tag, Ignored}
 use Rattle.answers.specs.Text.{Text, text, wrong}
 use Rattle.references.specs.Unescape.{unescape}
-use Rattle.document.specs.Tags.{Attr, Found, absent, found, closeQuote, openQuote, equals, named, spaced, attribute, Gathered, gathered, tooMany, with, another, noMore, gather, Shown, Checked, good, also, member, check}
+use Rattle.document.specs.Tags.{Attr, Found, absent, found, closeQuote, openQuote, equals, attribute, Gathered, gathered, tooMany, with, another, noMore, gather, Shown, Checked, good, also, member, check}
 use Rattle.document.specs.Tags as tags
-use Rattle.document.specs.Tokens.{Token, start, close, fault, end, Next, more, last, slashEnd, tagEnd, withShown, withAttrs, opening, closeEnd, closing, tag, tagOrEnd, pastIgnorable, next}
+use Rattle.document.specs.Tokens.{start, close, fault, end, Next, more, last, slashEnd, tagEnd, withShown, withAttrs, opening, closeEnd, closing, tag, tagOrEnd, pastIgnorable, next}
 use Rattle.document.proofs.Tests.{either}
 use Rattle.document.proofs.Ignorables.{Scanned, ignorable-within}
 

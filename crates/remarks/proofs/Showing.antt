@@ -1,7 +1,7 @@
 -- What a state shows of a document is the same in another: every step keeps that.
 -- Assumes nothing.
-use Prim.Native.Nat.{ℕ, zero, suc, _+_, _-_, _≤_}
-use mathlib.Core.Path.{_≡_, refl, sym, _∙_}
+use Prim.Native.Nat.{ℕ, zero, suc, _+_, _-_}
+use mathlib.Core.Path.{_≡_, refl}
 use mathlib.Core.List.{List, [], _∷_, _++_}
 use mathlib.Core.Option.{Option, none, some}
 use mathlib.Core.Bool.{_||_}
@@ -16,12 +16,12 @@ use Rattle.document.specs.Rows.{Doc, Row, Warning, Tables, documented}
 use Rattle.document.specs.Refusals.{faultIn}
 use Rattle.document.specs.declared.Refusal.{Refusal}
 use Rattle.document.specs.Elements.{among, attr, Opened, opens, refuses, opensAs}
-use Rattle.document.specs.Reading.{Name, tagName, Definition, Purpose, ignored, captures, Frame, element, definition, passing, State, begun, nameOf, notedIn, noted, frameOf, withRow, step, fold}
+use Rattle.document.specs.Reading.{Name, Purpose, ignored, captures, Frame, element, definition, passing, State, nameOf, notedIn, noted, frameOf, withRow, step, fold}
 use Rattle.document.specs.Outcome.{whole}
 use Rattle.document.proofs.Tests.{either}
 use Rattle.document.proofs.Opens.{Refuses, lacks, at-name, at-end, any-way}
 use Rattle.document.proofs.Steps as steps
-use Rattle.document.proofs.Steps.{Known, Kept, Closes, Shuts, Ways, Steps, step-kept}
+use Rattle.document.proofs.Steps.{Known, Kept, Closes, Ways, step-kept}
 use Rattle.remarks.specs.Alike.{Same, SameIn}
 
 -- the docstrings of rows

@@ -4,29 +4,27 @@ use Prim.Native.Nat.{ℕ, zero, suc, _+_, _-_, _*_, _/_, _≤_, _<_}
 use mathlib.Core.Path.{_≡_, refl, sym, ap, subst, _∙_}
 use mathlib.Core.List.{List, [], _∷_, _++_}
 use mathlib.Core.Option.{Option, none, some}
-use mathlib.Core.Bool.{Bool, true, false, _&&_, _||_}
+use mathlib.Core.Bool.{Bool, true, false, _||_}
 use mathlib.Core.Logic.{_⊎_, inl, inr}
 use native.Mathlib.Omega.{arith}
-use lib.Dec.{eqb, leb, ltb}
+use lib.Dec.{leb, ltb}
 use lib.ListN.{length, take, drop, getD, replicate}
 use Rattle.slices.specs.Bytes.{if}
-use Rattle.slices.specs.Bytes as slices
 use Rattle.scan.specs.Classes.{nameByte}
 use Rattle.utf8.specs.WellFormed.{illFormed}
 use Rattle.tables.specs.Triple.{shown}
 use Rattle.tables.specs.declared.Triple.{Triple}
 use Rattle.document.specs.Tags.{Shown}
 use Rattle.document.specs.Tokens.{Token, start, close, fault, end, tokens}
-use Rattle.document.specs.Rows.{Doc, Row, Warning, Tables, wordsFrom, texts, warned}
+use Rattle.document.specs.Rows.{Doc, Row, Warning, wordsFrom, texts, warned}
 use Rattle.document.specs.Refusals.{bare}
 use Rattle.document.specs.Reading.{State, begun, reading, accepted, refused, run}
 use Rattle.document.specs.Outcome.{whole}
-use Rattle.document.specs.Whole.{Room, meaning, fitted, read, verdictOf, rowsLeft, warningsLeft, textLeft, Says}
+use Rattle.document.specs.Whole.{Room, meaning, fitted, read, verdictOf, rowsLeft, warningsLeft}
 use Rattle.document.specs.declared.Verdict.the-variants.{Refused, Accepted}
-use Rattle.document.specs.declared.Refusal.{Refusal}
 use Rattle.document.proofs.Tests.{either}
 use Rattle.document.proofs.Steps.{Kept}
-use Rattle.items.specs.Words.{RowWords, rowsShown}
+use Rattle.items.specs.Words.{RowWords}
 use Rattle.accepted.proofs.Places.{span-left}
 use Rattle.accepted.proofs.Tokens as standing
 use Rattle.accepted.proofs.Tokens.{AllHeld, AllCome, tokens-come}
@@ -38,7 +36,7 @@ use Rattle.remarks.specs.Differing.{Differ}
 use Rattle.remarks.specs.Alike.{Same, docstringOf, Spans, ShownAlike, ShowsUnsteered, MessagesUnsteered}
 use Rattle.remarks.proofs.Meets.{AllOut}
 use Rattle.remarks.proofs.Contents.{DocOut, ends-same, out-same, Opens, Shuts, content-out}
-use Rattle.remarks.proofs.Whole.{Shape, shape, same-tokens, close-out, equally-long, unsteered}
+use Rattle.remarks.proofs.Whole.{shape, same-tokens, close-out, equally-long, unsteered}
 use Rattle.remarks.proofs.Showing.{DocOk, DocsOk, RawsSame, WarningsSame, FaultSame, held, AllOk, fold-holds}
 
 -- what a state is known to show

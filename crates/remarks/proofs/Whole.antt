@@ -16,12 +16,11 @@ use Rattle.document.specs.Elements.{among}
 use Rattle.document.specs.Reading.{State, begun, step, fold, run}
 use Rattle.document.specs.Refusals.{faultIn}
 use Rattle.document.specs.Outcome.{whole}
-use Rattle.document.specs.Whole.{Room, meaning, read, verdictOf, rowsLeft, warningsLeft, textLeft, Says}
-use Rattle.document.specs.declared.Verdict.{Verdict}
+use Rattle.document.specs.Whole.{meaning, read, verdictOf, rowsLeft, warningsLeft, textLeft}
 use Rattle.accepted.proofs.Tokens.{AllCome, tokens-come}
 use Rattle.remarks.proofs.Comments.{comments, met-comments}
 use Rattle.met.specs.Met.{goesOn, reached, metTokens}
-use Rattle.remarks.specs.Differing.{Differ, EquallyLong, Unsteered, Alike, CallsUnsteered}
+use Rattle.remarks.specs.Differing.{Differ, EquallyLong, Unsteered, CallsUnsteered}
 use Rattle.remarks.proofs.Meets.{Out, AllOut, tokens-same}
 use Rattle.remarks.proofs.Folding.{StateOk, AllOk, step-alike, fold-alike}
 use Rattle.remarks.proofs.Contents.{Opens, Shuts, content-alike, ends-same}

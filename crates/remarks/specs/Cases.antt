@@ -1,23 +1,20 @@
 -- Worked examples: documents that differ inside a comment of each place; and two that differ inside a declaration, where what stands
 -- between `<!--` and `-->` does steer.
 -- Assumes nothing.
-use Prim.Native.Nat.{ℕ}
 use Prim.Native.String as string
 use mathlib.Core.Path.{_≡_, refl}
 use mathlib.Core.List.{List, [], _∷_, map}
-use mathlib.Core.Bool.{Bool, true, false}
-use lib.ListN.{replicate}
+use mathlib.Core.Bool.{Bool, false}
 use Rattle.slices.specs.Bytes.{bytes}
 use Rattle.utf8.specs.WellFormed.{sequence, illFormed}
 use Rattle.utf8.specs.WhiteSpace.{characters, trimStart, trimEnd}
 use Rattle.scan.specs.Ignorable.{ignorable}
-use Rattle.references.specs.Unescape.{reference, piece, unescape}
-use Rattle.document.specs.Tags.{attribute, gather, Shown}
+use Rattle.document.specs.Tags.{attribute, gather}
 use Rattle.document.specs.Tokens.{opening, closing, next, tokens}
 use Rattle.document.specs.Rows.{rowWords}
 use Rattle.document.specs.Refusals.{bare, faultIn}
 use Rattle.document.specs.Elements.{among, kindOf, mayHold, opensAs}
-use Rattle.document.specs.Reading.{State, begun, reading, accepted, refused, step, begins, unsupported, docstringIn, run}
+use Rattle.document.specs.Reading.{step, begins, unsupported, docstringIn, run}
 use Rattle.document.specs.Whole.{Room, meaning, read, verdictOf}
 use Rattle.document.specs.declared.Verdict.{Verdict}
 use Rattle.document.specs.declared.Verdict.the-variants.{Refused, Accepted}
