@@ -1,0 +1,16 @@
+-- The laws.
+-- Assumes nothing.
+pub mod Comments
+pub mod Local
+pub mod Faults
+pub mod Tagged
+pub mod Meeting
+pub mod Meets
+pub mod Trimming
+pub mod Folding
+pub mod Contents
+pub mod Standing
+pub mod Whole
+pub mod Symmetry
+pub mod Showing
+pub mod Shown
