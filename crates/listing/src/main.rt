@@ -1,46 +1,6 @@
 // The listing program: reads a document from standard input, and writes what was read (docs/FORMAT.md, The listing program).
 use document::Verdict;
-ghost use Prim.Native.Nat.{_<_, _≤_};
-ghost use lib.ListN.{length};
-
-// What reading has come to: whether it failed, and how many bytes there are.
-struct Came {
-    failed: bool,
-    end: usize,
-}
-
-// One read, behind the bytes that are there.
-fn read_some(document: &mut [u8], n: usize) -> Came
-    requires { ⌜ n ≤ length (now document) ⌝ }
-    ensures { λ r. ⌜ (n ≤ r .end) × (r .end ≤ length (now (document .entry))) ⌝ }
-{
-    let part = &mut document[n..];
-    let got = libc::read(0, part);
-    let k = io::count(got, part);
-    Came {
-        failed: got < 0,
-        end: n + k,
-    }
-}
-
-// Reads until the input ends, the buffer is full or a read fails.
-fn read_all(document: &mut [u8]) -> Came {
-    let mut n = 0;
-    while n < document.len() {
-        let came = read_some(document, n);
-        if came.failed {
-            return came;
-        }
-        if came.end == n {
-            return came;
-        }
-        n = came.end;
-    }
-    Came {
-        failed: false,
-        end: n,
-    }
-}
+ghost use Prim.Native.Nat.{_<_};
 
 fn wide(x: u32) -> u64 {
     x as u64
@@ -127,7 +87,7 @@ fn put_answer(out: &mut [u8], document: &[u8], end: usize) -> usize {
 
 // Lists what the buffer can hold of standard input; where that cannot be read or the listing not be written, says so and why on standard error.
 fn list(document: &mut [u8]) {
-    let came = read_all(document);
+    let came = output::input::read_all(0, document);
     if came.failed {
         os::fail(b"listing: cannot read standard input");
         return;

@@ -2,6 +2,8 @@
 // Where a full buffer could not be written out, what follows is dropped: the count is then FAILED, which `flush` tells.
 ghost use Prim.Native.Nat.{_≤_};
 
+pub mod input;
+
 // No count of a buffer.
 const FAILED: usize = 18446744073709551615;
 

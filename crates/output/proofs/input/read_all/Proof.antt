@@ -1,17 +1,17 @@
--- `listing::read_all` meets its contract: what is left of the buffer is the measure.
+-- `output::input::read_all` meets its contract: what is left of the buffer is the measure.
 -- Assumes nothing.
 use Prim.Native.Nat.{_≤_, _-_}
 use mathlib.Core.Path.{_≡_}
 use lib.ListN.{length}
 use borrow.Author.Needs.{needs}
-use Rattle.listing.proofs.read_all.Statement.{statement}
-use Rattle.listing.proofs.read_all.Tie as tie
+use Rattle.output.proofs.input.read_all.Statement.{statement}
+use Rattle.output.proofs.input.read_all.Tie as tie
 
 abbrev Inv-loop : tie.InvT-loop
-Inv-loop document₀ n₀ document n = (n ≤ length document) × (length document ≡ length document₀)
+Inv-loop fd buffer₀ n₀ buffer n = (n ≤ length buffer) × (length buffer ≡ length buffer₀)
 
 abbrev μ-loop : tie.MeasureT-loop
-μ-loop document₀ n₀ document n = length document₀ - n
+μ-loop fd buffer₀ n₀ buffer n = length buffer₀ - n
 
 pub read-all-spec : {M : Type 1} → statement M
 read-all-spec =
