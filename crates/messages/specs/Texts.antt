@@ -1,5 +1,5 @@
--- The texts of messages, a line for each `format!` of error.rs, xml.rs and lib.rs of zbus_xml 6.0.0, and the word of document FORMAT for
--- each number that the Rust does not have (docs/FORMAT.md, Messages).
+-- The texts of messages (docs/FORMAT.md, Messages): a line for each message of xml.rs and lib.rs of zbus_xml 6.0.0, and for each number
+-- whose text is not there a word for what is wrong.
 -- Assumes nothing.
 use Prim.Native.Nat.{ℕ}
 use mathlib.Core.List.{List, [], _∷_}
