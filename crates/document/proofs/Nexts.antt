@@ -84,7 +84,7 @@ module _ (from top : ℕ) where
     attrs-reach (gathered xs l p) f i g = shown-reaches xs (check [] xs) l p (omega arith) (omega arith) (g .rest) (check-within top [] xs (g .lie))
     attrs-reach (tooMany p) f i g = record { number = refl; place = g }
 
-  opening-reaches : (l : List ℕ) (at : ℕ) → from ≤ at → suc at + length l ≡ top → Reaches from top (opening l at)
+  pub opening-reaches : (l : List ℕ) (at : ℕ) → from ≤ at → suc at + length l ≡ top → Reaches from top (opening l at)
   unfolding opening
   opening-reaches l at h e =
       let n = span nameByte l in

@@ -10,6 +10,7 @@ use lib.Dec.{eqb, leb, ltb}
 use lib.ListN.{length, take, drop}
 use Rattle.slices.specs.Bytes.{same}
 use Rattle.utf8.specs.WhiteSpace.{trimStart, trimEnd}
+use Rattle.document.specs.Kinds as kinds
 use Rattle.document.specs.Tokens.{Tag, Token, start, close, fault, end}
 use Rattle.document.specs.Rows.{Row, Tables, documented}
 use Rattle.document.specs.Elements.{kindOf, mayHold, among, Opened, opens, refuses, Keeping, opensAs}
@@ -25,13 +26,13 @@ kindIn (definition d) = d .kind
 kindIn (passing p ns) = 0
 
 abbrev pub takesDocs : Frame → Bool
-takesDocs (element k n r) = not (eqb k 6)
-takesDocs (definition d) = not (eqb (d .kind) 6)
+takesDocs (element k n r) = not (eqb k kinds.annotation)
+takesDocs (definition d) = not (eqb (d .kind) kinds.annotation)
 takesDocs (passing p ns) = false
 
 -- an element of kind k may begin, when there are n rows: the root, or what the innermost element may hold
 abbrev pub Begins : ℕ → ℕ → List Frame → Type 0
-Begins n k [] = (n ≡ 0) × (k ≡ 1)
+Begins n k [] = (n ≡ 0) × (k ≡ kinds.node)
 Begins n k (f ∷ fs) = mayHold (kindIn f) k ≡ true
 
 -- its kind is that of its name, unless it is the root
@@ -128,7 +129,7 @@ module _ {A : Type 0} (keep : Keeping A) (doc : List ℕ) where
 
     own-kept : (k : ℕ) (t : Tag) (n : ℕ) (fs : List Frame) (u : Tables A) → i .inside (frameOf k t n ∷ fs) u → Kept j (shut doc (frameOf k t n) fs u 0)
     own-kept k t n fs u =
-        either (λ (f : Frame). i .inside (f ∷ fs) u → Kept j (shut doc f fs u 0)) (among k (8 ∷ 9 ∷ 11 ∷ 13 ∷ []))
+        either (λ (f : Frame). i .inside (f ∷ fs) u → Kept j (shut doc f fs u 0)) (among k kinds.definitions)
         (λ e h. judged-kept _ fs u h)
         (λ e h. closed-kept fs u (c .element k (tagName t) n fs u h))
 
@@ -171,11 +172,11 @@ module _ {A : Type 0} (keep : Keeping A) (doc : List ℕ) where
     unfolding docstringIn
     docstring-kept f fs u d h = either (Kept j) (t .self) (λ c. s .moves (f ∷ fs) u h) (λ c. s .docstring f fs u d h)
 
-    child-kept : (f : Frame) (fs : List Frame) (u : Tables A) → (not (eqb (kindIn f) 6) ≡ true → takesDocs f ≡ true) → i .inside (f ∷ fs) u → Kept j (child keep doc (kindIn f) (rowOf f) t (f ∷ fs) u)
+    child-kept : (f : Frame) (fs : List Frame) (u : Tables A) → (not (eqb (kindIn f) kinds.annotation) ≡ true → takesDocs f ≡ true) → i .inside (f ∷ fs) u → Kept j (child keep doc (kindIn f) (rowOf f) t (f ∷ fs) u)
     child-kept f fs u d h =
         let c = kindOf (t .name) in
-        either (Kept j) (eqb c 14 && not (eqb (kindIn f) 6))
-        (λ e. docstring-kept f fs u (d (second (eqb c 14) (not (eqb (kindIn f) 6)) e)) h)
+        either (Kept j) (eqb c kinds.docstring && not (eqb (kindIn f) kinds.annotation))
+        (λ e. docstring-kept f fs u (d (second (eqb c kinds.docstring) (not (eqb (kindIn f) kinds.annotation)) e)) h)
         (λ e. either (Kept j) (mayHold (kindIn f) c) (λ b. begins-kept c (f ∷ fs) u b refl h) (λ b. unsupported-kept (f ∷ fs) u h))
       where
         second : (x y : Bool) → (x && y) ≡ true → y ≡ true
@@ -202,7 +203,7 @@ module _ {A : Type 0} (keep : Keeping A) (doc : List ℕ) where
 
     pub step-kept : (s : State A) (t : Token) → Steps i m j t → Kept i s → Kept j (step keep doc s t)
     unfolding step
-    step-kept begun (start t) k h = begins-kept (k .ways) 1 [] (record { rows = []; warnings = [] }) (refl, refl) tt (k .empty h)
+    step-kept begun (start t) k h = begins-kept (k .ways) kinds.node [] (record { rows = []; warnings = [] }) (refl, refl) tt (k .empty h)
     step-kept begun (close lt n q) k h = k .ways .none
     step-kept begun (fault n p) k h = k .ways
     step-kept begun (end p) k h = k .ways .0

@@ -14,7 +14,9 @@ use Rattle.answers.specs.Text.{text}
 use Rattle.references.specs.Unescape.{unescape, plain}
 use Rattle.document.specs.Kinds as kinds
 use Rattle.document.specs.Tags.{Shown, lookup, tpType}
+use Rattle.document.specs.Tokens as tokens
 use Rattle.document.specs.Tokens.{Tag, start, close, fault, end, more, last, next}
+use Rattle.document.specs.Refusals.{faultIn}
 use Rattle.document.specs.Rows.{Row, Warning, Tables, wordsFrom, texts, warned}
 use Rattle.document.specs.Elements.{kindOf, among, heldBy, opens, refuses, opensAs}
 use Rattle.document.specs.Reading as reading
@@ -241,21 +243,22 @@ pub record Children (doc : List ℕ) (hs : List ℕ) (docs : Bool) (at len i : �
 
 -- the next token from a place on
 abbrev pub OnwardToken : List ℕ → ℕ → Token → Type 0
-OnwardToken doc from (Token.Fault n p) = Unit {0}
+OnwardToken doc from (Token.Fault x) = Unit {0}
 OnwardToken doc from (Token.End p) = Unit {0}
 OnwardToken doc from (Token.Close c) =
     (from ≤ c .lt) × (c .at ≡ c .lt + 2) × (c .at + c .len < c .end) × (c .end ≤ length doc) × (getD doc (c .lt) 0 ≡ 60)
 OnwardToken doc from (Token.Start c) = (from < c .at) × TagFits doc c
 
-abbrev pub IsToken : List ℕ → ℕ → Token → Type 0
-IsToken doc from (Token.Fault n p) = next (drop from doc) from ≡ last (fault n p)
-IsToken doc from (Token.End p) = next (drop from doc) from ≡ last (end p)
-IsToken doc from (Token.Close c) = next (drop from doc) from ≡ more (close (c .lt) (take (c .len) (drop (c .at) doc)) (c .end)) (c .end)
-IsToken doc from (Token.Start c) = (t : Tag) × TagIs doc c t × (next (drop from doc) from ≡ more (start t) (c .end))
+-- the answer is what the definition has; for a fault it is the refusal of its number and place
+abbrev pub Comes : List ℕ → tokens.Next → Token → Type 0
+Comes doc next (Token.Fault x) = (n : ℕ) × (p : ℕ) × (next ≡ last (fault n p)) × (x ≡ faultIn doc n p)
+Comes doc next (Token.End p) = next ≡ last (end p)
+Comes doc next (Token.Close c) = next ≡ more (close (c .lt) (take (c .len) (drop (c .at) doc)) (c .end)) (c .end)
+Comes doc next (Token.Start c) = (t : Tag) × TagIs doc c t × (next ≡ more (start t) (c .end))
 
 pub record Tokenises (doc : List ℕ) (from : ℕ) (r : Token) : Type 0 where
   pub onward : OnwardToken doc from r
-  pub is : IsToken doc from r
+  pub is : Comes doc (next (drop from doc) from) r
 
 -- what comes next in an open element, whatever the element is
 abbrev pub OnwardNext : List ℕ → ℕ → Next → Type 0

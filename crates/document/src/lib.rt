@@ -176,9 +176,9 @@ pub struct ClosingTag {
     pub end: usize,
 }
 
-// A token: a fault, the end, a closing tag or a start tag.
+// A token: the refusal of a fault, the end, a closing tag or a start tag.
 pub enum Token {
-    Fault(u32, usize),
+    Fault(Refusal),
     End(usize),
     Close(ClosingTag),
     Start(StartTag),

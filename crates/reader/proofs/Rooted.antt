@@ -16,7 +16,7 @@ use Rattle.document.specs.Tags.{Shown}
 use Rattle.document.specs.Tokens.{Tag}
 use Rattle.document.specs.Rows.{Row, Tables}
 use Rattle.document.specs.Elements.{opens, opensAs}
-use Rattle.document.specs.Refusals.{bare, faultIn}
+use Rattle.document.specs.Refusals.{bare}
 use Rattle.document.specs.Reading.{Name, Frame, element, State, begun, reading, accepted, refused, withRow, entered, begins, step}
 use Rattle.document.specs.Outcome.{Lent, lent, nameAt, Stands, Bounded, Ready, Sound, TagIs, TagFits, Tokenises, Opening, runs, whole}
 use Rattle.document.specs.declared.StartTag.{StartTag}
@@ -27,7 +27,6 @@ use Rattle.document.specs.declared.Answer.{Answer}
 use Rattle.document.specs.declared.Token.{Token}
 use Rattle.document.proofs.Runs.{run-more, run-last, run-refused, run-accepted}
 use Rattle.document.proofs.Openings.{tag-named}
-use Rattle.tags.proofs.Stepping.{fault-inside}
 use Rattle.reader.specs.Nodes.{framesOf, Walking, Turns, Walks, Levels, RootOpen, EndsNodes, ReadsRoot, ReadsWhole}
 use Rattle.reader.specs.declared.Walk.{Walk}
 use Rattle.reader.specs.declared.Turn.{Turn}
@@ -158,12 +157,11 @@ pub ruleset rooted = (root-ready, root-fault, root-closes, root-open, needs)
 
 -- the first token
 module _ {doc : List ℕ} {k : Token} (x : Tokenises doc 0 k) where
-  pub first-inside : {n p : ℕ} → k ≡ Token.Fault n p → p ≤ length doc
-  first-inside e = fault-inside 0 0 x (omega arith) e
-
-  pub first-fault : {b : Lent} {n p : ℕ} {y : Refusal} → k ≡ Token.Fault n p → y ≡ faultIn doc n p → ReadsWhole doc b (Answer.Fault y)
+  pub first-fault : {b : Lent} {y : Refusal} → k ≡ Token.Fault y → ReadsWhole doc b (Answer.Fault y)
   unfolding step
-  first-fault e q = rw q record { ends = run-last whole doc 0 begun _ ((rw e at x) .is) }
+  first-fault {y = y} e =
+      let t : Tokenises doc 0 (Token.Fault y) = rw e at x in
+      rw (t .is .3) record { ends = run-last whole doc 0 begun _ (t .is .2) }
 
   pub first-end : {b : Lent} {p : ℕ} {y : Refusal} → k ≡ Token.End p → y ≡ bare 3 p → ReadsWhole doc b (Answer.Fault y)
   unfolding step
@@ -196,4 +194,4 @@ module _ {doc : List ℕ} {k : Token} (x : Tokenises doc 0 k) where
 pub first-wide : {doc : List ℕ} {k : Token} → Tokenises doc 0 k → Sound doc → {c : ClosingTag} → k ≡ Token.Close c → Fits w64 (c .lt + 1)
 first-wide {doc} x s {c} e = let t : Tokenises doc 0 (Token.Close c) = rw e at x in omega (arith, t .onward, s .small)
 
-pub ruleset firsts = (first-inside, first-fault, first-end, first-close, first-further, first-fits, first-root, first-wide, needs)
+pub ruleset firsts = (first-fault, first-end, first-close, first-further, first-fits, first-root, first-wide, needs)

@@ -319,7 +319,7 @@ fn document_node(
     ensures { λ r. ⌜ ReadsWhole (now (doc .entry)) (lent (now (rows .exit)) (now (warnings .exit)) (now (text .exit))) r ⌝ }
 {
     match tags::token(doc, classes, 0) {
-        Token::Fault(number, place) => Answer::Fault(tags::fault_in(doc, classes, number, place)),
+        Token::Fault(x) => Answer::Fault(x),
         Token::End(place) => Answer::Fault(document::bare(3, place)),
         Token::Close(c) => Answer::Fault(document::bare(4, c.lt + 1)),
         Token::Start(c) => root_node(doc, classes, rows, warnings, text, c),

@@ -17,17 +17,21 @@ use Rattle.scan.specs.declared.Scan.{Scan}
 use Rattle.scan.specs.declared.Markup.{Markup}
 use Rattle.document.specs.Tokens as tokens
 use Rattle.document.specs.Tokens.{opening, closing, tag, tagOrEnd, next}
-use Rattle.document.specs.Outcome.{OnwardToken, IsToken, Tokenises}
+use Rattle.document.specs.Refusals.{bare}
+use Rattle.document.specs.Outcome.{OnwardToken, Tokenises}
+use Rattle.document.specs.declared.Refusal.{Refusal}
 use Rattle.document.specs.declared.Token.{Token}
-use Rattle.tags.specs.Outcome.{TagStart, Comes, TagAt}
+use Rattle.document.proofs.Ignorables.{Scanned, ignorable-within}
+use Rattle.tags.specs.Outcome.{TagStart, TagAt}
+use Rattle.tags.proofs.Faults.{markup-at, unended-bare}
 
 -- a tag is a closing tag or a start tag
 moved : {doc : List ℕ} {lt : ℕ} {x y : tokens.Next} {r : Token} → x ≡ y → TagAt doc lt y r → TagAt doc lt x r
 moved e t = rw e t
 
 module _ (doc : List ℕ) (lt : ℕ) where
-  pub tag-unended : length doc ≤ lt + 1 → TagAt doc lt (tag (drop (lt + 1) doc) lt) (Token.Fault 4 (lt + 1))
-  tag-unended l = record { onward = tt; is = rw (drop-of-length-le doc l, add-one) }
+  pub tag-unended : {x : Refusal} → length doc ≤ lt + 1 → x ≡ bare 4 (lt + 1) → TagAt doc lt (tag (drop (lt + 1) doc) lt) (Token.Fault x)
+  tag-unended l b = markup-at b (rw (drop-of-length-le doc l, add-one))
 
   module _ (l : lt + 1 < length doc) {r : Token} where
     pub tag-closes : getD doc (lt + 1) 0 ≡ 47 → TagAt doc lt (closing (drop (lt + 2) doc) lt) r → TagAt doc lt (tag (drop (lt + 1) doc) lt) r
@@ -65,21 +69,17 @@ found-tag zero (b ∷ l) at p e = go (eqb b 60) refl (markup l at) e (λ k. foun
 
 -- what holds of a tag holds from an earlier place on
 sooner : (doc : List ℕ) (from p : ℕ) (r : Token) → from ≤ p → OnwardToken doc p r → OnwardToken doc from r
-sooner doc from q (Token.Fault n p) h o = tt
+sooner doc from q (Token.Fault x) h o = tt
 sooner doc from q (Token.End p) h o = tt
 sooner doc from q (Token.Close c) h o = (omega (arith, o .0), o .1, o .2, o .3, o .4)
 sooner doc from q (Token.Start c) h o = (omega (arith, o .0), o .1)
 
-is-token : (doc : List ℕ) (from : ℕ) {x : tokens.Next} (r : Token) → next (drop from doc) from ≡ x → Comes doc x r → IsToken doc from r
-is-token doc from (Token.Fault n p) e i = e ∙ i
-is-token doc from (Token.End p) e i = e ∙ i
-is-token doc from (Token.Close c) e i = e ∙ i
-is-token doc from (Token.Start c) e i = (i .0, i .1, e ∙ i .2)
-
 module _ {doc : List ℕ} {from : ℕ} {x : Scan} (s : Scans ignorable doc from x) where
-  pub token-fault : {n p : ℕ} → x ≡ Scan.Fault n p → Tokenises doc from (Token.Fault n p)
+  pub token-fault : {n p : ℕ} {y : Refusal} → x ≡ Scan.Fault n p → y ≡ bare n p → Tokenises doc from (Token.Fault y)
   unfolding next
-  token-fault e = record { onward = tt; is = rw (← s .is, e) }
+  token-fault {n} {p} e b =
+      let h : Scanned from (from + length (drop from doc)) (Scan.Fault n p) = rw (← s .is, e) at (ignorable-within (drop from doc) from) in
+      record { onward = tt; is = (n, p, rw (← s .is, e), b ∙ unended-bare doc (h .0)) }
 
   module _ {p : ℕ} (e : x ≡ Scan.At p) where
     past-it : from ≤ p
@@ -103,10 +103,9 @@ module _ {doc : List ℕ} {from : ℕ} {x : Scan} (s : Scans ignorable doc from 
         record { small = m; inside = l; is = rw (getD-drop, z) at (f .1 h) }
 
     pub token-tag : p < length doc → {r : Token} → TagAt doc p (tag (drop (p + 1) doc) p) r → Tokenises doc from r
-    token-tag l {r} t = record {
-      onward = sooner doc from p r past-it (t .onward);
-      is = is-token doc from r (next-at ∙ rw (drop-cons doc p 0 l, add-one)) (t .is);
-    }
+    token-tag l {r} t =
+        let e : next (drop from doc) from ≡ tag (drop (p + 1) doc) p = next-at ∙ rw (drop-cons doc p 0 l, add-one) in
+        record { onward = sooner doc from p r past-it (t .onward); is = rw e (t .is) }
 
 -- what answers every need of `token`
 pub ruleset nexts = (token-fault, token-end, tag-found, token-tag, needs)

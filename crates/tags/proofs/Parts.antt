@@ -16,15 +16,18 @@ use Rattle.slices.proofs.Ends.{run-length, run-span, run-rest, run-empty, run-s
 use Rattle.scan.specs.Classes.{white, nameByte}
 use Rattle.document.specs.Tags.{Shown}
 use Rattle.document.specs.Tokens.{tagEnd, slashEnd, closeEnd, closing}
+use Rattle.document.specs.Refusals.{bare}
+use Rattle.document.specs.declared.Refusal.{Refusal}
 use Rattle.document.specs.declared.Token.{Token}
 use Rattle.tags.specs.declared.TagEnd.{TagEnd}
 use Rattle.tags.specs.Outcome.{TagStart, TagAt, Ends}
+use Rattle.tags.proofs.Faults.{markup-at}
 
 -- closing tags
 module _ {doc : List ℕ} {lt m : ℕ} (s : TagStart doc lt) (n : Run nameByte doc (lt + 2) m) where
-  pub close-nameless : m ≡ lt + 2 → TagAt doc lt (closing (drop (lt + 2) doc) lt) (Token.Fault 4 (lt + 1))
+  pub close-nameless : {x : Refusal} → m ≡ lt + 2 → x ≡ bare 4 (lt + 1) → TagAt doc lt (closing (drop (lt + 2) doc) lt) (Token.Fault x)
   unfolding closing
-  close-nameless e = record { onward = tt; is = rw (run-empty n (omega arith), add-one) }
+  close-nameless e q = markup-at q (rw (run-empty n (omega arith), add-one))
 
   module _ (h : m ≡ lt + 2 → ⊥) {e : ℕ} (w : Run white doc m e) where
     close-named : closing (drop (lt + 2) doc) lt ≡ closeEnd lt (take (m - (lt + 2)) (drop (lt + 2) doc)) (drop e doc) e
@@ -33,11 +36,11 @@ module _ {doc : List ℕ} {lt m : ℕ} (s : TagStart doc lt) (n : Run nameByte d
         let q : suc (suc lt) + length (span nameByte (drop (lt + 2) doc)) ≡ m = omega (arith, run-length n, n .onward) in
         rw (run-some n (omega (arith, n .onward)), run-rest n, run-rest w, q, ← w .ends, run-span n)
 
-    pub close-unended : length doc ≤ e → TagAt doc lt (closing (drop (lt + 2) doc) lt) (Token.Fault 4 (lt + 1))
-    close-unended l = record { onward = tt; is = close-named ∙ rw (drop-of-length-le doc l, add-one) }
+    pub close-unended : {x : Refusal} → length doc ≤ e → x ≡ bare 4 (lt + 1) → TagAt doc lt (closing (drop (lt + 2) doc) lt) (Token.Fault x)
+    close-unended l q = markup-at q (close-named ∙ rw (drop-of-length-le doc l, add-one))
 
-    pub close-other : e < length doc → (getD doc e 0 ≡ 62 → ⊥) → TagAt doc lt (closing (drop (lt + 2) doc) lt) (Token.Fault 4 (lt + 1))
-    close-other l b = record { onward = tt; is = close-named ∙ rw (drop-cons doc e 0 l, ne-eqb _ _ b, add-one) }
+    pub close-other : {x : Refusal} → e < length doc → (getD doc e 0 ≡ 62 → ⊥) → x ≡ bare 4 (lt + 1) → TagAt doc lt (closing (drop (lt + 2) doc) lt) (Token.Fault x)
+    close-other l b q = markup-at q (close-named ∙ rw (drop-cons doc e 0 l, ne-eqb _ _ b, add-one))
 
     pub closes : e < length doc → getD doc e 0 ≡ 62 → TagAt doc lt (closing (drop (lt + 2) doc) lt) (Token.Close record { lt = lt; at = lt + 2; len = m - (lt + 2); end = e + 1 })
     closes l b = record {

@@ -1,21 +1,17 @@
--- A step in an open element: how a run goes on after each token; and what the refusal of a fault shows.
+-- A step in an open element: how a run goes on after each token.
 -- Assumes nothing.
 use Prim.Native.Nat.{ℕ, suc, _+_, _-_, _≤_, _<_, _^_}
 use mathlib.Core.Path.{_≡_, sym, _∙_}
 use mathlib.Core.List.{List, _∷_}
 use mathlib.Core.Bool.{Bool, true, false}
 use borrow.Author.Needs.{needs}
-use borrow.Author.Tests.{ne-eqb}
 use mir.Syntax.{w64}
 use mir.Val.{Fits}
 use native.Mathlib.Omega.{arith}
 use lib.ListN.{length, take, drop, length-take, length-drop}
-use Rattle.slices.specs.Bytes.{other, same, span}
-use Rattle.slices.specs.Run.{Run}
-use Rattle.slices.proofs.Ends.{run-length}
-use Rattle.scan.specs.Classes.{nameByte}
-use Rattle.document.specs.Tokens.{last, start, close, fault, end}
-use Rattle.document.specs.Refusals.{bare, showing, showingBoth, faultIn}
+use Rattle.slices.specs.Bytes.{same}
+use Rattle.document.specs.Tokens.{start, close, fault, end}
+use Rattle.document.specs.Refusals.{showing, showingBoth}
 use Rattle.document.specs.Reading as reading
 use Rattle.document.specs.Outcome.{whole, nameAt, Tokenises, Steps}
 use Rattle.document.specs.declared.Excerpt.{Excerpt}
@@ -25,37 +21,6 @@ use Rattle.document.specs.declared.StartTag.{StartTag}
 use Rattle.document.specs.declared.Token.{Token}
 use Rattle.document.specs.declared.Next.{Next}
 use Rattle.document.proofs.Runs.{run-more, run-last, run-refused}
-use Rattle.document.proofs.Nexts.{Reaches, next-reaches}
-
--- ---- what the refusal of a fault shows
-
-module _ {doc : List ℕ} {p end : ℕ} where
-  pub reference-shown : {n : ℕ} {e : Excerpt} {x : Refusal} → Run (other 59) doc p end → e ≡ record { at = p; len = end - p + 1 } → x ≡ showing n p e → x ≡ showing n p (record { at = p; len = suc (length (span (other 59) (drop p doc))) })
-  reference-shown {n} {e} {x} r q h =
-      let l : end - p + 1 ≡ suc (length (span (other 59) (drop p doc))) = omega (arith, run-length r) in
-      h ∙ rw (q, l)
-
-  pub fault-named : {n : ℕ} {e : Excerpt} {x : Refusal} → n ≡ 8 → Run nameByte doc p end → e ≡ record { at = p; len = end - p } → x ≡ showing n p e → x ≡ faultIn doc n p
-  unfolding faultIn
-  fault-named {n} {e} {x} b r q h =
-      let l : end - p ≡ length (span nameByte (drop p doc)) = omega (arith, run-length r) in
-      h ∙ rw (q, b, l)
-
-module _ (doc : List ℕ) {n p : ℕ} {x : Refusal} where
-  pub fault-unknown : n ≡ 10 → x ≡ showing n p (record { at = p; len = suc (length (span (other 59) (drop p doc))) }) → x ≡ faultIn doc n p
-  unfolding faultIn
-  fault-unknown b h = h ∙ rw b
-
-  pub fault-character : n ≡ 11 → x ≡ showing n p (record { at = p; len = suc (length (span (other 59) (drop p doc))) }) → x ≡ faultIn doc n p
-  unfolding faultIn
-  fault-character b h = h ∙ rw b
-
-  pub fault-bare : (n ≡ 8 → ⊥) → (n ≡ 10 → ⊥) → (n ≡ 11 → ⊥) → x ≡ bare n p → x ≡ faultIn doc n p
-  unfolding faultIn
-  fault-bare a b c h = h ∙ rw (ne-eqb n 8 a, ne-eqb n 10 b, ne-eqb n 11 c)
-
--- what answers every need of `reference_in` and `fault_in`
-pub ruleset faults = (reference-shown, fault-named, fault-unknown, fault-character, fault-bare, needs)
 
 -- ---- a step
 
@@ -64,17 +29,12 @@ part-long : (doc : List ℕ) (at len : ℕ) → at + len ≤ length doc → leng
 part-long doc at len h = rw (length-take, length-drop) (omega arith)
 
 module _ {doc : List ℕ} {from : ℕ} (at len : ℕ) {r : Token} (t : Tokenises doc from r) where
-  pub fault-inside : {n p : ℕ} → from ≤ length doc → r ≡ Token.Fault n p → p ≤ length doc
-  fault-inside {n} {p} h e =
-      let d : Tokenises doc from (Token.Fault n p) = rw e at t in
-      let m : Reaches from (from + length (drop from doc)) (last (fault n p)) = rw (d .is) at (next-reaches (drop from doc) from) in
-      omega (arith, m .place, length-drop from doc)
-
-  pub step-fault : {n p : ℕ} {x : Refusal} → r ≡ Token.Fault n p → x ≡ faultIn doc n p → Steps doc from at len (Next.Fault x)
+  pub step-fault : {x : Refusal} → r ≡ Token.Fault x → Steps doc from at len (Next.Fault x)
   unfolding reading.step
-  step-fault {n} {p} e q =
-      let d : Tokenises doc from (Token.Fault n p) = rw e at t in
-      rw q (record { onward = tt; leads = λ f fs u h. run-last whole doc from (reading.reading (f ∷ fs) u) (fault n p) (d .is) })
+  step-fault {x} e =
+      let d : Tokenises doc from (Token.Fault x) = rw e at t in
+      let y = d .is in
+      rw (y .3) (record { onward = tt; leads = λ f fs u h. run-last whole doc from (reading.reading (f ∷ fs) u) (fault (y .0) (y .1)) (y .2) })
 
   pub step-end : {p : ℕ} {y : Excerpt} {x : Refusal} → at + len ≤ length doc → r ≡ Token.End p → y ≡ record { at = at; len = len } → x ≡ showing 5 p y → Steps doc from at len (Next.Fault x)
   unfolding reading.step
@@ -142,4 +102,4 @@ module _ {doc : List ℕ} {from : ℕ} (at len : ℕ) {r : Token} (t : Tokenises
                 ∙ rw (h, compared, p, part-long doc at len i, part-long doc (c .at) (c .len) name-inside, ← m) (run-refused whole doc (c .end) (showingBoth 6 (c .end) (record { at = c .at; len = c .len }) (record { at = at; len = len })));
           })
 
-pub ruleset stepping = (fault-inside, step-fault, step-end, step-start, name-inside, name-fits, name-small, step-close, step-other, needs)
+pub ruleset stepping = (step-fault, step-end, step-start, name-inside, name-fits, name-small, step-close, step-other, needs)

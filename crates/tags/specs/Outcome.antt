@@ -3,13 +3,13 @@
 use Prim.Native.Nat.{ℕ, _+_, _-_, _≤_, _<_}
 use mathlib.Core.Path.{_≡_}
 use mathlib.Core.List.{List}
-use lib.ListN.{length, take, drop, getD}
+use lib.ListN.{length, drop, getD}
 use Rattle.slices.specs.Bytes.{span, past}
 use Rattle.scan.specs.Classes.{white}
 use Rattle.document.specs.Tags.{Shown}
 use Rattle.document.specs.Tokens as tokens
-use Rattle.document.specs.Tokens.{Tag, start, close, fault, end, more, last, tagged, tagEnd}
-use Rattle.document.specs.Outcome.{TagIs, OnwardToken}
+use Rattle.document.specs.Tokens.{fault, last, tagged, tagEnd}
+use Rattle.document.specs.Outcome.{OnwardToken, Comes}
 use Rattle.document.specs.declared.Token.{Token}
 use Rattle.tags.specs.declared.TagEnd.{TagEnd}
 
@@ -18,13 +18,6 @@ pub record TagStart (doc : List ℕ) (lt : ℕ) : Type 0 where
   pub small : length doc ≤ 1048576
   pub inside : lt < length doc
   pub is : getD doc lt 0 ≡ 60
-
--- the answer is what the definition has
-abbrev pub Comes : List ℕ → tokens.Next → Token → Type 0
-Comes doc x (Token.Fault n p) = x ≡ last (fault n p)
-Comes doc x (Token.End p) = x ≡ last (end p)
-Comes doc x (Token.Close c) = x ≡ more (close (c .lt) (take (c .len) (drop (c .at) doc)) (c .end)) (c .end)
-Comes doc x (Token.Start c) = (t : Tag) × TagIs doc c t × (x ≡ more (start t) (c .end))
 
 -- what reading the tag at a place says, by what the definition has there
 pub record TagAt (doc : List ℕ) (lt : ℕ) (x : tokens.Next) (r : Token) : Type 0 where

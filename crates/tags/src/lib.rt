@@ -128,14 +128,14 @@ fn closing_tag(doc: &[u8], classes: &[u8; 256], lt: usize) -> Token
     let name = scan::name_at(doc, classes, at);
     let named = name.end;
     if named == at {
-        return Token::Fault(4, lt + 1);
+        return Token::Fault(document::bare(4, lt + 1));
     }
     let end = scan::space_end(doc, classes, named);
     if doc.len() <= end {
-        return Token::Fault(4, lt + 1);
+        return Token::Fault(document::bare(4, lt + 1));
     }
     if doc[end] != b'>' {
-        return Token::Fault(4, lt + 1);
+        return Token::Fault(document::bare(4, lt + 1));
     }
     Token::Close(ClosingTag {
         lt,
@@ -170,6 +170,33 @@ fn tag_end(doc: &[u8], classes: &[u8; 256], from: usize) -> TagEnd
     TagEnd::Here(true, at + 2)
 }
 
+// A fault at a reference, which is shown from its place to its `;`.
+fn reference_in(doc: &[u8], number: u32, place: usize) -> Refusal
+    requires { ⌜ (place ≤ length (now doc)) × (length (now doc) ≤ 1048576) ⌝ }
+    ensures { λ r. ⌜ r ≡ showing number place (record { at = place; len = suc (length (span (other 59) (drop place (now (doc .entry))))) }) ⌝ }
+{
+    let end = slices::find(doc, place, b';');
+    document::showing(number, place, Excerpt::new(place, end - place + 1))
+}
+
+// The refusal of a fault in the attributes: 8 shows the attribute's name, 10 and 11 the reference.
+fn fault_in(doc: &[u8], classes: &[u8; 256], number: u32, place: usize) -> Refusal
+    requires { ⌜ (place ≤ length (now doc)) × (length (now doc) ≤ 1048576) × Classes (now classes) ⌝ }
+    ensures { λ r. ⌜ r ≡ faultIn (now (doc .entry)) number place ⌝ }
+{
+    if number == 8 {
+        let name = scan::name_at(doc, classes, place);
+        return document::showing(number, place, Excerpt::new(place, name.end - place));
+    }
+    if number == 10 {
+        return reference_in(doc, number, place);
+    }
+    if number == 11 {
+        return reference_in(doc, number, place);
+    }
+    document::bare(number, place)
+}
+
 // The start tag whose `<` stands at a place.
 fn start_tag(doc: &[u8], classes: &[u8; 256], lt: usize) -> Token
     requires { ⌜ TagStart (now doc) lt × Classes (now classes) ⌝ }
@@ -179,12 +206,12 @@ fn start_tag(doc: &[u8], classes: &[u8; 256], lt: usize) -> Token
     let name = scan::name_at(doc, classes, at);
     let named = name.end;
     if named == at {
-        return Token::Fault(4, at);
+        return Token::Fault(document::bare(4, at));
     }
     match attributes::attributes(doc, classes, named) {
-        Attrs::Fault(number, place) => Token::Fault(number, place),
+        Attrs::Fault(number, place) => Token::Fault(fault_in(doc, classes, number, place)),
         Attrs::All(from, values) => match tag_end(doc, classes, from) {
-            TagEnd::Missing(place) => Token::Fault(4, place),
+            TagEnd::Missing(place) => Token::Fault(document::bare(4, place)),
             TagEnd::Here(closes, end) => {
                 let kind = kind_at(doc, at, name);
                 Token::Start(StartTag {
@@ -207,7 +234,7 @@ fn tag(doc: &[u8], classes: &[u8; 256], lt: usize) -> Token
 {
     let next = lt + 1;
     if doc.len() <= next {
-        return Token::Fault(4, next);
+        return Token::Fault(document::bare(4, next));
     }
     if doc[next] == b'/' {
         return closing_tag(doc, classes, lt);
@@ -221,7 +248,7 @@ pub fn token(doc: &[u8], classes: &[u8; 256], from: usize) -> Token
     ensures { λ r. ⌜ Tokenises (now (doc .entry)) from r ⌝ }
 {
     match scan::ignorable(doc, from) {
-        Scan::Fault(number, place) => Token::Fault(number, place),
+        Scan::Fault(number, place) => Token::Fault(document::bare(number, place)),
         Scan::At(at) => {
             if doc.len() <= at {
                 return Token::End(at);
@@ -231,40 +258,13 @@ pub fn token(doc: &[u8], classes: &[u8; 256], from: usize) -> Token
     }
 }
 
-// A fault at a reference, which is shown from its place to its `;`.
-fn reference_in(doc: &[u8], number: u32, place: usize) -> Refusal
-    requires { ⌜ (place ≤ length (now doc)) × (length (now doc) ≤ 1048576) ⌝ }
-    ensures { λ r. ⌜ r ≡ showing number place (record { at = place; len = suc (length (span (other 59) (drop place (now (doc .entry))))) }) ⌝ }
-{
-    let end = slices::find(doc, place, b';');
-    document::showing(number, place, Excerpt::new(place, end - place + 1))
-}
-
-// The refusal of a fault: 8 shows the attribute's name, 10 and 11 the reference.
-pub fn fault_in(doc: &[u8], classes: &[u8; 256], number: u32, place: usize) -> Refusal
-    requires { ⌜ (place ≤ length (now doc)) × (length (now doc) ≤ 1048576) × Classes (now classes) ⌝ }
-    ensures { λ r. ⌜ r ≡ faultIn (now (doc .entry)) number place ⌝ }
-{
-    if number == 8 {
-        let name = scan::name_at(doc, classes, place);
-        return document::showing(number, place, Excerpt::new(place, name.end - place));
-    }
-    if number == 10 {
-        return reference_in(doc, number, place);
-    }
-    if number == 11 {
-        return reference_in(doc, number, place);
-    }
-    document::bare(number, place)
-}
-
 // What comes next in an open element, whose name stands at a place with a length: 5 at the end, 6 after another closing tag.
 pub fn step(doc: &[u8], classes: &[u8; 256], from: usize, at: usize, len: usize) -> Next
     requires { ⌜ (from ≤ length (now doc)) × (at + len ≤ length (now doc)) × (length (now doc) ≤ 1048576) × Classes (now classes) ⌝ }
     ensures { λ r. ⌜ Steps (now (doc .entry)) from at len r ⌝ }
 {
     match token(doc, classes, from) {
-        Token::Fault(number, place) => Next::Fault(fault_in(doc, classes, number, place)),
+        Token::Fault(x) => Next::Fault(x),
         Token::End(place) => Next::Fault(document::showing(5, place, Excerpt::new(at, len))),
         Token::Close(c) => {
             let open = at + len;
@@ -283,6 +283,9 @@ pub fn step(doc: &[u8], classes: &[u8; 256], from: usize, at: usize, len: usize)
                 second,
             })
         }
-        Token::Start(c) => Next::Start(c),
+        Token::Start(c) => {
+            // by `return`: as the arm's value it would be copied once more, and `step` not compiled into its callers
+            return Next::Start(c);
+        }
     }
 }

@@ -10,7 +10,7 @@ use lib.Seq.{take-append-add, drop-append-add, take-append-le, take-all}
 use Rattle.slices.specs.Bytes.{if}
 use Rattle.utf8.specs.WellFormed.{illFormed}
 use Rattle.utf8.specs.WhiteSpace.{characters, codePoint, whiteSpace, leading, trimStart, trimEnd}
-use Rattle.utf8.specs.Trim.{trailing}
+use Rattle.utf8.specs.Trim.{trailing, TrimmedInside, TrimmedFormed}
 use Rattle.utf8.proofs.Texts.{All, joined, joined-append, all-append, Whole, whole, formed, none-whole, whole-append, whole-char, characters-whole}
 
 -- the first characters that are White_Space, and those after them
@@ -73,17 +73,22 @@ module _ (s : List ℕ) (h : illFormed s ≡ length s) where
   rest : Trailing (drop (trimStart s) s) (trailing (drop (trimStart s) s))
   rest = trails (drop (trimStart s) s) (leads s (whole s h) .after)
 
-  pub trim-order : (trimStart s ≤ trimEnd s) × (trimEnd s ≤ length s)
+  inside : (trimStart s ≤ trimEnd s) × (trimEnd s ≤ length s)
   unfolding trimEnd trailing
-  trim-order =
+  inside =
       let i = leads s (whole s h) .room in
       let j = rest .room in
       let k = length-drop (trimStart s) s in
       (omega arith, omega arith)
 
-  -- what is left is well-formed
-  pub trim-formed : illFormed (take (trimEnd s - trimStart s) (drop (trimStart s) s)) ≡ length (take (trimEnd s - trimStart s) (drop (trimStart s) s))
+  left-formed : illFormed (take (trimEnd s - trimStart s) (drop (trimStart s) s)) ≡ length (take (trimEnd s - trimStart s) (drop (trimStart s) s))
   unfolding trimEnd trailing
-  trim-formed =
+  left-formed =
       let e : trimEnd s - trimStart s ≡ length (drop (trimStart s) s) - trailing (drop (trimStart s) s) = omega (arith, length-drop (trimStart s) s) in
       rw e (formed (rest .before))
+
+pub trim-order : TrimmedInside
+trim-order = inside
+
+pub trim-formed : TrimmedFormed
+trim-formed = left-formed

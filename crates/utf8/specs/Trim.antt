@@ -1,12 +1,12 @@
 -- Where a well-formed text may be cut, and what the steps of trimming say.
 -- Assumes nothing.
-use Prim.Native.Nat.{ℕ, _+_, _≤_, _<_}
+use Prim.Native.Nat.{ℕ, _+_, _-_, _≤_, _<_}
 use mathlib.Core.Path.{_≡_}
 use mathlib.Core.List.{List, reverse}
 use lib.ListN.{length, take, drop}
 use Rattle.slices.specs.Bytes.{if}
 use Rattle.utf8.specs.WellFormed.{sequence, illFormed}
-use Rattle.utf8.specs.WhiteSpace.{characters, codePoint, whiteSpace, leading, trimStart}
+use Rattle.utf8.specs.WhiteSpace.{characters, codePoint, whiteSpace, leading, trimStart, trimEnd}
 
 -- what stands before a place is well-formed, and what follows it is
 pub record Boundary (s : List ℕ) (at : ℕ) : Type 0 where
@@ -36,3 +36,14 @@ pub record Starts (s : List ℕ) (r : ℕ) : Type 0 where
 -- r is where the text ends once its end is trimmed
 pub record Ends (s : List ℕ) (r : ℕ) : Type 0 where
   pub is : r + trailing s ≡ length s
+
+-- what trimming leaves of a well-formed text lies inside it
+abbrev pub TrimmedInside : Type 0
+TrimmedInside = (s : List ℕ) → illFormed s ≡ length s → (trimStart s ≤ trimEnd s) × (trimEnd s ≤ length s)
+
+-- what trimming leaves of a well-formed text is well-formed
+abbrev pub TrimmedFormed : Type 0
+TrimmedFormed =
+    (s : List ℕ) →
+    illFormed s ≡ length s →
+    illFormed (take (trimEnd s - trimStart s) (drop (trimStart s) s)) ≡ length (take (trimEnd s - trimStart s) (drop (trimStart s) s))

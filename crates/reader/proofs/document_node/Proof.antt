@@ -10,7 +10,6 @@ document-node-spec =
     (tie.spec
     (λ c κs. search firsts)
     (λ c. search firsts)
-    (λ c κs. search firsts)
     (λ c. search firsts)
     (λ c κs. search firsts)
     (λ c. search firsts)

@@ -1,6 +1,6 @@
 -- `tags::fault_in` meets its contract.
 -- Assumes nothing.
-use Rattle.tags.proofs.Stepping.{faults}
+use Rattle.tags.proofs.Faults.{faults}
 use Rattle.tags.proofs.fault_in.Statement.{statement}
 use Rattle.tags.proofs.fault_in.Tie as tie
 

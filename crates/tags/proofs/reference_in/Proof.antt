@@ -1,6 +1,6 @@
 -- `tags::reference_in` meets its contract.
 -- Assumes nothing.
-use Rattle.tags.proofs.Stepping.{faults}
+use Rattle.tags.proofs.Faults.{faults}
 use Rattle.tags.proofs.reference_in.Statement.{statement}
 use Rattle.tags.proofs.reference_in.Tie as tie
 

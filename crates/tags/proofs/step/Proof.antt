@@ -10,7 +10,6 @@ step-spec =
     (tie.spec
     (λ c κs. search stepping)
     (λ c. search stepping)
-    (λ c κs. search stepping)
     (λ c. search stepping)
     (λ c κs. search stepping)
     (λ c κs. search stepping)

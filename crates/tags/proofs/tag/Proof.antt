@@ -9,9 +9,10 @@ tag-spec =
     tie.close
     (tie.spec
     (λ c. search ways)
+    (λ c κs. search ways)
     (λ c. search ways)
     (λ c. search ways)
     (λ c κs. search ways)
     (λ c. search ways)
-    (λ c. search ways)
+    (λ c κs. search ways)
     (λ c. search ways))

@@ -8,10 +8,11 @@ pub token-spec : {M : Type 1} → statement M
 token-spec =
     tie.close
     (tie.spec
+    (λ c κs. search nexts)
+    (λ c. search nexts)
+    (λ c κs. search nexts)
     (λ c. search nexts)
     (λ c. search nexts)
-    (λ c. search nexts)
-    (λ c. search nexts)
-    (λ c. search nexts)
+    (λ c κs. search nexts)
     (λ c. search nexts)
     (λ c. search nexts))
