@@ -3,7 +3,7 @@
 use std::error;
 use std::fmt;
 
-use crate::{ffi, Document};
+use crate::{ffi, place, Document};
 
 /// Why a document or a value was refused. The discriminants are the numbers of docs/FORMAT.md;
 /// later versions may have more.
@@ -141,6 +141,12 @@ impl Error {
     /// [`columns`](crate::columns()) and [`rows`](crate::rows()) it is a number of rows.
     pub fn position(&self) -> usize {
         self.position
+    }
+
+    /// Where in lines and columns, both from 1, with the input that was refused.
+    /// [`Lines`](crate::Lines) says how they are counted.
+    pub fn line_column<I: AsRef<[u8]> + ?Sized>(&self, input: &I) -> (usize, usize) {
+        place::line_column(input.as_ref(), self.position)
     }
 
     /// A message describing the error, in zbus_xml's words where it has any (docs/FORMAT.md,
@@ -286,6 +292,22 @@ impl<'d> Warning<'d> {
     /// The byte offset in the document at which the element starts.
     pub fn position(&self) -> usize {
         self.position
+    }
+
+    /// Where in lines and columns, both from 1, with the input or the [text](Document::text) of the
+    /// document. [`Lines`](crate::Lines) says how they are counted, and is quicker where there are
+    /// many.
+    ///
+    /// ```
+    /// use introspection::Document;
+    ///
+    /// let hinge = Document::from_reader(std::fs::File::open("../../examples/hinge.xml")?)?;
+    /// let warning = hinge.warnings().next().unwrap();
+    /// assert_eq!(warning.line_column(hinge.text()), (3, 5));
+    /// # Ok::<(), introspection::ReadError>(())
+    /// ```
+    pub fn line_column<I: AsRef<[u8]> + ?Sized>(&self, input: &I) -> (usize, usize) {
+        place::line_column(input.as_ref(), self.position)
     }
 
     /// The name of the element.

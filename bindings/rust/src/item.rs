@@ -15,17 +15,17 @@ impl<'d> Node<'d> {
     }
 
     /// The nodes in this one.
-    pub fn nodes(&self) -> impl Iterator<Item = Node<'d>> + Clone + 'd {
+    pub fn nodes(&self) -> impl ExactSizeIterator<Item = Node<'d>> + Clone + 'd {
         self.0.held(kind::NODE, Node)
     }
 
     /// The interfaces of this node.
-    pub fn interfaces(&self) -> impl Iterator<Item = Interface<'d>> + Clone + 'd {
+    pub fn interfaces(&self) -> impl ExactSizeIterator<Item = Interface<'d>> + Clone + 'd {
         self.0.held(kind::INTERFACE, Interface)
     }
 
     /// The type definitions on this node.
-    pub fn telepathy_types(&self) -> impl Iterator<Item = TypeDef<'d>> + Clone + 'd {
+    pub fn telepathy_types(&self) -> impl ExactSizeIterator<Item = TypeDef<'d>> + Clone + 'd {
         telepathy::types(self.0)
     }
 
@@ -67,32 +67,32 @@ impl<'d> Interface<'d> {
     /// assert_eq!(names, ["S", "M"]);
     /// # Ok::<(), introspection::Error>(())
     /// ```
-    pub fn children(&self) -> impl Iterator<Item = Child<'d>> + Clone + 'd {
-        self.0.children().filter_map(Child::of)
+    pub fn children(&self) -> impl ExactSizeIterator<Item = Child<'d>> + Clone + 'd {
+        self.0.held_as(Child::of)
     }
 
     /// The methods.
-    pub fn methods(&self) -> impl Iterator<Item = Method<'d>> + Clone + 'd {
+    pub fn methods(&self) -> impl ExactSizeIterator<Item = Method<'d>> + Clone + 'd {
         self.0.held(kind::METHOD, Method)
     }
 
     /// The signals.
-    pub fn signals(&self) -> impl Iterator<Item = Signal<'d>> + Clone + 'd {
+    pub fn signals(&self) -> impl ExactSizeIterator<Item = Signal<'d>> + Clone + 'd {
         self.0.held(kind::SIGNAL, Signal)
     }
 
     /// The properties.
-    pub fn properties(&self) -> impl Iterator<Item = Property<'d>> + Clone + 'd {
+    pub fn properties(&self) -> impl ExactSizeIterator<Item = Property<'d>> + Clone + 'd {
         self.0.held(kind::PROPERTY, Property)
     }
 
     /// The annotations on the interface itself.
-    pub fn annotations(&self) -> impl Iterator<Item = Annotation<'d>> + Clone + 'd {
+    pub fn annotations(&self) -> impl ExactSizeIterator<Item = Annotation<'d>> + Clone + 'd {
         self.0.held(kind::ANNOTATION, Annotation)
     }
 
     /// The type definitions on this interface.
-    pub fn telepathy_types(&self) -> impl Iterator<Item = TypeDef<'d>> + Clone + 'd {
+    pub fn telepathy_types(&self) -> impl ExactSizeIterator<Item = TypeDef<'d>> + Clone + 'd {
         telepathy::types(self.0)
     }
 
@@ -139,12 +139,12 @@ impl<'d> Method<'d> {
     }
 
     /// The arguments.
-    pub fn args(&self) -> impl Iterator<Item = Arg<'d>> + Clone + 'd {
+    pub fn args(&self) -> impl ExactSizeIterator<Item = Arg<'d>> + Clone + 'd {
         self.0.held(kind::ARG, Arg)
     }
 
     /// The annotations on the method itself.
-    pub fn annotations(&self) -> impl Iterator<Item = Annotation<'d>> + Clone + 'd {
+    pub fn annotations(&self) -> impl ExactSizeIterator<Item = Annotation<'d>> + Clone + 'd {
         self.0.held(kind::ANNOTATION, Annotation)
     }
 
@@ -166,12 +166,12 @@ impl<'d> Signal<'d> {
     }
 
     /// The arguments.
-    pub fn args(&self) -> impl Iterator<Item = Arg<'d>> + Clone + 'd {
+    pub fn args(&self) -> impl ExactSizeIterator<Item = Arg<'d>> + Clone + 'd {
         self.0.held(kind::ARG, Arg)
     }
 
     /// The annotations on the signal itself.
-    pub fn annotations(&self) -> impl Iterator<Item = Annotation<'d>> + Clone + 'd {
+    pub fn annotations(&self) -> impl ExactSizeIterator<Item = Annotation<'d>> + Clone + 'd {
         self.0.held(kind::ANNOTATION, Annotation)
     }
 
@@ -230,7 +230,7 @@ impl<'d> Property<'d> {
     }
 
     /// The annotations.
-    pub fn annotations(&self) -> impl Iterator<Item = Annotation<'d>> + Clone + 'd {
+    pub fn annotations(&self) -> impl ExactSizeIterator<Item = Annotation<'d>> + Clone + 'd {
         self.0.held(kind::ANNOTATION, Annotation)
     }
 
@@ -297,7 +297,7 @@ impl<'d> Arg<'d> {
     }
 
     /// The annotations.
-    pub fn annotations(&self) -> impl Iterator<Item = Annotation<'d>> + Clone + 'd {
+    pub fn annotations(&self) -> impl ExactSizeIterator<Item = Annotation<'d>> + Clone + 'd {
         self.0.held(kind::ANNOTATION, Annotation)
     }
 

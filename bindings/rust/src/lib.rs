@@ -36,6 +36,10 @@
 //! # Ok::<(), introspection::Error>(())
 //! ```
 //!
+//! [`Document::from_reader`] and [`Document::into_owned`] give a document that owns its input, so that
+//! it can be kept. [`Error::line_column`], [`Warning::line_column`] and [`Lines`] tell a place by its
+//! line and column.
+//!
 //! [`columns`](columns()) puts the rows of a table down as columns of differences, and [`rows`](rows()) puts
 //! them back.
 //!
@@ -49,6 +53,8 @@ mod columns;
 #[allow(unsafe_code)]
 mod ffi;
 mod item;
+mod place;
+mod reader;
 mod row;
 pub mod telepathy;
 mod text;
@@ -60,6 +66,7 @@ mod tests;
 #[doc = include_str!("../README.md")]
 struct Readme;
 
+use std::borrow::Cow;
 use std::fmt;
 use std::str;
 
@@ -68,6 +75,8 @@ pub use columns::{columns, rows};
 pub use item::{
     Annotation, Arg, ArgDirection, Child, Interface, Method, Node, Property, PropertyAccess, Signal,
 };
+pub use place::Lines;
+pub use reader::ReadError;
 pub use text::{escape, unescape};
 
 use row::{kind, Row};
@@ -77,12 +86,15 @@ pub const LIMIT: usize = 1 << 20;
 
 /// A document that was read. It borrows the input, and owns the tables that were filled.
 ///
+/// A `Document<'static>` owns the input too: [`Document::from_reader`] and
+/// [`Document::into_owned`] make one, and it may be kept or handed to another thread.
+///
 /// What it lends is `Copy` and lives as long as the borrow of the document. Two documents, or two
 /// items, are equal if they have the same content in the same order, wherever in the input it
 /// stands.
 #[derive(Clone)]
 pub struct Document<'a> {
-    input: &'a str,
+    input: Cow<'a, str>,
     text: String,
     rows: Vec<[u32; 16]>,
     ends: Vec<u32>,
@@ -126,7 +138,7 @@ impl<'a> Document<'a> {
         shrink(&mut text, counts.text);
         // Proved too; checked once more, in a small part of the time of reading, so that no `&str`
         // rests on the archive alone.
-        let input = str::from_utf8(input).expect("an accepted document is UTF-8");
+        let input = Cow::Borrowed(str::from_utf8(input).expect("an accepted document is UTF-8"));
         let text = String::from_utf8(text).expect("the text of an accepted document is UTF-8");
         let ends = row::ends(&rows);
         Ok(Self {
@@ -141,6 +153,11 @@ impl<'a> Document<'a> {
     /// The root of the document.
     pub fn root(&self) -> Node<'_> {
         Node(self.row(0))
+    }
+
+    /// The text of the document: the input. Every position is a byte offset in it.
+    pub fn text(&self) -> &str {
+        &self.input
     }
 
     /// The root and every node below it, in document order.

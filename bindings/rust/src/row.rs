@@ -13,7 +13,7 @@ pub(crate) mod kind {
     pub(crate) const ARG: u32 = 7;
     pub(crate) const SIMPLE_TYPE: u32 = 8;
     pub(crate) const ENUM: u32 = 9;
-    pub(crate) const ENUM_VALUE: u32 = 10;
+    pub(crate) const ENUMVALUE: u32 = 10;
     pub(crate) const STRUCT: u32 = 11;
     pub(crate) const MEMBER: u32 = 12;
     pub(crate) const MAPPING: u32 = 13;
@@ -114,10 +114,20 @@ impl<'d> Row<'d> {
         self,
         kind: u32,
         view: fn(Row<'d>) -> T,
-    ) -> impl Iterator<Item = T> + Clone + 'd {
-        self.children()
-            .filter(move |row| row.kind() == kind)
-            .map(view)
+    ) -> impl ExactSizeIterator<Item = T> + Clone + 'd {
+        self.held_as(move |row| (row.kind() == kind).then(|| view(row)))
+    }
+
+    /// What some of its children are seen as. Their number is counted first.
+    pub(crate) fn held_as<T: 'd>(
+        self,
+        of: impl Fn(Row<'d>) -> Option<T> + Clone + 'd,
+    ) -> impl ExactSizeIterator<Item = T> + Clone + 'd {
+        let left = self.children().filter_map(&of).count();
+        Held {
+            inner: self.children().filter_map(of),
+            left,
+        }
     }
 }
 
@@ -167,6 +177,29 @@ impl<'d> Iterator for Children<'d> {
         Some(row)
     }
 }
+
+/// An iterator with the number of what it has left.
+#[derive(Clone)]
+struct Held<I> {
+    inner: I,
+    left: usize,
+}
+
+impl<I: Iterator> Iterator for Held<I> {
+    type Item = I::Item;
+
+    fn next(&mut self) -> Option<I::Item> {
+        let item = self.inner.next()?;
+        self.left -= 1;
+        Some(item)
+    }
+
+    fn size_hint(&self) -> (usize, Option<usize>) {
+        (self.left, Some(self.left))
+    }
+}
+
+impl<I: Iterator> ExactSizeIterator for Held<I> {}
 
 /// A type that looks at a row of one kind.
 macro_rules! view {

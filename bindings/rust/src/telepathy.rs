@@ -7,8 +7,26 @@
 use crate::row::{kind, view, word, Row};
 
 /// The type definitions that stand in a row.
-pub(crate) fn types<'d>(row: Row<'d>) -> impl Iterator<Item = TypeDef<'d>> + Clone + 'd {
-    row.children().filter_map(TypeDef::of)
+pub(crate) fn types<'d>(row: Row<'d>) -> impl ExactSizeIterator<Item = TypeDef<'d>> + Clone + 'd {
+    row.held_as(TypeDef::of)
+}
+
+/// One complete type: a signature that is one, or the structure of several.
+fn one_type(signature: &str) -> String {
+    let bytes = signature.as_bytes();
+    let mut open = 0_usize;
+    let end = bytes.iter().position(|byte| {
+        match byte {
+            b'(' | b'{' => open += 1,
+            b')' | b'}' => open -= 1,
+            _ => {}
+        }
+        open == 0 && *byte != b'a'
+    });
+    match end {
+        Some(end) if end + 1 < bytes.len() => format!("({signature})"),
+        _ => signature.to_string(),
+    }
 }
 
 /// A type definition.
@@ -47,6 +65,16 @@ impl<'d> TypeDef<'d> {
     /// The name of the type.
     pub fn name(&self) -> &'d str {
         self.inner().required(word::NAME)
+    }
+
+    /// The signature of the type.
+    pub fn signature(&self) -> String {
+        match self {
+            TypeDef::SimpleType(definition) => one_type(definition.ty()),
+            TypeDef::Enum(definition) => one_type(definition.ty()),
+            TypeDef::Struct(definition) => definition.signature(),
+            TypeDef::Mapping(definition) => definition.signature(),
+        }
     }
 
     /// The raw content of its docstring, trimmed, if any.
@@ -99,8 +127,8 @@ impl<'d> Enum<'d> {
     }
 
     /// The values.
-    pub fn values(&self) -> impl Iterator<Item = EnumValue<'d>> + Clone + 'd {
-        self.0.held(kind::ENUM_VALUE, EnumValue)
+    pub fn values(&self) -> impl ExactSizeIterator<Item = EnumValue<'d>> + Clone + 'd {
+        self.0.held(kind::ENUMVALUE, EnumValue)
     }
 
     /// The raw content of its docstring, trimmed, if any.
@@ -143,8 +171,32 @@ impl<'d> Struct<'d> {
     }
 
     /// The members; there is at least one.
-    pub fn members(&self) -> impl Iterator<Item = Member<'d>> + Clone + 'd {
+    pub fn members(&self) -> impl ExactSizeIterator<Item = Member<'d>> + Clone + 'd {
         self.0.held(kind::MEMBER, Member)
+    }
+
+    /// The signature of the structure: the types of its members in parentheses.
+    ///
+    /// A member whose type is several complete types in a row counts as one structure of these.
+    /// Very many members make a signature that is longer than D-Bus allows.
+    ///
+    /// ```
+    /// use introspection::telepathy::TypeDef;
+    /// use introspection::Document;
+    ///
+    /// let xml = b"<node><tp:struct name='S'>
+    ///   <tp:member name='Azimuth' type='d'/><tp:member name='Readings' type='a{sv}'/>
+    /// </tp:struct></node>";
+    /// let document = Document::parse(xml)?;
+    /// let Some(TypeDef::Struct(definition)) = document.root().telepathy_types().next() else {
+    ///     panic!("it is there")
+    /// };
+    /// assert_eq!(definition.signature(), "(da{sv})");
+    /// # Ok::<(), introspection::Error>(())
+    /// ```
+    pub fn signature(&self) -> String {
+        let types: String = self.members().map(|member| one_type(member.ty())).collect();
+        format!("({types})")
     }
 
     /// The raw content of its docstring, trimmed, if any.
@@ -165,7 +217,7 @@ impl<'d> Mapping<'d> {
     }
 
     /// The two members: key and value.
-    pub fn members(&self) -> impl Iterator<Item = Member<'d>> + Clone + 'd {
+    pub fn members(&self) -> impl ExactSizeIterator<Item = Member<'d>> + Clone + 'd {
         self.0.held(kind::MEMBER, Member)
     }
 
@@ -177,6 +229,13 @@ impl<'d> Mapping<'d> {
     /// The value.
     pub fn value(&self) -> Member<'d> {
         self.member(1)
+    }
+
+    /// The signature of the dictionary, such as `a{sv}`. A value whose type is several complete
+    /// types in a row counts as one structure of these.
+    pub fn signature(&self) -> String {
+        let [key, value] = [self.key(), self.value()].map(|member| one_type(member.ty()));
+        format!("a{{{key}{value}}}")
     }
 
     fn member(&self, n: usize) -> Member<'d> {
