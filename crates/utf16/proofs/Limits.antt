@@ -1,7 +1,7 @@
 -- Units below 128, told by the largest that each byte may be.
 -- Assumes nothing.
 use Prim.Native.Nat.{ℕ, _+_, _-_, _*_, _≤_, _<_}
-use mathlib.Core.Path.{_≡_, refl}
+use mathlib.Core.Path.{_≡_}
 use mathlib.Core.List.{List}
 use mathlib.Core.Bool.{Bool, true, false, not}
 use borrow.Author.Needs.{needs}
@@ -9,7 +9,7 @@ use borrow.Author.Tests.{not-true}
 use native.Mathlib.Omega.{arith}
 use lib.ListN.{length, getD}
 use Rattle.utf8.proofs.Sequences.{below}
-use Rattle.utf16.specs.Outcome.{IsUnit, Exceeds, Below, Limited, lowByte, Block, IsAscii}
+use Rattle.utf16.specs.Outcome.{Exceeds, Below, Limited, Block, IsAscii}
 
 pub exceeds-here : {over : Bool} {b limit : ℕ} → limit < b → Exceeds over b limit true
 exceeds-here h = record { is = λ e. let z : _≡_ {A = ℕ} 0 1 = cc in absurd (omega arith) }
