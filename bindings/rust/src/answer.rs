@@ -155,7 +155,30 @@ impl Error {
     /// Where in lines and columns, both from 1, with the input that was refused.
     /// [`Lines`](crate::Lines) says how they are counted.
     pub fn line_column<I: AsRef<[u8]> + ?Sized>(&self, input: &I) -> (usize, usize) {
-        place::line_column(input.as_ref(), self.position)
+        place::line_column(input.as_ref(), self.text_position(input))
+    }
+
+    /// Where in the text, with the input that was refused: the [position](Self::position), but for
+    /// the two that are places in an input in UTF-16.
+    ///
+    /// ```
+    /// use introspection::{Document, ErrorKind};
+    ///
+    /// let input = b"\xfe\xff\0<\0\xe9\xdc\0";
+    /// let error = Document::parse(input).unwrap_err();
+    /// assert_eq!(error.kind(), ErrorKind::LoneSurrogate);
+    /// assert_eq!(error.position(), 6);
+    /// assert_eq!(error.text_position(input), 3);
+    /// assert_eq!(error.line_column(input), (1, 3));
+    /// ```
+    pub fn text_position<I: AsRef<[u8]> + ?Sized>(&self, input: &I) -> usize {
+        match self.kind {
+            OddBytes | LoneSurrogate => {
+                let input = input.as_ref();
+                place::text(&input[..self.position.min(input.len())]).len()
+            }
+            _ => self.position,
+        }
     }
 
     /// A message describing the error, in zbus_xml's words where it has any (docs/FORMAT.md,
