@@ -58,15 +58,24 @@ static int read_file(struct document *document, const char *path)
     return good;
 }
 
-/* Reads the document into tables of the size that is always enough. */
+/* Reads the document into tables of the size that is always enough: a file in UTF-16 is decoded to at most 3/2 of its
+ * bytes. What was decoded is the document of everything that follows. */
 static void read_document(struct document *document)
 {
-    size_t n = document->length;
+    size_t length = document->length, n = length + length / 2;
+    uint8_t *decoded = (uint8_t *)room(n, 1);
     document->rows = (uint32_t *)room(n / 4 * INTROSPECTION_ROW_WORDS, sizeof(uint32_t));
     document->warnings = (uint32_t *)room(n / 4 * INTROSPECTION_WARNING_WORDS, sizeof(uint32_t));
     document->text = (uint8_t *)room(n, 1);
-    introspection_read(document->bytes, n, document->rows, n / 4 * INTROSPECTION_ROW_WORDS, document->warnings,
-                       n / 4 * INTROSPECTION_WARNING_WORDS, document->text, n, document->answer);
+    introspection_read(document->bytes, length, document->rows, n / 4 * INTROSPECTION_ROW_WORDS, document->warnings,
+                       n / 4 * INTROSPECTION_WARNING_WORDS, document->text, n, decoded, n, document->answer);
+    if (document->answer[INTROSPECTION_ANSWER_DECODED] == 0) {
+        free(decoded);
+    } else {
+        free(document->bytes);
+        document->bytes = decoded;
+        document->length = (size_t)document->answer[INTROSPECTION_ANSWER_DECODED];
+    }
 }
 
 static void let_go(struct document *document)
@@ -107,7 +116,11 @@ static void tell_refusal(const struct document *document)
     uint8_t *message = (uint8_t *)room(length, 1);
     uint64_t answer[3];
     introspection_message(document->bytes, document->length, refusal, message, length, answer);
-    tell_place(document, (size_t)refusal[INTROSPECTION_ANSWER_PLACE]);
+    if (refusal[INTROSPECTION_ANSWER_NUMBER] == INTROSPECTION_ODD_BYTES ||
+        refusal[INTROSPECTION_ANSWER_NUMBER] == INTROSPECTION_LONE_SURROGATE)
+        fprintf(stderr, "%s: byte %lu: ", document->name, (unsigned long)refusal[INTROSPECTION_ANSWER_PLACE]);
+    else
+        tell_place(document, (size_t)refusal[INTROSPECTION_ANSWER_PLACE]);
     fprintf(stderr, "error: %.*s\n", (int)answer[2], (const char *)message);
     free(message);
 }

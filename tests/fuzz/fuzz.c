@@ -162,30 +162,47 @@ static void compare(struct view *view, uint8_t *other, size_t other_length)
 /* ---- a document and its tables */
 
 struct tables {
-    struct guarded document, rows, warnings, text, answer;
-    uint64_t *a; /* the words of the answer */
+    struct guarded file, rows, warnings, text, decoded, answer;
+    struct guarded document; /* the file, or what was decoded from UTF-16 */
+    uint64_t *a;             /* the words of the answer */
 };
 
-static struct tables read_document(const uint8_t *data, size_t size, size_t rows, size_t warnings, size_t text)
+static struct tables read_document(const uint8_t *data, size_t size, size_t rows, size_t warnings, size_t text,
+                                   size_t decoded)
 {
     struct tables t;
-    t.document = copied(data, size);
+    t.file = copied(data, size);
+    t.decoded = guarded(decoded);
     t.rows = guarded(rows * 4 * INTROSPECTION_ROW_WORDS);
     t.warnings = guarded(warnings * 4 * INTROSPECTION_WARNING_WORDS);
     t.text = guarded(text);
     t.answer = guarded(8 * INTROSPECTION_ANSWER_WORDS);
     t.a = (uint64_t *)t.answer.buffer;
-    introspection_read(t.document.buffer, size, (uint32_t *)t.rows.buffer, t.rows.used / 4,
-                       (uint32_t *)t.warnings.buffer, t.warnings.used / 4, t.text.buffer, text, t.a);
+    introspection_read(t.file.buffer, size, (uint32_t *)t.rows.buffer, t.rows.used / 4, (uint32_t *)t.warnings.buffer,
+                       t.warnings.used / 4, t.text.buffer, text, t.decoded.buffer, decoded, t.a);
+    REQUIRE(t.a[INTROSPECTION_ANSWER_DECODED] <= decoded);
+    if (t.a[INTROSPECTION_ANSWER_DECODED] != 0)
+        t.document = copied(t.decoded.buffer, (size_t)t.a[INTROSPECTION_ANSWER_DECODED]);
+    else
+        t.document = copied(data, size);
     return t;
+}
+
+/* With room that is always enough: what is decoded has at most 3/2 of the bytes. */
+static struct tables read_whole(const uint8_t *data, size_t size)
+{
+    size_t most = size + size / 2;
+    return read_document(data, size, most / 4, most / 4, most, most);
 }
 
 static void let_tables_go(struct tables *t)
 {
+    let_go(&t->file);
     let_go(&t->document);
     let_go(&t->rows);
     let_go(&t->warnings);
     let_go(&t->text);
+    let_go(&t->decoded);
     let_go(&t->answer);
 }
 
@@ -198,11 +215,12 @@ static void check_tables(const struct tables *t)
     REQUIRE(all_zero(t->rows.buffer, rows * 64, t->rows.used));
     REQUIRE(all_zero(t->warnings.buffer, warnings * 16, t->warnings.used));
     REQUIRE(all_zero(t->text.buffer, text, t->text.used));
+    REQUIRE(all_zero(t->decoded.buffer, t->a[INTROSPECTION_ANSWER_DECODED], t->decoded.used));
     REQUIRE(4 * (rows + warnings) <= t->document.used && text <= t->document.used);
     if (t->a[0] != INTROSPECTION_ACCEPTED)
         REQUIRE(rows == 0 && warnings == 0 && text == 0);
     else
-        REQUIRE(rows > 0 && all_zero(t->a, 5 * 8, 16 * 8));
+        REQUIRE(rows > 0 && all_zero(t->a, 5 * 8, 12 * 8) && all_zero(t->a, 13 * 8, 16 * 8));
 }
 
 /* ---- messages */
@@ -332,7 +350,7 @@ static void check_columns(const struct tables *t)
 
 static void try_document(const uint8_t *data, size_t size)
 {
-    struct tables t = read_document(data, size, size / 4, size / 4, size);
+    struct tables t = read_whole(data, size);
     struct view view = {NULL, 0, 0};
     size_t other_length;
     uint8_t *other = view_document(data, size, &other_length);
@@ -354,21 +372,22 @@ static void try_document(const uint8_t *data, size_t size)
 /* With less room the answer is the same, or that there is no room. */
 static void try_less_room(const uint8_t *data, size_t size)
 {
-    struct tables whole = read_document(data, size, size / 4, size / 4, size);
+    struct tables whole = read_whole(data, size);
     size_t k;
-    for (k = 0; k < 3; k++) {
+    for (k = 0; k < 4; k++) {
         size_t rows = (size_t)whole.a[INTROSPECTION_ANSWER_ROWS];
         size_t warnings = (size_t)whole.a[INTROSPECTION_ANSWER_WARNINGS];
         size_t text = (size_t)whole.a[INTROSPECTION_ANSWER_TEXT_BYTES];
-        size_t *one = k == 0 ? &rows : k == 1 ? &warnings : &text;
+        size_t decoded = (size_t)whole.a[INTROSPECTION_ANSWER_DECODED];
+        size_t *one = k == 0 ? &rows : k == 1 ? &warnings : k == 2 ? &text : &decoded;
         int less = *one > 0;
         struct tables t;
         if (less)
             --*one;
-        t = read_document(data, size, rows, warnings, text);
+        t = read_document(data, size, rows, warnings, text, decoded);
         check_tables(&t);
         if (less)
-            REQUIRE(t.a[0] == INTROSPECTION_NO_ROOM && t.a[1] == size);
+            REQUIRE(t.a[0] == INTROSPECTION_NO_ROOM && t.a[1] == (k == 3 ? size : whole.document.used));
         else
             REQUIRE(memcmp(t.a, whole.a, 16 * 8) == 0);
         let_tables_go(&t);

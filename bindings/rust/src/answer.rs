@@ -62,13 +62,18 @@ pub enum ErrorKind {
     UnclosedInstruction = 24,
     /// A declaration that never closes. Place: past the quote that never closes, else the length.
     UnclosedDeclaration = 25,
+    /// An input in UTF-16 that has an odd number of bytes. Place: its length.
+    OddBytes = 26,
+    /// A surrogate without its partner in an input in UTF-16. Place: the first byte of its unit, in
+    /// the input.
+    LoneSurrogate = 27,
     /// More than 262,144 rows, to be put down as columns or to be made from them. Place: 262,144.
     TooManyRows = 30,
 }
 
 use ErrorKind::*;
 
-const KINDS: [ErrorKind; 26] = [
+const KINDS: [ErrorKind; 28] = [
     NotUtf8,
     TooLong,
     NoRoot,
@@ -94,6 +99,8 @@ const KINDS: [ErrorKind; 26] = [
     UnclosedCdata,
     UnclosedInstruction,
     UnclosedDeclaration,
+    OddBytes,
+    LoneSurrogate,
     TooManyRows,
 ];
 
@@ -137,8 +144,10 @@ impl Error {
         self.kind.number()
     }
 
-    /// Where: bytes from the start of the document or of the value. It is at most its length. Of
-    /// [`columns`](crate::columns()) and [`rows`](crate::rows()) it is a number of rows.
+    /// Where: bytes from the start of the document or of the value. It is at most its length. The
+    /// document of an input in UTF-16 is what it was decoded to; only
+    /// [`OddBytes`](ErrorKind::OddBytes) and [`LoneSurrogate`](ErrorKind::LoneSurrogate) are places in
+    /// the input. Of [`columns`](crate::columns()) and [`rows`](crate::rows()) it is a number of rows.
     pub fn position(&self) -> usize {
         self.position
     }
@@ -146,7 +155,30 @@ impl Error {
     /// Where in lines and columns, both from 1, with the input that was refused.
     /// [`Lines`](crate::Lines) says how they are counted.
     pub fn line_column<I: AsRef<[u8]> + ?Sized>(&self, input: &I) -> (usize, usize) {
-        place::line_column(input.as_ref(), self.position)
+        place::line_column(input.as_ref(), self.text_position(input))
+    }
+
+    /// Where in the text, with the input that was refused: the [position](Self::position), but for
+    /// the two that are places in an input in UTF-16.
+    ///
+    /// ```
+    /// use introspection::{Document, ErrorKind};
+    ///
+    /// let input = b"\xfe\xff\0<\0\xe9\xdc\0";
+    /// let error = Document::parse(input).unwrap_err();
+    /// assert_eq!(error.kind(), ErrorKind::LoneSurrogate);
+    /// assert_eq!(error.position(), 6);
+    /// assert_eq!(error.text_position(input), 3);
+    /// assert_eq!(error.line_column(input), (1, 3));
+    /// ```
+    pub fn text_position<I: AsRef<[u8]> + ?Sized>(&self, input: &I) -> usize {
+        match self.kind {
+            OddBytes | LoneSurrogate => {
+                let input = input.as_ref();
+                place::text(&input[..self.position.min(input.len())]).len()
+            }
+            _ => self.position,
+        }
     }
 
     /// A message describing the error, in zbus_xml's words where it has any (docs/FORMAT.md,
@@ -289,7 +321,7 @@ impl<'d> Warning<'d> {
         self.reason.number()
     }
 
-    /// The byte offset in the document at which the element starts.
+    /// The byte offset in the [text](Document::text) of the document at which the element starts.
     pub fn position(&self) -> usize {
         self.position
     }

@@ -1,8 +1,30 @@
 //! Lines and columns of places.
 
-/// The line and the column of a place in an input, both from 1. See [`Lines`] for how they are
-/// counted, and for many places in one input.
+use std::borrow::Cow;
+
+use crate::is_utf16;
+
+/// The text of an input: what the reader reads of it. In UTF-16 that cannot be decoded, U+FFFD stands
+/// for a surrogate without its partner, and an odd byte at the end is left out.
+pub(crate) fn text(input: &[u8]) -> Cow<'_, [u8]> {
+    if !is_utf16(input) {
+        return Cow::Borrowed(input);
+    }
+    let unit = match input[0] {
+        0xfe => u16::from_be_bytes,
+        _ => u16::from_le_bytes,
+    };
+    let units = input[2..]
+        .chunks_exact(2)
+        .map(|pair| unit([pair[0], pair[1]]));
+    let characters = char::decode_utf16(units).map(|c| c.unwrap_or(char::REPLACEMENT_CHARACTER));
+    Cow::Owned(characters.collect::<String>().into_bytes())
+}
+
+/// The line and the column of a place in the text of an input, both from 1. See [`Lines`] for how
+/// they are counted, and for many places in one input.
 pub(crate) fn line_column(input: &[u8], position: usize) -> (usize, usize) {
+    let input = &*text(input);
     let before = &input[..position.min(input.len())];
     let mut line = 1;
     let mut start = 0;
@@ -16,7 +38,8 @@ pub(crate) fn line_column(input: &[u8], position: usize) -> (usize, usize) {
 /// The lines of an input, for whoever shows many places in it.
 ///
 /// Lines and columns count from 1. A line ends with LF, CR LF or CR. A column is counted in
-/// characters; in what is not UTF-8, in bytes that do not continue a character.
+/// characters; in what is not UTF-8, in bytes that do not continue a character. An input in UTF-16 is
+/// decoded first, as the reader does, and the lines are those of its text.
 ///
 /// Making it takes time in proportion to the input; asking it for a place does not.
 ///
@@ -36,7 +59,7 @@ pub(crate) fn line_column(input: &[u8], position: usize) -> (usize, usize) {
 /// ```
 #[derive(Clone, Debug)]
 pub struct Lines<'a> {
-    input: &'a [u8],
+    text: Cow<'a, [u8]>,
     /// Where each line starts.
     starts: Vec<usize>,
     /// How many characters start before each block.
@@ -49,17 +72,17 @@ const BLOCK: usize = 256;
 impl<'a> Lines<'a> {
     /// The lines of an input: a `&[u8]` or a `&str`.
     pub fn new<I: AsRef<[u8]> + ?Sized>(input: &'a I) -> Self {
-        let input = input.as_ref();
+        let text = text(input.as_ref());
         let mut starts = vec![0];
-        while let Some(next) = line_after(input, starts[starts.len() - 1]) {
+        while let Some(next) = line_after(&text, starts[starts.len() - 1]) {
             starts.push(next);
         }
         let mut counts = vec![0];
-        for block in input.chunks(BLOCK) {
+        for block in text.chunks(BLOCK) {
             counts.push(counts[counts.len() - 1] + characters(block));
         }
         Self {
-            input,
+            text,
             starts,
             counts,
         }
@@ -67,7 +90,7 @@ impl<'a> Lines<'a> {
 
     /// The line and the column of a place. One past the end is that of the end.
     pub fn line_column(&self, position: usize) -> (usize, usize) {
-        let position = position.min(self.input.len());
+        let position = position.min(self.text.len());
         let line = self.starts.partition_point(|&start| start <= position);
         let start = self.starts[line - 1];
         (line, 1 + self.before(position) - self.before(start))
@@ -76,13 +99,13 @@ impl<'a> Lines<'a> {
     /// Where a line starts; that of one that is not there is the end.
     pub fn start(&self, line: usize) -> usize {
         let start = line.checked_sub(1).and_then(|line| self.starts.get(line));
-        start.copied().unwrap_or(self.input.len())
+        start.copied().unwrap_or(self.text.len())
     }
 
     /// The bytes of a line, without its end; none if there is no such line.
     pub fn line(&self, line: usize) -> &[u8] {
         let [start, next] = [line, line.saturating_add(1)].map(|line| self.start(line));
-        match self.input.get(start..next).unwrap_or_default() {
+        match self.text.get(start..next).unwrap_or_default() {
             [line @ .., b'\r', b'\n'] | [line @ .., b'\n' | b'\r'] => line,
             line => line,
         }
@@ -91,7 +114,7 @@ impl<'a> Lines<'a> {
     /// How many characters start before a place.
     fn before(&self, position: usize) -> usize {
         let block = position / BLOCK;
-        self.counts[block] + characters(&self.input[block * BLOCK..position])
+        self.counts[block] + characters(&self.text[block * BLOCK..position])
     }
 }
 

@@ -408,3 +408,42 @@ fn deep_documents_are_not_indented_without_end() {
     assert!(stdout.lines().all(|line| line.len() <= 64 + 4));
     assert_eq!(status, 0);
 }
+
+/// Units as bytes, after a byte order mark.
+fn utf16(units: impl IntoIterator<Item = u16>, bytes: fn(u16) -> [u8; 2]) -> Vec<u8> {
+    let marked = [0xfeff].into_iter().chain(units);
+    marked.flat_map(bytes).collect()
+}
+
+const ORDERS: [fn(u16) -> [u8; 2]; 2] = [u16::to_be_bytes, u16::to_le_bytes];
+
+#[test]
+fn a_file_in_utf16_is_as_its_text() {
+    for name in ["antenna", "damaged", "hinge", "part"] {
+        let text = fs::read_to_string(format!("{ROOT}/examples/{name}.xml")).unwrap();
+        for order in ORDERS {
+            let encoded = utf16(text.encode_utf16(), order);
+            for verb in ["show", "check", "list"] {
+                assert_eq!(fed(&[verb], &encoded), fed(&[verb], text.as_bytes()));
+            }
+        }
+    }
+}
+
+#[test]
+fn places_in_a_file_in_utf16() {
+    for order in ORDERS {
+        let text = "<node>\n\u{e9}\u{1f680}";
+        let lone = utf16(text.encode_utf16().chain([0xd800, 0x3c]), order);
+        let (stdout, _, status) = fed(&["check"], &lone);
+        let wanted = "<stdin>:2:3: error: lone surrogate\n\u{e9}\u{1f680}\u{fffd}<\n  ^\n";
+        assert!(stdout.starts_with(wanted), "{stdout}");
+        assert_eq!(status, 1);
+        let mut odd = utf16(text.encode_utf16(), order);
+        odd.push(0);
+        let (stdout, _, status) = fed(&["check"], &odd);
+        let wanted = "<stdin>:2:3: error: odd number of bytes\n\u{e9}\u{1f680}\n  ^\n";
+        assert!(stdout.starts_with(wanted), "{stdout}");
+        assert_eq!(status, 1);
+    }
+}

@@ -54,14 +54,19 @@ fn checked(
 /// What is told of one input, each thing with its place.
 pub struct Report<'a> {
     name: String,
+    bytes: &'a [u8],
     lines: Lines<'a>,
     paint: Paint,
 }
 
 impl<'a> Report<'a> {
     pub fn new(name: String, bytes: &'a [u8], paint: Paint) -> Self {
-        let lines = Lines::new(bytes);
-        Self { name, lines, paint }
+        Self {
+            name,
+            bytes,
+            lines: Lines::new(bytes),
+            paint,
+        }
     }
 
     pub fn lines(&self) -> &Lines<'a> {
@@ -71,8 +76,9 @@ impl<'a> Report<'a> {
     /// A refusal, with its line.
     pub fn error(&self, error: &introspection::Error, output: &mut impl Write) -> io::Result<()> {
         let sort = self.paint.error("error");
-        self.tell(error.position(), &sort, error.message(), output)?;
-        self.excerpt(error.position(), output)
+        let position = error.text_position(self.bytes);
+        self.tell(position, &sort, error.message(), output)?;
+        self.excerpt(position, output)
     }
 
     /// All warnings, with their lines or without.
