@@ -1,0 +1,5 @@
+-- The strict profile: what reading by it comes to, and what is promised of it.
+-- Assumes nothing.
+pub mod Strict
+pub mod Promises
+pub mod Cases
