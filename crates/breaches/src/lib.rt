@@ -187,7 +187,8 @@ fn start_breach(doc: &[u8], classes: &[u8; 256], lt: usize) -> Opened
     let named = name.end;
     let way = attributes_breach(doc, classes, named);
     let inner = way.breach;
-    let breach = lesser(name_breach(doc, at, named), inner);
+    let own = name_breach(doc, at, named);
+    let breach = lesser(own, inner);
     match tags::tag_end(doc, classes, way.at) {
         TagEnd::Missing(place) => Opened {
             closes: true,

@@ -1,12 +1,13 @@
 // The strict entry: a document is read as ever, and one that is accepted and has a breach of the strict profile is refused.
 ghost use mathlib.Core.Path.{_≡_};
-ghost use Rattle.document.specs.Whole.{roomOf, Says};
-ghost use Rattle.document.specs.declared.Verdict.{Verdict};
+ghost use Rattle.document.specs.Whole.{roomOf};
+ghost use Rattle.breaches.specs.Outcome.{Accepted};
 ghost use Rattle.strict.specs.Strict.{SaysStrictly};
+ghost use Rattle.strict.specs.Entry.{Judges};
 use breaches::Breach;
 use document::Verdict;
 
-// The verdict on a document that has been accepted with these counts, and the buffers that go with it.
+// The verdict on a document that is accepted with these counts, and the buffers that go with it.
 fn judge(
     document: &[u8],
     rows: &mut [u32],
@@ -16,8 +17,8 @@ fn judge(
     t: usize,
     w: usize,
 ) -> Verdict
-    requires { ⌜ Says (now document) (roomOf (now rows) (now warnings) (now text)) (now rows) (now warnings) (now text) (Verdict.Accepted n t w) ⌝ }
-    ensures { λ r. ⌜ SaysStrictly (now (document .entry)) (roomOf (now (rows .entry)) (now (warnings .entry)) (now (text .entry))) (now (rows .exit)) (now (warnings .exit)) (now (text .exit)) r ⌝ }
+    requires { ⌜ Accepted (now document) ⌝ }
+    ensures { λ r. ⌜ Judges (now (document .entry)) n t w (now (rows .entry)) (now (rows .exit)) (now (warnings .entry)) (now (warnings .exit)) (now (text .entry)) (now (text .exit)) r ⌝ }
 {
     match breaches::least_breach(document) {
         Breach::Nowhere => Verdict::Accepted(n, t, w),
