@@ -2,13 +2,14 @@
 -- Assumes nothing.
 use Prim.Native.Nat.{ℕ, _*_, _≤_}
 use mathlib.Core.Path.{_≡_}
-use mathlib.Core.List.{List}
+use mathlib.Core.List.{List, [], _∷_}
 use mathlib.Core.Bool.{true, false}
 use lib.ListN.{length}
 use Rattle.slices.specs.Bytes.{all}
 use Rattle.answers.specs.Text.{text, wrong}
 use Rattle.utf16.specs.Entry.{marked}
 use Rattle.utf16.specs.Promises.{isByte}
+use Rattle.document.specs.Elements.{among}
 use Rattle.document.specs.Whole.{Room, Says}
 use Rattle.document.specs.declared.Verdict.the-variants.{Accepted}
 use Rattle.files.specs.Files.{documentOf, Reads, documentLeft}
@@ -33,6 +34,10 @@ AcceptedDocument =
     Reads raw room decodedRoom rows warnings x decoded r →
     r .verdict ≡ Accepted n m k →
     documentOf raw decodedRoom ≡ text (documentLeft raw decoded (r .decoded))
+
+-- a file that cannot be decoded is refused by one of four numbers
+abbrev pub DecodingRefused : Type 0
+DecodingRefused = (raw : List ℕ) (room n p : ℕ) → documentOf raw room ≡ wrong n p → among n (2 ∷ 18 ∷ 26 ∷ 27 ∷ []) ≡ true
 
 -- a fourth buffer of 3/2 of the file's bytes is never too small
 abbrev pub DecodedRoom : Type 0
