@@ -196,8 +196,8 @@ void introspection_read(const uint8_t *document, size_t document_length, uint32_
                         uint8_t *decoded, size_t decoded_length, uint64_t answer[INTROSPECTION_ANSWER_WORDS]);
 
 /*
- * Writes the message of a refusal, with the document that was refused (of UTF-16 what was decoded): the sentence that zbus_xml's XmlError has, such as
- * missing `</node>`; where it has none, a few words (docs/FORMAT.md, Messages). refusal is the answer of introspection_read
+ * Writes the message of a refusal, with the document that was refused, of UTF-16 what was decoded: the sentence that zbus_xml's
+ * XmlError has, such as missing `</node>`; where it has none, a few words (docs/FORMAT.md, Messages). refusal is the answer of introspection_read
  * as it is, or 16 words of whatever content: of them number, key and the triples that the number shows are looked at. The
  * place is not: whoever shows it adds it. No message is longer than 64 bytes and the bytes that it shows.
  *
