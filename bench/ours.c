@@ -13,7 +13,7 @@ static uint8_t text[LIMIT];
 static long lend(const unsigned char *bytes, size_t len, size_t row_count, size_t warning_count, size_t text_len) {
     uint64_t answer[INTROSPECTION_ANSWER_WORDS];
     introspection_read(bytes, len, rows, row_count * INTROSPECTION_ROW_WORDS, warnings,
-                       warning_count * INTROSPECTION_WARNING_WORDS, text, text_len, answer);
+                       warning_count * INTROSPECTION_WARNING_WORDS, text, text_len, NULL, 0, answer);
     return answer[0] == INTROSPECTION_ACCEPTED ? (long)answer[2] : -(long)answer[0];
 }
 
@@ -30,7 +30,7 @@ long ours_usual(const unsigned char *bytes, size_t len) {
 
 void ours_needed(const unsigned char *bytes, size_t len, size_t room[3]) {
     uint64_t answer[INTROSPECTION_ANSWER_WORDS];
-    introspection_read(bytes, len, rows, len * 4, warnings, len, text, len, answer);
+    introspection_read(bytes, len, rows, len * 4, warnings, len, text, len, NULL, 0, answer);
     room[0] = answer[2];
     room[1] = answer[4];
     room[2] = answer[3];
@@ -52,7 +52,7 @@ size_t rows_made(size_t wanted) {
                                     "<method name=\"Set%zu\"><arg name=\"angle\" type=\"d\" direction=\"in\"/>"
                                     "<arg type=\"a{sv}\" direction=\"out\"/></method>\n", row);
     made_len += (size_t)sprintf(made + made_len, "</interface></node>\n");
-    introspection_read((const uint8_t *)made, made_len, rows, wanted * 16, warnings, 4, text, 0, answer);
+    introspection_read((const uint8_t *)made, made_len, rows, wanted * 16, warnings, 4, text, 0, NULL, 0, answer);
     made_rows = answer[2];
     made_text = answer[3];
     return answer[0] == 0 ? made_rows - 3 : 0;

@@ -12,7 +12,8 @@
  *
  * Answers. The answer is the last argument, never null, and every word of it is written. Word 0 is the number: 0 for
  * accepted, or why it was refused; word 1 is the place, a byte offset unless its number says other. After acceptance
- * a written buffer holds zeros past the used part; after a refusal it holds zeros alone, and the counts are 0.
+ * a written buffer holds zeros past the used part; after a refusal it holds zeros alone, and the counts are 0; only
+ * text that introspection_read decoded from UTF-16 stands, with its length, where it is refused afterwards.
  *
  * Threads. The library has no state: any threads may call at once, with buffers of their own for writing. Reading was
  * measured to use 30 kB of the stack, and 410 kB where 1,024 elements are open in what is skipped or in a docstring, so
@@ -118,8 +119,8 @@ enum introspection_number {
     INTROSPECTION_BAD_ACCESS = 15,              /* [after the start tag] */
     INTROSPECTION_BAD_DIRECTION = 16,           /* [after the start tag] */
     INTROSPECTION_TOO_MANY_ATTRIBUTES = 17,     /* more than 256 in a tag [the 257th name] */
-    INTROSPECTION_NO_ROOM = 18,                 /* a lent table is short [the input's length; of introspection_columns and
-                                                   introspection_rows the count] */
+    INTROSPECTION_NO_ROOM = 18,                 /* a lent table is short [the document's length; where decoded is too short
+                                                   the file's; of introspection_columns and introspection_rows the count] */
     INTROSPECTION_UNSOUND_ROWS = 19,            /* [262,144 if more rows are claimed; else the rows lent if fewer than
                                                    claimed; else the first bad row] */
     INTROSPECTION_NOT_WRITABLE = 20,            /* no such row, or its kind is not 3, 5, 6 or 7 [the row asked for] */
@@ -128,6 +129,8 @@ enum introspection_number {
     INTROSPECTION_UNCLOSED_CDATA = 23,          /* [past its <![CDATA[] */
     INTROSPECTION_UNCLOSED_INSTRUCTION = 24,    /* [past its <?] */
     INTROSPECTION_UNCLOSED_DECLARATION = 25,    /* [past the quote that never closes; else the length] */
+    INTROSPECTION_ODD_BYTES = 26,               /* of a file in UTF-16 [its length] */
+    INTROSPECTION_LONE_SURROGATE = 27,          /* in a file in UTF-16 [the first byte of its unit, in the file] */
     INTROSPECTION_TOO_MANY_ROWS = 30            /* [262,144] */
 };
 
@@ -143,7 +146,8 @@ enum introspection_answer {
     INTROSPECTION_ANSWER_WARNINGS = 4,
     INTROSPECTION_ANSWER_FIRST = 5,  /* triple */
     INTROSPECTION_ANSWER_SECOND = 8, /* triple */
-    INTROSPECTION_ANSWER_KEY = 11    /* of 12: the attribute; words 12 to 15 are 0 */
+    INTROSPECTION_ANSWER_KEY = 11,   /* of 12: the attribute */
+    INTROSPECTION_ANSWER_DECODED = 12 /* bytes decoded; 0 of a file that is not in UTF-16; words 13 to 15 are 0 */
 };
 
 /* The key of an attribute that is missing. */
@@ -176,15 +180,24 @@ enum introspection_reason {
  * reference, tab, LF or CR, as they are shown; all others are left in the document. So the rows are good for as long as
  * the document and the text are there, unchanged.
  *
- * answer: enum introspection_answer. Refusals: 2, 1, the first of 3 to 17 and 22 to 25 met in reading, then 18.
+ * A file that begins with FE FF or FF FE is UTF-16: it is decoded to UTF-8 in decoded, without the mark, and what was
+ * decoded is read. Its length is word 12 of the answer. If that is not 0, the document of everything that follows is the
+ * first so many bytes of decoded: source 1 of a triple, every place in rows, warnings and answer, and what is handed to
+ * introspection_lookup, introspection_write and the two functions for messages. Decoded bytes are at most 3/2 of the
+ * file's; the room above is in terms of them. Of any other file decoded is not used and may have no bytes; it is left
+ * zero.
+ *
+ * answer: enum introspection_answer. Refusals: 2, 1, the first of 3 to 17 and 22 to 25 met in reading, then 18. Of UTF-16:
+ * 2 for the file, 26, 27, 2 for what is decoded, 18 at the file's length if decoded is short, all of which leave zeros in
+ * decoded and the length 0; then the same of what was decoded, which stands whatever comes of it.
  */
 void introspection_read(const uint8_t *document, size_t document_length, uint32_t *rows, size_t rows_length,
                         uint32_t *warnings, size_t warnings_length, uint8_t *text, size_t text_length,
-                        uint64_t answer[INTROSPECTION_ANSWER_WORDS]);
+                        uint8_t *decoded, size_t decoded_length, uint64_t answer[INTROSPECTION_ANSWER_WORDS]);
 
 /*
- * Writes the message of a refusal, with the document that was refused: the sentence that zbus_xml's XmlError has, such as
- * missing `</node>`; where it has none, a few words (docs/FORMAT.md, Messages). refusal is the answer of introspection_read
+ * Writes the message of a refusal, with the document that was refused, of UTF-16 what was decoded: the sentence that zbus_xml's
+ * XmlError has, such as missing `</node>`; where it has none, a few words (docs/FORMAT.md, Messages). refusal is the answer of introspection_read
  * as it is, or 16 words of whatever content: of them number, key and the triples that the number shows are looked at. The
  * place is not: whoever shows it adds it. No message is longer than 64 bytes and the bytes that it shows.
  *

@@ -60,15 +60,16 @@ static int same(const uint8_t *bytes, size_t length, const char *expected)
 
 /* ---- reading */
 
-/* A document, the tables lent for it, and the answer. */
+/* A document, the buffers lent for it, and the answer. */
 struct reading {
-    uint8_t *document, *text;
+    uint8_t *document, *text, *decoded;
     uint32_t *rows, *warnings;
-    size_t document_length, text_length, rows_length, warnings_length;
+    size_t document_length, text_length, rows_length, warnings_length, decoded_length;
     uint64_t answer[INTROSPECTION_ANSWER_WORDS];
 };
 
-static struct reading read_with(const char *bytes, size_t length, size_t rows, size_t warnings, size_t text)
+static struct reading read_file(const char *bytes, size_t length, size_t rows, size_t warnings, size_t text,
+                                size_t decoded)
 {
     struct reading r;
     r.document = copy_of(bytes, length);
@@ -79,9 +80,18 @@ static struct reading read_with(const char *bytes, size_t length, size_t rows, s
     r.warnings_length = warnings;
     r.text = lend(text);
     r.text_length = text;
+    r.decoded = lend(decoded);
+    r.decoded_length = decoded;
     memset(r.answer, 0xa5, sizeof r.answer);
-    introspection_read(r.document, length, r.rows, rows, r.warnings, warnings, r.text, text, r.answer);
+    introspection_read(r.document, length, r.rows, rows, r.warnings, warnings, r.text, text, r.decoded, decoded,
+                       r.answer);
     return r;
+}
+
+/* Bytes to decode into are lent, too. */
+static struct reading read_with(const char *bytes, size_t length, size_t rows, size_t warnings, size_t text)
+{
+    return read_file(bytes, length, rows, warnings, text, 5);
 }
 
 /* With the room that is always enough. */
@@ -97,6 +107,7 @@ static void end_reading(struct reading *r)
     free(r->rows);
     free(r->warnings);
     free(r->text);
+    free(r->decoded);
 }
 
 static int answers(const struct reading *r, uint64_t number, uint64_t place)
@@ -107,14 +118,18 @@ static int answers(const struct reading *r, uint64_t number, uint64_t place)
 static int refused_clean(const struct reading *r)
 {
     return all_zero(r->answer + 2, 0, 3 * sizeof(uint64_t)) && all_zero(r->rows, 0, r->rows_length * 4)
-           && all_zero(r->warnings, 0, r->warnings_length * 4) && all_zero(r->text, 0, r->text_length);
+           && all_zero(r->warnings, 0, r->warnings_length * 4) && all_zero(r->text, 0, r->text_length)
+           && all_zero(r->answer, 13 * sizeof(uint64_t), sizeof r->answer)
+           && all_zero(r->decoded, r->answer[12], r->decoded_length);
 }
 
 static int rest_clean(const struct reading *r)
 {
     return all_zero(r->rows, r->answer[2] * 64, r->rows_length * 4)
            && all_zero(r->warnings, r->answer[4] * 16, r->warnings_length * 4)
-           && all_zero(r->text, r->answer[3], r->text_length);
+           && all_zero(r->text, r->answer[3], r->text_length)
+           && all_zero(r->answer, 13 * sizeof(uint64_t), sizeof r->answer)
+           && all_zero(r->decoded, r->answer[12], r->decoded_length);
 }
 
 /* Word k of row i. */
@@ -372,6 +387,139 @@ static void refusals_shown(void)
     SHOWS("<a><interface name='a.b'><property name='P' type='s'/>", 12, 1, 26, 8, 0, 0, 0, INTROSPECTION_KEY_ACCESS);
 }
 
+/* The message of a refusal, with room enough. */
+static int says(const struct reading *r, const char *expected)
+{
+    uint8_t *out = lend(200);
+    uint64_t a[3];
+    introspection_message(r->document, r->document_length, r->answer, out, 200, a);
+    int good = a[0] == 0 && a[1] == 0 && a[2] == strlen(expected) && same(out, a[2], expected) && all_zero(out, a[2], 200);
+    free(out);
+    return good;
+}
+
+/* ---- files in UTF-16 */
+
+/* ASCII text in UTF-16, with a byte order mark: 2 bytes for each, and 2. */
+static char *in_utf16(const char *ascii, int big)
+{
+    size_t n = strlen(ascii), i;
+    char *p = malloc(2 * n + 2);
+    if (p == NULL)
+        exit(2);
+    memcpy(p, big ? "\xfe\xff" : "\xff\xfe", 2);
+    for (i = 0; i < n; i++) {
+        p[2 + 2 * i + !!big] = ascii[i];
+        p[2 + 2 * i + !big] = 0;
+    }
+    return p;
+}
+
+/* What was decoded is the document of everything that follows. */
+static void hand_on(struct reading *r)
+{
+    uint8_t *file = r->document;
+    r->document = r->decoded;
+    r->document_length = r->answer[INTROSPECTION_ANSWER_DECODED];
+    r->decoded = file;
+    r->decoded_length = 0;
+}
+
+/* The hinge's file in both byte orders: the same words and text, places in what was decoded. */
+static void the_hinge_in_utf16(void)
+{
+    size_t n = strlen(hinge);
+    struct reading r = read_all(hinge), s;
+    uint64_t a[3];
+    uint8_t out[400];
+    int big;
+    for (big = 0; big < 2; big++) {
+        char *file = in_utf16(hinge, big);
+        s = read_file(file, 2 * n + 2, r.rows_length, r.warnings_length, r.text_length, n + 3);
+        CHECK(memcmp(s.answer, r.answer, 12 * sizeof(uint64_t)) == 0);
+        CHECK(s.answer[INTROSPECTION_ANSWER_DECODED] == n && rest_clean(&s));
+        CHECK(memcmp(s.decoded, hinge, n) == 0);
+        CHECK(memcmp(s.rows, r.rows, r.rows_length * 4) == 0);
+        CHECK(memcmp(s.warnings, r.warnings, r.warnings_length * 4) == 0);
+        CHECK(memcmp(s.text, r.text, r.text_length) == 0);
+        hand_on(&s);
+        CHECK(shows(&s, 0, INTROSPECTION_WORD_NAME, "/hinge"));
+        CHECK(shows(&s, 4, INTROSPECTION_WORD_DOCSTRING, "Turns the hinge."));
+        CHECK(shows(&s, 6, INTROSPECTION_WORD_VALUE, "turn <now>"));
+        introspection_write(s.document, s.document_length, s.text, s.text_length, s.rows, s.rows_length, s.answer[2], 10, out,
+                            sizeof out, a);
+        CHECK(a[0] == 0 && same(out, (size_t)a[2], "<signal name=\"Moved\"><arg type=\"(dd)\"/></signal>"));
+        introspection_warning_message(s.document, s.document_length, s.warnings, out, sizeof out, a);
+        CHECK(a[0] == 0 && a[2] > 0 && strstr((const char *)out, "`<tp:enum>`") != NULL);
+        end_reading(&s);
+        free(file);
+    }
+    end_reading(&r);
+}
+
+/* A file that is refused, with so much room for what is decoded: number and place, how many bytes stand decoded, zeros. */
+static void refuses_file(const char *file, size_t length, size_t decoded, uint64_t number, uint64_t place, uint64_t stands,
+                         int line)
+{
+    struct reading r = read_file(file, length, 16, 4, 8, decoded);
+    check(answers(&r, number, place), "number and place of a file", line);
+    check(r.answer[INTROSPECTION_ANSWER_DECODED] == stands && refused_clean(&r), "what stands of a file", line);
+    end_reading(&r);
+}
+
+#define REFUSES_FILE(file, decoded, number, place, stands) \
+    refuses_file((file), sizeof(file) - 1, (decoded), (number), (place), (stands), __LINE__)
+
+/* Each refusal in its order, with zeros; later ones leave what was decoded. */
+static void files_refused(void)
+{
+    char *units;
+    size_t i, most = 349525; /* so many units of three bytes, and one of one, are 1,048,576 bytes */
+    REFUSES_FILE("\xfe", 9, INTROSPECTION_NOT_UTF8, 0, 0);
+    REFUSES_FILE("\xff", 9, INTROSPECTION_NOT_UTF8, 0, 0);
+    REFUSES_FILE("\xfe\xff", 0, INTROSPECTION_NO_ROOT, 0, 0);
+    REFUSES_FILE("\xff\xfe\0\0", 9, INTROSPECTION_NO_ROOT, 1, 1);
+    REFUSES_FILE("\xfe\xff\xfe\xff", 9, INTROSPECTION_NO_ROOT, 3, 3);
+    REFUSES_FILE("\xfe\xff\xd8\0<", 9, INTROSPECTION_ODD_BYTES, 5, 0);
+    REFUSES_FILE("\xfe\xff\0<\xd8\0", 9, INTROSPECTION_LONE_SURROGATE, 4, 0);
+    REFUSES_FILE("\xff\xfe\0\xdc", 9, INTROSPECTION_LONE_SURROGATE, 2, 0);
+    REFUSES_FILE("\xfe\xff\xd8\0\xd8\0\xdc\0", 0, INTROSPECTION_LONE_SURROGATE, 2, 0);
+    REFUSES_FILE("\xff\xfe<\0x\0/\0>\0", 3, INTROSPECTION_NO_ROOM, 10, 0);
+    REFUSES_FILE("\xff\xfe<\0x\0>\0", 9, INTROSPECTION_UNCLOSED_ELEMENT, 3, 3);
+    REFUSES_FILE("\xfe\xff\0<\0x\0>\0<\0x\0/\0>", 7, INTROSPECTION_UNCLOSED_ELEMENT, 7, 7);
+    REFUSES_FILE("\xfe\xff\0<\0a\0>\0<\0n\0o\0d\0e\0/\0>\0<\0/\0a\0>", 14, INTROSPECTION_NO_ROOM, 14, 14);
+    /* the raw bytes over the limit, then the decoded bytes: 2 before 18 */
+    units = malloc(INTROSPECTION_MAX_BYTES + 2);
+    if (units == NULL)
+        exit(2);
+    for (i = 0; i < INTROSPECTION_MAX_BYTES + 2; i += 2)
+        memcpy(units + i, "\x08\0", 2);
+    memcpy(units, "\xfe\xff", 2);
+    refuses_file(units, INTROSPECTION_MAX_BYTES + 1, 9, INTROSPECTION_TOO_LONG, INTROSPECTION_MAX_BYTES, 0, __LINE__);
+    refuses_file(units, 2 + 2 * (most + 1), 0, INTROSPECTION_TOO_LONG, INTROSPECTION_MAX_BYTES, 0, __LINE__);
+    memcpy(units + 2, "\0 ", 2);
+    refuses_file(units, 2 + 2 * (most + 1), 9, INTROSPECTION_NO_ROOM, 2 + 2 * (most + 1), 0, __LINE__);
+    refuses_file(units, 2 + 2 * (most + 1), INTROSPECTION_MAX_BYTES, INTROSPECTION_NO_ROOT, INTROSPECTION_MAX_BYTES,
+                 INTROSPECTION_MAX_BYTES, __LINE__);
+    free(units);
+}
+
+/* The message of a refusal shows what was decoded. */
+static void files_told(void)
+{
+    struct reading r = read_file("\xff\xfe<\0a\0>\0<\0/\0\xe9\0>\0", 16, 16, 4, 8, 8);
+    CHECK(answers(&r, INTROSPECTION_CROSSED_CLOSE, 8) && r.answer[INTROSPECTION_ANSWER_DECODED] == 8 && refused_clean(&r));
+    hand_on(&r);
+    CHECK(says(&r, "unexpected `</\xc3\xa9>` while parsing `<a>`"));
+    end_reading(&r);
+    r = read_file("\xff\xfe<", 3, 16, 4, 8, 8);
+    CHECK(says(&r, "odd number of bytes"));
+    end_reading(&r);
+    r = read_file("\xff\xfe\0\xdc", 4, 16, 4, 8, 8);
+    CHECK(says(&r, "lone surrogate"));
+    end_reading(&r);
+}
+
 /* ---- null pointers with length 0, in every place that has a buffer */
 
 static void nothing_lent(void)
@@ -380,10 +528,12 @@ static void nothing_lent(void)
     const uint8_t *document = (const uint8_t *)"<node/>";
     uint8_t out[2] = {7, 7};
     memset(a, 9, sizeof a);
-    introspection_read(NULL, 0, NULL, 0, NULL, 0, NULL, 0, a);
+    introspection_read(NULL, 0, NULL, 0, NULL, 0, NULL, 0, NULL, 0, a);
     CHECK(a[0] == INTROSPECTION_NO_ROOT && all_zero(a, 8, sizeof a));
-    introspection_read(document, 7, NULL, 0, NULL, 0, NULL, 0, a);
+    introspection_read(document, 7, NULL, 0, NULL, 0, NULL, 0, NULL, 0, a);
     CHECK(a[0] == INTROSPECTION_NO_ROOM && a[1] == 7);
+    introspection_read((const uint8_t *)"\xfe\xff", 2, NULL, 0, NULL, 0, NULL, 0, NULL, 0, a);
+    CHECK(a[0] == INTROSPECTION_NO_ROOT && all_zero(a, 8, sizeof a));
     introspection_escape(NULL, 0, NULL, 0, b);
     CHECK(b[0] == 0 && b[1] == 0 && b[2] == 0);
     introspection_escape(NULL, 0, out, 2, b);
@@ -642,17 +792,6 @@ static void columns_at_the_limit(void)
     free(rows);
 }
 
-/* The message of a refusal, with room enough. */
-static int says(const struct reading *r, const char *expected)
-{
-    uint8_t *out = lend(200);
-    uint64_t a[3];
-    introspection_message(r->document, r->document_length, r->answer, out, 200, a);
-    int good = a[0] == 0 && a[1] == 0 && a[2] == strlen(expected) && same(out, a[2], expected) && all_zero(out, a[2], 200);
-    free(out);
-    return good;
-}
-
 static void messages(void)
 {
     struct reading r = read_all("<a><node><node></node></x>");
@@ -690,6 +829,9 @@ int main(void)
     at_the_limits();
     room();
     refusals_shown();
+    the_hinge_in_utf16();
+    files_refused();
+    files_told();
     nothing_lent();
     values();
     messages();

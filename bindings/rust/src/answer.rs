@@ -62,13 +62,18 @@ pub enum ErrorKind {
     UnclosedInstruction = 24,
     /// A declaration that never closes. Place: past the quote that never closes, else the length.
     UnclosedDeclaration = 25,
+    /// An input in UTF-16 that has an odd number of bytes. Place: its length.
+    OddBytes = 26,
+    /// A surrogate without its partner in an input in UTF-16. Place: the first byte of its unit, in
+    /// the input.
+    LoneSurrogate = 27,
     /// More than 262,144 rows, to be put down as columns or to be made from them. Place: 262,144.
     TooManyRows = 30,
 }
 
 use ErrorKind::*;
 
-const KINDS: [ErrorKind; 26] = [
+const KINDS: [ErrorKind; 28] = [
     NotUtf8,
     TooLong,
     NoRoot,
@@ -94,6 +99,8 @@ const KINDS: [ErrorKind; 26] = [
     UnclosedCdata,
     UnclosedInstruction,
     UnclosedDeclaration,
+    OddBytes,
+    LoneSurrogate,
     TooManyRows,
 ];
 
@@ -137,8 +144,10 @@ impl Error {
         self.kind.number()
     }
 
-    /// Where: bytes from the start of the document or of the value. It is at most its length. Of
-    /// [`columns`](crate::columns()) and [`rows`](crate::rows()) it is a number of rows.
+    /// Where: bytes from the start of the document or of the value. It is at most its length. The
+    /// document of an input in UTF-16 is what it was decoded to; only
+    /// [`OddBytes`](ErrorKind::OddBytes) and [`LoneSurrogate`](ErrorKind::LoneSurrogate) are places in
+    /// the input. Of [`columns`](crate::columns()) and [`rows`](crate::rows()) it is a number of rows.
     pub fn position(&self) -> usize {
         self.position
     }
@@ -283,7 +292,7 @@ impl<'d> Warning<'d> {
         self.reason.number()
     }
 
-    /// The byte offset in the document at which the element starts.
+    /// The byte offset in the [text](Document::text) of the document at which the element starts.
     pub fn position(&self) -> usize {
         self.position
     }

@@ -20,6 +20,8 @@ extern "C" {
         warnings_len: usize,
         text: *mut u8,
         text_len: usize,
+        decoded: *mut u8,
+        decoded_len: usize,
         answer: *mut u64,
     );
 
@@ -102,44 +104,51 @@ extern "C" {
     );
 }
 
-/// How much of each table a document uses.
+/// How much of each buffer a document uses.
 pub(crate) struct Counts {
     pub(crate) rows: usize,
     pub(crate) text: usize,
     pub(crate) warnings: usize,
+    /// How many bytes were decoded; 0 of a document that is not in UTF-16.
+    pub(crate) decoded: usize,
 }
 
-/// Reads a document into the tables lent.
+/// Reads a document into the tables lent; one in UTF-16 is decoded into the last buffer first.
 pub(crate) fn read(
-    document: &[u8],
+    input: &[u8],
     rows: &mut [[u32; 16]],
     warnings: &mut [[u32; 4]],
     text: &mut [u8],
+    decoded: &mut [u8],
 ) -> Result<Counts, Error> {
     let rows = rows.as_flattened_mut();
     let warnings = warnings.as_flattened_mut();
     let mut answer = [0; 16];
-    // SAFETY: the four slices are as the head of this file says; `answer` has the 16 words that this
+    // SAFETY: the five slices are as the head of this file says; `answer` has the 16 words that this
     // function writes.
     unsafe {
         introspection_read(
-            document.as_ptr(),
-            document.len(),
+            input.as_ptr(),
+            input.len(),
             rows.as_mut_ptr(),
             rows.len(),
             warnings.as_mut_ptr(),
             warnings.len(),
             text.as_mut_ptr(),
             text.len(),
+            decoded.as_mut_ptr(),
+            decoded.len(),
             answer.as_mut_ptr(),
         );
     }
+    let [_, _, rows, text, warnings, .., count, _, _, _] = answer.map(size);
+    let document = if count == 0 { input } else { &decoded[..count] };
     Error::unless_accepted(document, answer)?;
-    let [_, _, rows, text, warnings, ..] = answer.map(size);
     Ok(Counts {
         rows,
         text,
         warnings,
+        decoded: count,
     })
 }
 

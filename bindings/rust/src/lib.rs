@@ -3,11 +3,14 @@
 //! [`Document::parse`] reads a document, and lends what it holds in the words of the crate zbus_xml:
 //! nodes, interfaces, methods, signals, properties, arguments, annotations, docstrings and
 //! [type definitions](telepathy). Every name and value is a `&str` into the document, or into one
-//! text buffer where it was written with references; nothing is copied.
+//! text buffer where it was written with references; nothing is copied but what is decoded.
 //!
 //! The rule: a definition that cannot be read whole is left out whole, with a [`Warning`] at its
 //! place; a fault in the markup, or in what a member of an interface needs, refuses the document
 //! with an [`Error`] at its place.
+//!
+//! A document in UTF-16 that begins with a byte order mark is decoded first, and what was decoded is
+//! then the document: [`Document::text`].
 //!
 //! ```
 //! use introspection::{ArgDirection, Document};
@@ -60,6 +63,7 @@ mod tests;
 #[doc = include_str!("../README.md")]
 struct Readme;
 
+use std::borrow::Cow;
 use std::fmt;
 use std::str;
 
@@ -75,14 +79,15 @@ use row::{kind, Row};
 /// The most bytes that a document or a value may have: 1,048,576.
 pub const LIMIT: usize = 1 << 20;
 
-/// A document that was read. It borrows the input, and owns the tables that were filled.
+/// A document that was read. It borrows the input, or owns what an input in UTF-16 was decoded to,
+/// and it owns the tables that were filled.
 ///
 /// What it lends is `Copy` and lives as long as the borrow of the document. Two documents, or two
 /// items, are equal if they have the same content in the same order, wherever in the input it
-/// stands.
+/// stands, be it UTF-8 or UTF-16.
 #[derive(Clone)]
 pub struct Document<'a> {
-    input: &'a str,
+    input: Cow<'a, str>,
     text: String,
     rows: Vec<[u32; 16]>,
     ends: Vec<u32>,
@@ -101,6 +106,9 @@ impl<'a> Document<'a> {
     /// let error = Document::parse(b"<node>").unwrap_err();
     /// assert_eq!(error.kind(), ErrorKind::UnclosedElement);
     /// assert_eq!(error.position(), 6);
+    ///
+    /// let document = Document::parse(b"\xff\xfe<\0x\0/\0>\0")?;
+    /// assert_eq!(document.text(), "<x/>");
     /// # Ok::<(), introspection::Error>(())
     /// ```
     pub fn parse(input: &'a [u8]) -> Result<Self, Error> {
@@ -120,13 +128,19 @@ impl<'a> Document<'a> {
         let mut rows = vec![[0; 16]; room];
         let mut warnings = vec![[0; 4]; room];
         let mut text = vec![0; text_room(input)];
-        let counts = ffi::read(input, &mut rows, &mut warnings, &mut text)?;
+        let mut decoded = vec![0; decoded_room(input)];
+        let counts = ffi::read(input, &mut rows, &mut warnings, &mut text, &mut decoded)?;
         shrink(&mut rows, counts.rows);
         shrink(&mut warnings, counts.warnings);
         shrink(&mut text, counts.text);
+        shrink(&mut decoded, counts.decoded);
         // Proved too; checked once more, in a small part of the time of reading, so that no `&str`
         // rests on the archive alone.
-        let input = str::from_utf8(input).expect("an accepted document is UTF-8");
+        let input = if decoded.is_empty() {
+            Cow::Borrowed(str::from_utf8(input).expect("an accepted document is UTF-8"))
+        } else {
+            Cow::Owned(String::from_utf8(decoded).expect("what was decoded is UTF-8"))
+        };
         let text = String::from_utf8(text).expect("the text of an accepted document is UTF-8");
         let ends = row::ends(&rows);
         Ok(Self {
@@ -141,6 +155,12 @@ impl<'a> Document<'a> {
     /// The root of the document.
     pub fn root(&self) -> Node<'_> {
         Node(self.row(0))
+    }
+
+    /// The text of the document: the input, or what it was decoded to from UTF-16. Every position is a
+    /// byte offset in it.
+    pub fn text(&self) -> &str {
+        &self.input
     }
 
     /// The root and every node below it, in document order.
@@ -208,17 +228,34 @@ fn room(input: &[u8]) -> usize {
     text_room(input) / 4
 }
 
-/// Room for the text bytes, which do not exceed it either.
+/// Room for the text bytes, which do not exceed it either: the bytes of the document, which of an
+/// input in UTF-16 are at most 3/2 of its bytes, as is proved too, and no more than the limit.
 fn text_room(input: &[u8]) -> usize {
     if input.len() > LIMIT {
         return 0;
     }
+    if is_utf16(input) {
+        return (input.len() / 2 * 3).min(LIMIT);
+    }
     input.len()
 }
 
+/// Room for what is decoded.
+fn decoded_room(input: &[u8]) -> usize {
+    if is_utf16(input) {
+        return text_room(input);
+    }
+    0
+}
+
+/// Whether the input begins with a byte order mark of UTF-16.
+fn is_utf16(input: &[u8]) -> bool {
+    input.starts_with(b"\xfe\xff") || input.starts_with(b"\xff\xfe")
+}
+
 /// The `<` that may begin a start tag. Each row and each warning has its own, so there are no more
-/// of them. Room is several times as much for ordinary documents, and clearing it would be a large
-/// part of the time of reading.
+/// of them; in UTF-16 closing tags are counted too. Room is several times as much for ordinary
+/// documents, and clearing it would be a large part of the time of reading.
 fn openings(input: &[u8]) -> usize {
     if input.len() > LIMIT {
         return 0;

@@ -181,7 +181,7 @@ macro_rules! view {
                 self.0.index
             }
 
-            /// The place of the `<` of its start tag in the input, a byte offset.
+            /// The place of the `<` of its start tag in the text of the document, a byte offset.
             pub fn position(&self) -> usize {
                 self.0.position()
             }

@@ -54,7 +54,7 @@ impl<'d> TypeDef<'d> {
         self.inner().docstring()
     }
 
-    /// The place of the `<` of its start tag in the input, a byte offset.
+    /// The place of the `<` of its start tag in the text of the document, a byte offset.
     pub fn position(&self) -> usize {
         self.inner().position()
     }

@@ -5,3 +5,4 @@ pub mod States
 pub mod Folding
 pub mod Meaning
 pub mod Whole
+pub mod Files

@@ -23,7 +23,7 @@ use Rattle.bounds.proofs.States.{final}
 use Rattle.bounds.proofs.Folding.{run-final}
 
 -- a number of some is one of more
-also : (n x : ℕ) (ns : List ℕ) → among n ns ≡ true → among n (x ∷ ns) ≡ true
+pub also : (n x : ℕ) (ns : List ℕ) → among n ns ≡ true → among n (x ∷ ns) ≡ true
 also n x ns h = either (λ (t : Bool). t ≡ true) (eqb n x) (λ t. refl) (λ t. h)
 
 final-told : (len : ℕ) (s : State Shown) → Kept (final len) s → Told refusals len s

@@ -1,3 +1,4 @@
--- What is said of every document.
+-- What is said of every document and of every file.
 -- Assumes nothing.
 pub mod Bounds
+pub mod Files

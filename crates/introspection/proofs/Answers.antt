@@ -19,25 +19,32 @@ use Rattle.answers.specs.declared.TextAnswer.the-variants as answer
 use Rattle.messages.specs.Message.{messageOf, warningMessageOf}
 use Rattle.document.specs.Refusals.{shownBy}
 use Rattle.document.specs.Whole.{Room}
-use Rattle.document.specs.Whole as whole
 use Rattle.document.specs.declared.Refusal.{Refusal}
 use Rattle.document.specs.declared.Verdict.{Verdict}
 use Rattle.document.specs.declared.Verdict.the-variants as verdict
+use Rattle.files.specs.Files as files
+use Rattle.files.specs.declared.Reading.{Reading}
 use Rattle.items.specs.Writing.{writing, Writes}
 use Rattle.introspection.specs.Words.{bit, verdictWords, answerWords, columnsWords, Reads, textWords, outcomeWords, partWords, lookupWords, toldBy, messageBy, warningMessageBy, refusalWords}
 
-pub refusal-words : {x : Refusal} {a b n : ℕ} → n ≡ shownBy (x .number) → a ≡ bit (ltb 0 n) → b ≡ bit (ltb 1 n) → (x .number ∷ x .place ∷ 0 ∷ 0 ∷ 0 ∷ a ∷ x .first .at ∷ x .first .len ∷ b ∷ x .second .at ∷ x .second .len ∷ x .key ∷ 0 ∷ 0 ∷ 0 ∷ 0 ∷ []) ≡ refusalWords x
+pub refusal-words : {x : Refusal} {a b n d : ℕ} → n ≡ shownBy (x .number) → a ≡ bit (ltb 0 n) → b ≡ bit (ltb 1 n) → (x .number ∷ x .place ∷ 0 ∷ 0 ∷ 0 ∷ a ∷ x .first .at ∷ x .first .len ∷ b ∷ x .second .at ∷ x .second .len ∷ x .key ∷ d ∷ 0 ∷ 0 ∷ 0 ∷ []) ≡ refusalWords x d
 refusal-words n a b = rw (a, b, n) refl
 
 module _ {v : Verdict} where
-  pub verdict-refused : {x : Refusal} {ws : List ℕ} → v ≡ verdict.Refused x → ws ≡ refusalWords x → ws ≡ verdictWords v
+  pub verdict-refused : {x : Refusal} {d : ℕ} {ws : List ℕ} → v ≡ verdict.Refused x → ws ≡ refusalWords x d → ws ≡ verdictWords v d
   verdict-refused e h = h ∙ rw e refl
 
-  pub verdict-accepted : {r t w : ℕ} → v ≡ verdict.Accepted r t w → (0 ∷ 0 ∷ r ∷ t ∷ w ∷ 0 ∷ 0 ∷ 0 ∷ 0 ∷ 0 ∷ 0 ∷ 0 ∷ 0 ∷ 0 ∷ 0 ∷ 0 ∷ []) ≡ verdictWords v
+  pub verdict-accepted : {r t w d : ℕ} → v ≡ verdict.Accepted r t w → (0 ∷ 0 ∷ r ∷ t ∷ w ∷ 0 ∷ 0 ∷ 0 ∷ 0 ∷ 0 ∷ 0 ∷ 0 ∷ d ∷ 0 ∷ 0 ∷ 0 ∷ []) ≡ verdictWords v d
   verdict-accepted e = rw e refl
 
-  pub reads : {doc rows warnings text ws : List ℕ} {room : Room} → whole.Says doc room rows warnings text v → ws ≡ verdictWords v → Reads doc room rows warnings text ws
-  reads s h = record { words = h ∙ ap verdictWords (s .verdict); rows-left = s .rows-left; warnings-left = s .warnings-left; text-left = s .text-left }
+pub reads : {raw rows warnings text decoded ws : List ℕ} {room : Room} {k : ℕ} {r : Reading} → files.Reads raw room k rows warnings text decoded r → ws ≡ verdictWords (r .verdict) (r .decoded) → Reads raw room k rows warnings text decoded ws
+reads s h = record {
+  words = h ∙ rw (s .verdict, s .length) refl;
+  rows-left = s .rows-left;
+  warnings-left = s .warnings-left;
+  text-left = s .text-left;
+  decoded-left = s .decoded-left;
+}
 
 module _ {a : TextAnswer} where
   pub answer-refused : {n p : ℕ} → a ≡ answer.Refused n p → (n ∷ p ∷ 0 ∷ []) ≡ answerWords a

@@ -2,7 +2,7 @@
 -- Assumes nothing.
 use Prim.Native.Nat.{ℕ, suc}
 use mathlib.Core.Path.{_≡_}
-use mathlib.Core.List.{List, [], _∷_}
+use mathlib.Core.List.{List, [], _∷_, _++_}
 use mathlib.Core.Bool.{Bool}
 use lib.Dec.{ltb}
 use lib.ListN.{replicate, getD}
@@ -22,28 +22,30 @@ use Rattle.messages.specs.declared.Told.{Told}
 use Rattle.document.specs.Tags.{Shown}
 use Rattle.document.specs.Reading.{State}
 use Rattle.document.specs.Refusals.{shownBy}
-use Rattle.document.specs.Whole.{Room, read, verdictOf, rowsLeft, warningsLeft, textLeft}
+use Rattle.document.specs.Whole.{Room, verdictOf, rowsLeft, warningsLeft, textLeft}
 use Rattle.document.specs.declared.Refusal.{Refusal}
 use Rattle.document.specs.declared.Verdict.{Verdict}
 use Rattle.document.specs.declared.Verdict.the-variants as verdict
+use Rattle.utf16.specs.Entry.{left}
+use Rattle.files.specs.Files.{readFile, decodedLength}
 
 abbrev pub bit : Bool → ℕ
 bit b = if b 1 0
 
 -- number, place, rows, text bytes, warnings; then what a refusal's message shows: two triples, whose source is 1 where the number
--- shows so many, and a key; then four zeros
-abbrev pub shownWords : Refusal → List ℕ
-shownWords x =
+-- shows so many, and a key; then how many bytes were decoded, and three zeros
+abbrev pub shownWords : Refusal → ℕ → List ℕ
+shownWords x d =
     bit (ltb 0 (shownBy (x .number))) ∷ x .first .at ∷ x .first .len
     ∷ bit (ltb 1 (shownBy (x .number))) ∷ x .second .at ∷ x .second .len
-    ∷ x .key ∷ 0 ∷ 0 ∷ 0 ∷ 0 ∷ []
+    ∷ x .key ∷ d ∷ 0 ∷ 0 ∷ 0 ∷ []
 
-abbrev pub refusalWords : Refusal → List ℕ
-refusalWords x = x .number ∷ x .place ∷ 0 ∷ 0 ∷ 0 ∷ shownWords x
+abbrev pub refusalWords : Refusal → ℕ → List ℕ
+refusalWords x d = x .number ∷ x .place ∷ 0 ∷ 0 ∷ 0 ∷ shownWords x d
 
-abbrev pub verdictWords : Verdict → List ℕ
-verdictWords (verdict.Refused x) = refusalWords x
-verdictWords (verdict.Accepted rows text warnings) = 0 ∷ 0 ∷ rows ∷ text ∷ warnings ∷ replicate 11 0
+abbrev pub verdictWords : Verdict → ℕ → List ℕ
+verdictWords (verdict.Refused x) d = refusalWords x d
+verdictWords (verdict.Accepted rows text warnings) d = 0 ∷ 0 ∷ rows ∷ text ∷ warnings ∷ replicate 7 0 ++ (d ∷ 0 ∷ 0 ∷ 0 ∷ [])
 
 -- number, place, bytes written
 abbrev pub answerWords : TextAnswer → List ℕ
@@ -55,16 +57,17 @@ abbrev pub columnsWords : ColumnsAnswer → List ℕ
 columnsWords (columns.Refused n p) = n ∷ p ∷ []
 columnsWords columns.Done = 0 ∷ 0 ∷ []
 
--- of a document that was read; the number is 0 for those accepted alone, since every other number is more than 0 (crate bounds)
-abbrev pub readWords : State Shown → List ℕ
-readWords s = verdictWords (verdictOf s)
+-- of a file that was read; the number is 0 for those accepted alone, since every other number is more than 0 (crate bounds)
+abbrev pub readWords : State Shown → ℕ → List ℕ
+readWords s d = verdictWords (verdictOf s) d
 
--- what `introspection_read` answers for a document and the room lent, and what it leaves in the buffers
-pub record Reads (doc : List ℕ) (room : Room) (rows warnings text answer : List ℕ) : Type 0 where
-  pub words : answer ≡ readWords (read doc room)
-  pub rows-left : rows ≡ rowsLeft room (read doc room)
-  pub warnings-left : warnings ≡ warningsLeft room (read doc room)
-  pub text-left : text ≡ textLeft room (read doc room)
+-- what `introspection_read` answers for a file and the room lent, and what it leaves in the buffers
+pub record Reads (raw : List ℕ) (room : Room) (decodedRoom : ℕ) (rows warnings text decoded answer : List ℕ) : Type 0 where
+  pub words : answer ≡ readWords (readFile raw room decodedRoom) (decodedLength raw decodedRoom)
+  pub rows-left : rows ≡ rowsLeft room (readFile raw room decodedRoom)
+  pub warnings-left : warnings ≡ warningsLeft room (readFile raw room decodedRoom)
+  pub text-left : text ≡ textLeft room (readFile raw room decodedRoom)
+  pub decoded-left : decoded ≡ left raw decodedRoom
 
 -- of a text that was made
 abbrev pub textWords : Text → List ℕ

@@ -16,9 +16,9 @@ ghost use Rattle.document.specs.Whole.{roomOf};
 ghost use Rattle.items.specs.Writing.{writing};
 ghost use Rattle.introspection.specs.Words.{verdictWords, answerWords, columnsWords, partWords, bit, Reads, textWords, outcomeWords, lookupWords, messageBy, warningMessageBy, refusalWords};
 
-// What a refusal's message shows goes with it, each excerpt as a triple.
-fn refusal_words(x: Refusal) -> [u64; 16]
-    ensures { λ r. ⌜ r ≡ refusalWords x ⌝ }
+// What a refusal's message shows goes with it, each excerpt as a triple; then how many bytes were decoded.
+fn refusal_words(x: Refusal, decoded: usize) -> [u64; 16]
+    ensures { λ r. ⌜ r ≡ refusalWords x decoded ⌝ }
 {
     let shown = document::shown_by(x.number);
     [
@@ -34,18 +34,18 @@ fn refusal_words(x: Refusal) -> [u64; 16]
         x.second.at as u64,
         x.second.len as u64,
         x.key as u64,
-        0,
+        decoded as u64,
         0,
         0,
         0,
     ]
 }
 
-fn verdict_words(v: Verdict) -> [u64; 16]
-    ensures { λ r. ⌜ r ≡ verdictWords v ⌝ }
+fn verdict_words(v: Verdict, decoded: usize) -> [u64; 16]
+    ensures { λ r. ⌜ r ≡ verdictWords v decoded ⌝ }
 {
     match v {
-        Verdict::Refused(x) => refusal_words(x),
+        Verdict::Refused(x) => refusal_words(x, decoded),
         Verdict::Accepted(rows, text, warnings) => [
             0,
             0,
@@ -59,7 +59,7 @@ fn verdict_words(v: Verdict) -> [u64; 16]
             0,
             0,
             0,
-            0,
+            decoded as u64,
             0,
             0,
             0,
@@ -100,19 +100,21 @@ fn part_words(yes: bool, t: Triple) -> [u64; 4]
     [bit(yes), t.source as u64, t.start as u64, t.len as u64]
 }
 
-// Reads a document into the tables lent.
+// Reads a file into the tables lent; one in UTF-16 is decoded into the fourth buffer.
 #[no_mangle]
 pub extern "C" fn introspection_read(
     document: &[u8],
     rows: &mut [u32],
     warnings: &mut [u32],
     text: &mut [u8],
+    decoded: &mut [u8],
     answer: &mut [u64; 16],
 )
-    ensures { λ _. ⌜ Reads (now (document .entry)) (roomOf (now (rows .entry)) (now (warnings .entry)) (now (text .entry))) (now (rows .exit)) (now (warnings .exit)) (now (text .exit)) (now (answer .exit)) ⌝ }
+    ensures { λ _. ⌜ Reads (now (document .entry)) (roomOf (now (rows .entry)) (now (warnings .entry)) (now (text .entry))) (length (now (decoded .entry))) (now (rows .exit)) (now (warnings .exit)) (now (text .exit)) (now (decoded .exit)) (now (answer .exit)) ⌝ }
 {
-    let v = reader::parse_with_warnings(document, rows, warnings, text);
-    *answer = verdict_words(v);
+    let r = reader::read(document, rows, warnings, text, decoded);
+    let v = r.verdict;
+    *answer = verdict_words(v, r.decoded);
 }
 
 // The message of a refusal, by the words of a reader's answer, or of whatever content.

@@ -1,4 +1,5 @@
-// The listing program: reads a document from standard input, and writes what was read (docs/FORMAT.md, The listing program).
+// The listing program: reads a document from standard input, in UTF-8 or in UTF-16, and writes what was read (docs/FORMAT.md, The listing
+// program).
 use document::Verdict;
 ghost use Prim.Native.Nat.{_<_};
 
@@ -71,7 +72,10 @@ fn put_listing(out: &mut [u8], document: &[u8]) -> usize {
     let mut rows = [0u32; 16384];
     let mut warnings = [0u32; 16384];
     let mut text = io::large_buffer();
-    match reader::parse_with_warnings(document, &mut rows, &mut warnings, &mut text) {
+    let mut decoded = io::large_buffer();
+    let reading = reader::read(document, &mut rows, &mut warnings, &mut text, &mut decoded);
+    let verdict = reading.verdict;
+    match verdict {
         Verdict::Refused(refusal) => put_refused(out, refusal.number, refusal.place),
         Verdict::Accepted(r, t, w) => put_accepted(out, &rows, &warnings, r, t, w),
     }

@@ -55,6 +55,8 @@ refusals =
     ∷ plainly 23 (bytes "malformed markup")
     ∷ plainly 24 (bytes "malformed markup")
     ∷ plainly 25 (bytes "malformed markup")
+    ∷ plainly 26 (bytes "odd number of bytes")
+    ∷ plainly 27 (bytes "lone surrogate")
     ∷ plainly 30 (bytes "too many rows")
     ∷ []
 

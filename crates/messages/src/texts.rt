@@ -32,6 +32,8 @@ pub fn plainly(number: u64, out: &mut [u8]) -> TextAnswer
         23 => shown::plain(b"malformed markup", out),
         24 => shown::plain(b"malformed markup", out),
         25 => shown::plain(b"malformed markup", out),
+        26 => shown::plain(b"odd number of bytes", out),
+        27 => shown::plain(b"lone surrogate", out),
         30 => shown::plain(b"too many rows", out),
         _ => answers::refuse(out, 19, 0),
     }

@@ -1,4 +1,4 @@
--- The laws of the node loop and of the entry.
+-- The laws of the node loop and of the entries.
 -- Assumes nothing.
 pub mod Frames
 pub mod Opened
@@ -6,3 +6,4 @@ pub mod Turning
 pub mod Rooted
 pub mod Entries
 pub mod NodeChildren
+pub mod Files

@@ -1,4 +1,4 @@
-// The reader: the node loop and the public entry.
+// The reader: the node loop and the public entries.
 use document::Answer;
 use document::Fill;
 use document::Next;
@@ -7,6 +7,7 @@ use document::StartTag;
 use document::Token;
 use document::Verdict;
 use document::kinds;
+use files::Reading;
 use tags::step;
 ghost use mathlib.Core.Path.{_≡_};
 ghost use mathlib.Core.Bool.{true, false};
@@ -16,6 +17,7 @@ ghost use Rattle.scan.specs.Classes.{Classes};
 ghost use Rattle.document.specs.Kinds as kinds;
 ghost use Rattle.document.specs.Outcome.{lent, nameAt, Ready, Sound, TagFits, Child, moved};
 ghost use Rattle.document.specs.Whole.{roomOf, Says};
+ghost use Rattle.files.specs.Files.{Reads};
 ghost use Rattle.reader.specs.Entry.{Ended, Refuses, HasRoom, Accepts};
 ghost use Rattle.reader.specs.Nodes.{Walking, Turns, Opens, Looks, NextIn, Shuts, ChildIn, Started, Begun, Walks, Levels, RootOpen, ReadsRoot, ReadsWhole};
 
@@ -406,4 +408,41 @@ fn read_sound(doc: &[u8], rows: &mut [u32], warnings: &mut [u32], text: &mut [u8
     let classes = scan::classes();
     let a = document_node(doc, &classes, rows, warnings, text);
     finish(doc, rows, warnings, text, a)
+}
+
+// Reads a file into the tables lent: a document, or one in UTF-16 that begins with a byte order mark. The text of such a file is decoded into
+// the fourth buffer, and is then the document.
+pub fn read(
+    document: &[u8],
+    rows: &mut [u32],
+    warnings: &mut [u32],
+    text: &mut [u8],
+    decoded: &mut [u8],
+) -> Reading
+    ensures { λ r. ⌜ Reads (now (document .entry)) (roomOf (now (rows .entry)) (now (warnings .entry)) (now (text .entry))) (length (now (decoded .entry))) (now (rows .exit)) (now (warnings .exit)) (now (text .exit)) (now (decoded .exit)) r ⌝ }
+{
+    match utf16::decode(document, decoded) {
+        utf16::Answer::Unmarked => {
+            let verdict = parse_with_warnings(document, rows, warnings, text);
+            Reading {
+                verdict,
+                decoded: 0,
+            }
+        }
+        utf16::Answer::Refused(number, place) => {
+            let refusal = document::bare(number, place);
+            let verdict = refuse(rows, warnings, text, refusal);
+            Reading {
+                verdict,
+                decoded: 0,
+            }
+        }
+        utf16::Answer::Decoded(n) => {
+            let verdict = parse_with_warnings(&decoded[..n], rows, warnings, text);
+            Reading {
+                verdict,
+                decoded: n,
+            }
+        }
+    }
 }

@@ -1,7 +1,8 @@
-// Whole documents: what the reader answers, the rows, the warnings and the text, and whether all past them is zero.
+// Whole documents and files: what the reader answers, the rows, the warnings and the text, and whether all past them is zero.
 use document::Excerpt;
 use document::Refusal;
 use document::Verdict;
+use files::Reading;
 ghost use Prim.Native.Nat.{_<_, _≤_};
 
 // Puts the text, if there is any.
@@ -109,6 +110,22 @@ fn fill(rows: &mut [u32], warnings: &mut [u32], text: &mut [u8]) {
     notation::text::fill(text, 170);
 }
 
+// Puts what was refused or read.
+fn put_verdict(
+    out: &mut [u8],
+    n: usize,
+    asked: bool,
+    rows: &[u32],
+    warnings: &[u32],
+    text: &[u8],
+    verdict: Verdict,
+) -> usize {
+    match verdict {
+        Verdict::Refused(refusal) => put_refused(out, n, asked, rows, warnings, text, refusal),
+        Verdict::Accepted(r, t, w) => put_read(out, n, rows, warnings, text, r, t, w),
+    }
+}
+
 // Reads a document into tables that hold something else.
 fn lent(
     out: &mut [u8],
@@ -120,10 +137,48 @@ fn lent(
     text: &mut [u8],
 ) -> usize {
     fill(rows, warnings, text);
-    match reader::parse_with_warnings(document, rows, warnings, text) {
-        Verdict::Refused(refusal) => put_refused(out, n, asked, rows, warnings, text, refusal),
-        Verdict::Accepted(r, t, w) => put_read(out, n, rows, warnings, text, r, t, w),
+    let verdict = reader::parse_with_warnings(document, rows, warnings, text);
+    put_verdict(out, n, asked, rows, warnings, text, verdict)
+}
+
+// Reads a file into tables and a fourth buffer that hold something else.
+fn read_file(
+    file: &[u8],
+    rows: &mut [u32],
+    warnings: &mut [u32],
+    text: &mut [u8],
+    decoded: &mut [u8],
+) -> Reading {
+    fill(rows, warnings, text);
+    notation::text::fill(decoded, 170);
+    reader::read(file, rows, warnings, text, decoded)
+}
+
+// Puts how many bytes were decoded, and these; says so if what is past them is not zero.
+fn put_decoded(out: &mut [u8], n: usize, decoded: &[u8], count: usize) -> usize {
+    let m = output::put_bytes(out, n, b" = ");
+    let k = output::put_number(out, m, count as u64);
+    let e = put_buffer(out, k, output::front(decoded, count));
+    if notation::words::zero_bytes(decoded, count) {
+        return e;
     }
+    output::put_bytes(out, e, b" tail bad")
+}
+
+// The same, and puts what was read.
+fn lent_file(
+    out: &mut [u8],
+    n: usize,
+    file: &[u8],
+    rows: &mut [u32],
+    warnings: &mut [u32],
+    text: &mut [u8],
+    decoded: &mut [u8],
+) -> usize {
+    let reading = read_file(file, rows, warnings, text, decoded);
+    let verdict = reading.verdict;
+    let m = put_verdict(out, n, true, rows, warnings, text, verdict);
+    put_decoded(out, m, decoded, reading.decoded)
 }
 
 // A case of a whole document: words for rows, words for warnings, bytes for text, the document. What the message of a refusal shows is put
@@ -155,6 +210,34 @@ pub fn read(
         row_words,
         warning_words,
         text,
+    )
+}
+
+// A case of a whole file: words for rows, words for warnings, bytes for text, bytes for what is decoded, the file.
+pub fn file(out: &mut [u8], n: usize, s: &[u8], first: &mut [u8], second: &mut [u8]) -> usize {
+    let a = notation::number(s);
+    let b = output::after(s, a.after);
+    let c = notation::number(b);
+    let d = output::after(b, c.after);
+    let e = notation::number(d);
+    let f = output::after(d, e.after);
+    let g = notation::number(f);
+    let k = notation::text::expand(first, output::after(f, g.after));
+    let mut rows = [0u32; 32768];
+    let mut warnings = [0u32; 16384];
+    let mut buffer = io::large_buffer();
+    let text = output::front_mut(second, e.value as usize);
+    let decoded = output::front_mut(&mut buffer, g.value as usize);
+    let row_words = output::front_words_mut(&mut rows, a.value as usize);
+    let warning_words = output::front_words_mut(&mut warnings, c.value as usize);
+    lent_file(
+        out,
+        n,
+        output::front(first, k),
+        row_words,
+        warning_words,
+        text,
+        decoded,
     )
 }
 

@@ -1,10 +1,10 @@
 -- Escaping and unescaping leave a well-formed text well-formed.
 -- Assumes nothing.
-use Prim.Native.Nat.{ℕ, zero, suc, _+_, _/_, _%_, _≤_, _<_}
-use mathlib.Core.Path.{_≡_, refl, sym, ap, _∙_}
+use Prim.Native.Nat.{ℕ, zero, suc, _+_, _≤_, _<_}
+use mathlib.Core.Path.{_≡_, refl, sym, _∙_}
 use mathlib.Core.List.{List, [], _∷_, _++_}
 use mathlib.Core.Bool.{true, false}
-use borrow.Author.Tests.{lt-ltb, le-ltb, ne-eqb, leb-true, le-leb}
+use borrow.Author.Tests.{ne-eqb, leb-true, le-leb}
 use native.Mathlib.Numerals.{add-one}
 use native.Mathlib.Omega.{arith}
 use lib.Dec.{leb}
@@ -12,13 +12,11 @@ use lib.ListN.{length, drop, getD, length-append, length-drop}
 use Rattle.slices.specs.Bytes.{all}
 use Rattle.slices.proofs.Runs.{both}
 use Rattle.scan.specs.Classes.{escapable}
-use Rattle.utf8.specs.WellFormed.{to, table, begins, sequence}
-use Rattle.utf8.specs.Sequence.{taken}
 use Rattle.utf8.proofs.Sequences as sequences
-use Rattle.utf8.proofs.Sequences.{Char, Only, Followed, rest, only, within-true, below, char-shape}
+use Rattle.utf8.proofs.Sequences.{Char, Followed, below, char-shape}
 use Rattle.utf8.proofs.Texts.{All, joined, Whole, none-whole, whole, formed, whole-append, whole-char, ascii-char, ascii}
+use Rattle.utf8.proofs.Encodings.{Scalar, utf8-char}
 use Rattle.utf8.proofs.Cuts.{cut-after-ascii}
-use Rattle.utf8.specs.Encoding.{utf8}
 use Rattle.answers.specs.Text.{text}
 use Rattle.references.specs.Characters.{xmlChar}
 use Rattle.references.specs.Escape.{escaped, escape}
@@ -29,68 +27,12 @@ use Rattle.references.proofs.Values.{plain-above}
 use Rattle.references.proofs.Escapes.{by-escape, escape-append, escape-one, escape-same}
 use Rattle.references.proofs.Shapes.{Shape, itself, space, line, referred-to, plain-shows, after-text, piece-next}
 
--- ---- the UTF-8 of a character is one sequence
-
--- a first byte that picks a row, and what the row asks after it
-row-char : (n a : ℕ) (l : List ℕ) → Only n table a → begins (rest n table) l ≡ true → length (rest n table) ≡ length l → Char (a ∷ l)
-unfolding sequence taken
-row-char n a l o b e = record { size = only n table a l o ∙ rw b (ap suc e); some = omega arith }
-
-follows : (b : ℕ) → 0x80 ≤ b → b ≤ 0xbf → begins (to 0x80 0xbf ∷ []) (b ∷ []) ≡ true
-follows b h k = rw (within-true (to 0x80 0xbf) b h k)
-
-row-two : (a b : ℕ) → 0xc2 ≤ a → a ≤ 0xdf → 0x80 ≤ b → b ≤ 0xbf → Char (a ∷ b ∷ [])
-row-two a b h k l m = row-char 1 a (b ∷ []) (omega arith) (follows b l m) refl
-
-module _ (a b c : ℕ) (l : 0x80 ≤ b) (m : b ≤ 0xbf) (i : 0x80 ≤ c) (j : c ≤ 0xbf) where
-  two-more : (x y : ℕ) → x ≤ b → b ≤ y → begins (to x y ∷ to 0x80 0xbf ∷ []) (b ∷ c ∷ []) ≡ true
-  two-more x y h k = rw (within-true (to x y) b h k) (follows c i j)
-
-  row-three : 0xe0 ≤ a → a ≤ 0xef → (a ≡ 0xe0 → 0xa0 ≤ b) → (a ≡ 0xed → b ≤ 0x9f) → Char (a ∷ b ∷ c ∷ [])
-  row-three h k e0 ed =
-      below a 0xe1 (λ g. row-char 2 a (b ∷ c ∷ []) (omega arith) (two-more 0xa0 0xbf (e0 (omega arith)) m) refl)
-      (λ g₁. below a 0xed (λ g. row-char 3 a (b ∷ c ∷ []) (omega arith) (two-more 0x80 0xbf l m) refl)
-      (λ g₂. below a 0xee (λ g. row-char 4 a (b ∷ c ∷ []) (omega arith) (two-more 0x80 0x9f l (ed (omega arith))) refl)
-      (λ g. row-char 5 a (b ∷ c ∷ []) (omega arith) (two-more 0x80 0xbf l m) refl)))
-
-  module _ (d : ℕ) (p : 0x80 ≤ d) (q : d ≤ 0xbf) where
-    three-more : (x y : ℕ) → x ≤ b → b ≤ y → begins (to x y ∷ to 0x80 0xbf ∷ to 0x80 0xbf ∷ []) (b ∷ c ∷ d ∷ []) ≡ true
-    three-more x y h k = rw (within-true (to x y) b h k, within-true (to 0x80 0xbf) c i j) (follows d p q)
-
-    row-four : 0xf0 ≤ a → a ≤ 0xf4 → (a ≡ 0xf0 → 0x90 ≤ b) → (a ≡ 0xf4 → b ≤ 0x8f) → Char (a ∷ b ∷ c ∷ d ∷ [])
-    row-four h k f0 f4 =
-        below a 0xf1 (λ g. row-char 6 a (b ∷ c ∷ d ∷ []) (omega arith) (three-more 0x90 0xbf (f0 (omega arith)) m) refl)
-        (λ g₁. below a 0xf4 (λ g. row-char 7 a (b ∷ c ∷ d ∷ []) (omega arith) (three-more 0x80 0xbf l m) refl)
-        (λ g. row-char 8 a (b ∷ c ∷ d ∷ []) (omega arith) (three-more 0x80 0x8f l (f4 (omega arith))) refl))
-
--- no surrogate, and below the first code that is none
-record Scalar (c : ℕ) : Type 0 where
-  pub small : c < 0x110000
-  pub apart : 0xd800 ≤ c → c < 0xe000 → ⊥
-
+-- a character of XML is a scalar value
 scalar : (c : ℕ) → xmlChar c ≡ true → Scalar c
 scalar c h = record {
   small = char-small c h;
   apart = λ k l. never (xmlChar c) (sym (char-surrogate c (omega arith) (omega arith) l)) h;
 }
-
-utf8-char : (c : ℕ) → Scalar c → Char (utf8 c)
-unfolding utf8
-utf8-char c s =
-    below c 0x80 (λ h. rw (lt-ltb c 0x80 h) (ascii-char h))
-    (λ h₁. below c 0x800 (λ h. rw (le-ltb c 0x80 h₁, lt-ltb c 0x800 h) (row-two (0xc0 + c / 64) (0x80 + c % 64) (omega arith) (omega arith) (omega arith) (omega arith)))
-    (λ h₂. below c 0x10000
-    (λ h.
-    rw (le-ltb c 0x80 h₁, le-ltb c 0x800 h₂, lt-ltb c 0x10000 h)
-    (row-three (0xe0 + c / 4096) (0x80 + c / 64 % 64) (0x80 + c % 64) (omega arith) (omega arith) (omega arith) (omega arith) (omega arith) (omega arith) (λ e. omega arith) (λ e. below-surrogates e)))
-    (λ h.
-    rw (le-ltb c 0x80 h₁, le-ltb c 0x800 h₂, le-ltb c 0x10000 h)
-    (row-four (0xf0 + c / 262144) (0x80 + c / 4096 % 64) (0x80 + c / 64 % 64) (omega arith) (omega arith) (omega arith) (omega arith) (0x80 + c % 64) (omega arith) (omega arith) (omega arith) (omega (arith, s .small)) (λ e. omega arith) (λ e. omega (arith, s .small))))))
-  where
-    below-surrogates : 0xe0 + c / 4096 ≡ 0xed → 0x80 + c / 64 % 64 ≤ 0x9f
-    below-surrogates e =
-        let n : 0xd800 ≤ c → ⊥ = λ k. s .apart k (omega arith) in
-        omega arith
 
 -- ---- escaping
 

@@ -13,11 +13,12 @@ use Rattle.slices.specs.Bytes.{if, other, span, past, empty, all}
 use Rattle.slices.specs.Run.{Run}
 use Rattle.slices.proofs.Runs.{both, past-drop, run-stop}
 use Rattle.utf8.specs.Encoding.{utf8}
+use Rattle.utf8.proofs.Encodings.{utf8-short}
 use Rattle.answers.specs.Text.{Text, text, wrong}
 use Rattle.references.specs.Characters.{xmlChar}
 use Rattle.references.specs.Unescape.{Reference, character, fault, reference, Piece, shows, bad, referred, afterAmpersand, afterCr, piece, before, joined, shownFrom, unescape, plain}
 use Rattle.references.proofs.Entities.{reference-good}
-use Rattle.references.proofs.Values.{taken, before-nil, before-before, utf8-short}
+use Rattle.references.proofs.Values.{taken, before-nil, before-before}
 
 -- ---- bytes that show themselves
 

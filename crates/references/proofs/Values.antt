@@ -8,7 +8,7 @@ use borrow.Author.Needs.{needs}
 use borrow.Author.Tests.{ne-eqb, eqb-true, not-true, not-false}
 use native.Mathlib.Nat.{add-zero}
 use native.Mathlib.Omega.{arith}
-use lib.Dec.{eqb, ltb}
+use lib.Dec.{eqb}
 use lib.ListN.{length, drop, getD, length-drop, drop-of-length-le}
 use lib.Seq.{drop-cons, drop-drop}
 use Rattle.slices.specs.Bytes.{if, other}
@@ -16,6 +16,7 @@ use Rattle.slices.specs.Run.{Run}
 use Rattle.slices.proofs.Runs.{run-past, run-stop}
 use Rattle.tables.specs.Table.{Put}
 use Rattle.utf8.specs.Encoding.{utf8}
+use Rattle.utf8.proofs.Encodings.{utf8-short}
 use Rattle.answers.specs.Text.{Text, text, wrong}
 use Rattle.answers.specs.Puts.{Puts}
 use Rattle.answers.proofs.Putting.{puts-none, puts-one, puts-then}
@@ -175,15 +176,6 @@ pub plain-above : (b : ℕ) → 38 < b → true ≡ plain b
 plain-above b h = rw (ne-eqb b 38 (omega arith), ne-eqb b 9 (omega arith), ne-eqb b 10 (omega arith), ne-eqb b 13 (omega arith))
 
 -- ---- the shown bytes put
-
-short-if : (t : Bool) (x y : List ℕ) → length x ≤ 4 → length y ≤ 4 → length (if t x y) ≤ 4
-short-if true x y h l = h
-short-if false x y h l = l
-
-pub utf8-short : (c : ℕ) → length (utf8 c) ≤ 4
-unfolding utf8
-utf8-short c =
-    short-if (ltb c 0x80) _ _ (omega arith) (short-if (ltb c 0x800) _ _ (omega arith) (short-if (ltb c 0x10000) _ _ (omega arith) (omega arith)))
 
 -- a loop that puts what is shown before a place
 pub record Showing (v : List ℕ) (n : ℕ) (t₀ t : List ℕ) (at m : ℕ) : Type 0 where

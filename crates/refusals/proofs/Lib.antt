@@ -4,3 +4,4 @@ pub mod Telling
 pub mod Standing
 pub mod States
 pub mod Whole
+pub mod Files

@@ -14,6 +14,8 @@ use Rattle.document.specs.Whole.{Room, Says}
 use Rattle.document.specs.declared.Excerpt.{Excerpt}
 use Rattle.document.specs.declared.Refusal.{Refusal}
 use Rattle.document.specs.declared.Verdict.the-variants.{Refused, Accepted}
+use Rattle.files.specs.Files.{Reads, documentLeft}
+use Rattle.files.specs.declared.Reading.{Reading}
 use Rattle.messages.specs.Message.{messageOf, warningMessageOf}
 use Rattle.messages.specs.declared.Wide.{Wide}
 use Rattle.messages.specs.declared.Told.{Told}
@@ -49,3 +51,23 @@ WarningsTold =
     (i : ℕ) →
     i < w →
     (out : ℕ) → warningMessageOf doc (warningWord warnings i 0) (warningWord warnings i 2) (warningWord warnings i 3) out ≡ wrong 19 0 → ⊥
+
+-- ---- the same of files, with the document that what follows is handed
+
+abbrev pub FileRefusalsTold : Type 0
+FileRefusalsTold =
+    (raw rows warnings text decoded : List ℕ) (room : Room) (decodedRoom : ℕ) (r : Reading) (x : Refusal) →
+    Reads raw room decodedRoom rows warnings text decoded r →
+    r .verdict ≡ Refused x →
+    (out : ℕ) → messageOf (documentLeft raw decoded (r .decoded)) (toldOf x) out ≡ wrong 19 0 → ⊥
+
+abbrev pub FileWarningsTold : Type 0
+FileWarningsTold =
+    (raw rows warnings text decoded : List ℕ) (room : Room) (decodedRoom : ℕ) (r : Reading) (n t w : ℕ) →
+    Reads raw room decodedRoom rows warnings text decoded r →
+    r .verdict ≡ Accepted n t w →
+    (i : ℕ) →
+    i < w →
+    (out : ℕ) →
+    warningMessageOf (documentLeft raw decoded (r .decoded)) (warningWord warnings i 0) (warningWord warnings i 2) (warningWord warnings i 3) out ≡ wrong 19 0 →
+    ⊥

@@ -13,7 +13,7 @@ fn table() -> [u32; 16384]
     [0; 16384]
 }
 
-// Reads a document, and adds what came of it.
+// Reads a file's bytes, and adds what came of them.
 fn add_document(counts: &mut [u32], document: &[u8])
     requires { ⌜ length (now counts) ≡ 128 ⌝ }
     ensures { λ r. ⌜ Adds (documentOutcome (now (document .entry))) (now (counts .entry)) (now (counts .exit)) ⌝ }
@@ -21,7 +21,9 @@ fn add_document(counts: &mut [u32], document: &[u8])
     let mut rows = table();
     let mut warnings = table();
     let mut text = io::large_buffer();
-    let verdict = reader::parse_with_warnings(document, &mut rows, &mut warnings, &mut text);
+    let mut decoded = io::large_buffer();
+    let reading = reader::read(document, &mut rows, &mut warnings, &mut text, &mut decoded);
+    let verdict = reading.verdict;
     sheets::add(counts, verdict, &rows, &warnings);
 }
 

@@ -11,26 +11,28 @@ use lib.Dec.{ltb}
 use lib.ListN.{length, take, drop, replicate, length-append, getD-replicate}
 use lib.Seq.{length-take-le, take-all, take-at}
 use Rattle.slices.specs.Bytes.{if}
-use Rattle.document.specs.Whole.{Room, read, verdictOf, rowsLeft, warningsLeft, roomOf, Says}
+use Rattle.document.specs.Whole.{Room, verdictOf, rowsLeft, warningsLeft, roomOf}
 use Rattle.document.specs.declared.Verdict.{Verdict}
+use Rattle.files.specs.Files.{readFile, Reads}
+use Rattle.files.specs.declared.Reading.{Reading}
 use Rattle.sheets.specs.Sheet.{Outcome, unreadable, refused, Sheet, blank, added, summed, sheetOf}
 use Rattle.sheets.specs.Answer.{outcomeOf}
 use Rattle.sheets.specs.Names.{namesOf, looked, more, openable, IsNext, Next}
 use Rattle.sheets.specs.Lines.{linesOf, moreLine, longLine, printed}
 use Rattle.sheets.specs.Counts.{Bounded, Stands, Adds}
 use Rattle.sheets.specs.Printed.{Prints}
-use Rattle.sheets.specs.Files.{programRoom, documentOutcome, fileOutcome, nameOutcome, Came, AddsFile, AddsName, Sums, PrintsList}
+use Rattle.sheets.specs.Files.{programRoom, programDecoded, documentOutcome, fileOutcome, nameOutcome, Came, AddsFile, AddsName, Sums, PrintsList}
 use Rattle.sheets.specs.declared.names.NextName.{NextName}
 use Rattle.sheets.specs.declared.names.NextName.the-variants.{Nothing, At}
 
 -- ---- a document
 
-outcome-is : {doc rows warnings text : List ℕ} {v : Verdict} → Says doc programRoom rows warnings text v → outcomeOf v rows warnings ≡ documentOutcome doc
+outcome-is : {raw rows warnings text decoded : List ℕ} {r : Reading} → Reads raw programRoom programDecoded rows warnings text decoded r → outcomeOf (r .verdict) rows warnings ≡ documentOutcome raw
 unfolding documentOutcome
-outcome-is {doc} {rows} {warnings} s =
+outcome-is {raw} {rows} {warnings} s =
     ap (λ (x : Verdict). outcomeOf x rows warnings) (s .verdict)
-    ∙ ap (λ (l : List ℕ). outcomeOf (verdictOf (read doc programRoom)) l warnings) (s .rows-left)
-    ∙ ap (λ (l : List ℕ). outcomeOf (verdictOf (read doc programRoom)) (rowsLeft programRoom (read doc programRoom)) l) (s .warnings-left)
+    ∙ ap (λ (l : List ℕ). outcomeOf (verdictOf (readFile raw programRoom programDecoded)) l warnings) (s .rows-left)
+    ∙ ap (λ (l : List ℕ). outcomeOf (verdictOf (readFile raw programRoom programDecoded)) (rowsLeft programRoom (readFile raw programRoom programDecoded)) l) (s .warnings-left)
 
 abbrev roomed : ℕ → ℕ → ℕ → Room
 roomed a b c = record { rows = a; warnings = b; text = c }
@@ -41,9 +43,10 @@ room-is rows warnings text a b c =
     ∙ ap (λ (n : ℕ). roomed 16384 n (length text)) (sym b)
     ∙ ap (λ (n : ℕ). roomed 16384 16384 n) (sym c)
 
-pub document-adds : {doc rows warnings text c c′ : List ℕ} {room : Room} {v : Verdict} → Says doc room rows warnings text v → room ≡ programRoom → Adds (outcomeOf v rows warnings) c c′ → Adds (documentOutcome doc) c c′
-document-adds {doc} {rows} {warnings} {text} {c} {c′} {room} {v} s e t =
-    let p : Says doc programRoom rows warnings text v = subst (λ (r : Room). Says doc r rows warnings text v) e s in
+pub document-adds : {raw rows warnings text decoded c c′ : List ℕ} {room : Room} {k : ℕ} {r : Reading} → Reads raw room k rows warnings text decoded r → room ≡ programRoom → 65536 ≡ k → Adds (outcomeOf (r .verdict) rows warnings) c c′ → Adds (documentOutcome raw) c c′
+document-adds {raw} {rows} {warnings} {text} {decoded} {c} {c′} {room} {k} {r} s e f t =
+    let q : Reads raw programRoom k rows warnings text decoded r = subst (λ (x : Room). Reads raw x k rows warnings text decoded r) e s in
+    let p : Reads raw programRoom programDecoded rows warnings text decoded r = subst (λ (n : ℕ). Reads raw programRoom n rows warnings text decoded r) (sym f) q in
     subst (λ (o : Outcome). Adds o c c′) (outcome-is p) t
 
 -- ---- a file

@@ -14,7 +14,7 @@ use Rattle.slices.specs.Bytes.{if}
 use Rattle.document.specs.Tags.{Shown}
 use Rattle.document.specs.Rows.{Row, Warning, Tables, rowWords, rowText, wordsFrom, warned}
 use Rattle.document.specs.Reading as reading
-use Rattle.document.specs.Whole.{Room, read, verdictOf, rowsLeft, warningsLeft}
+use Rattle.document.specs.Whole.{Room, verdictOf, rowsLeft, warningsLeft}
 use Rattle.document.specs.declared.Refusal.{Refusal}
 use Rattle.rows.proofs.Words.{length-rowWords}
 use Rattle.sheets.specs.Sheet.{Outcome, unreadable, refused, accepted, occurs, Sheet, blank, added, summed, sheetOf}

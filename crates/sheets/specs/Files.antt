@@ -7,21 +7,25 @@ use mathlib.Core.Bool.{Bool}
 use lib.Dec.{ltb}
 use lib.ListN.{length, take}
 use Rattle.slices.specs.Bytes.{if}
-use Rattle.document.specs.Whole.{Room, read, verdictOf, rowsLeft, warningsLeft}
+use Rattle.document.specs.Whole.{Room, verdictOf, rowsLeft, warningsLeft}
+use Rattle.files.specs.Files.{readFile}
 use Rattle.sheets.specs.Sheet.{Outcome, unreadable, refused, blank, sheetOf}
 use Rattle.sheets.specs.Answer.{outcomeOf}
 use Rattle.sheets.specs.Names.{looked, more, openable}
 use Rattle.sheets.specs.Lines.{printed}
 use Rattle.sheets.specs.Counts.{Stands, Adds}
 
--- 1,024 rows, 4,096 warnings and 65,536 bytes of text
+-- 1,024 rows, 4,096 warnings and 65,536 bytes of text; as many for what is decoded
 abbrev pub programRoom : Room
 programRoom = record { rows = 16384; warnings = 16384; text = 65536 }
 
--- what the reader answers of a document, with these tables
+abbrev pub programDecoded : ℕ
+programDecoded = 65536
+
+-- what the reader answers of a file's bytes, with these buffers
 unfoldable pub documentOutcome : List ℕ → Outcome
-documentOutcome doc =
-    let s = read doc programRoom in
+documentOutcome raw =
+    let s = readFile raw programRoom programDecoded in
     outcomeOf (verdictOf s) (rowsLeft programRoom s) (warningsLeft programRoom s)
 
 -- opening or reading failed, or so many bytes were read, of which more than 65,536 are over-long

@@ -1,4 +1,4 @@
--- What holds of every sheet, and what a document's outcome is in the terms of what was read.
+-- What holds of every sheet, and what a file's outcome is in the terms of what was read.
 -- Assumes nothing.
 use Prim.Native.Nat.{ℕ, zero, suc, _+_, _<_}
 use mathlib.Core.Path.{_≡_}
@@ -7,10 +7,10 @@ use lib.ListN.{length}
 use Rattle.document.specs.Tags.{Shown}
 use Rattle.document.specs.Rows.{Row, Warning, Tables}
 use Rattle.document.specs.Reading as reading
-use Rattle.document.specs.Whole.{read}
 use Rattle.document.specs.declared.Refusal.{Refusal}
+use Rattle.files.specs.Files.{readFile}
 use Rattle.sheets.specs.Sheet.{Outcome, unreadable, refused, accepted, Sheet, sheetOf}
-use Rattle.sheets.specs.Files.{programRoom, documentOutcome}
+use Rattle.sheets.specs.Files.{programRoom, programDecoded, documentOutcome}
 
 -- the three numbers of the first line add up to the names looked at
 abbrev pub FilesAdd : Type 0
@@ -46,9 +46,9 @@ SheetsJoin =
 -- the kinds of the rows and the reasons of the warnings that were read, or the number of the refusal
 abbrev pub DocumentAccepted : Type 0
 DocumentAccepted =
-    (doc : List ℕ) (t : Tables Shown) →
-    read doc programRoom ≡ reading.accepted t →
-    documentOutcome doc ≡ accepted (map (λ (r : Row Shown). r .kind) (t .rows)) (map (λ (w : Warning). w .reason) (t .warnings))
+    (raw : List ℕ) (t : Tables Shown) →
+    readFile raw programRoom programDecoded ≡ reading.accepted t →
+    documentOutcome raw ≡ accepted (map (λ (r : Row Shown). r .kind) (t .rows)) (map (λ (w : Warning). w .reason) (t .warnings))
 
 abbrev pub DocumentRefused : Type 0
-DocumentRefused = (doc : List ℕ) (x : Refusal) → read doc programRoom ≡ reading.refused x → documentOutcome doc ≡ refused (x .number)
+DocumentRefused = (raw : List ℕ) (x : Refusal) → readFile raw programRoom programDecoded ≡ reading.refused x → documentOutcome raw ≡ refused (x .number)
