@@ -89,16 +89,31 @@ fn blocks(s: &[u8], from: usize) -> usize
     at
 }
 
+// The same, and then to the first such byte, or the length.
+fn next_doubt(s: &[u8], from: usize) -> usize
+    requires { ⌜ from ≤ length (now s) ⌝ }
+    ensures { λ r. ⌜ Free noChar (now (s .entry)) from r ⌝ }
+{
+    let mut at = blocks(s, from);
+    while at < s.len() {
+        if doubt(s[at]) {
+            return at;
+        }
+        at += 1;
+    }
+    at
+}
+
 // The place of the first byte at which a character begins that is no Char, or the length.
 fn first_no_char(s: &[u8]) -> usize
     ensures { λ r. ⌜ r ≡ firstPlace noChar (now (s .entry)) ⌝ }
 {
-    let mut at = blocks(s, 0);
+    let mut at = next_doubt(s, 0);
     while at < s.len() {
         if no_char(s, at) {
             return at;
         }
-        at = blocks(s, at + 1);
+        at = next_doubt(s, at + 1);
     }
     at
 }

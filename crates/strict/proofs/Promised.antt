@@ -9,18 +9,21 @@ use native.Mathlib.Decide.{decLt}
 use native.Mathlib.Omega.{arith}
 use lib.Dec.{eqb}
 use Rattle.slices.specs.Bytes.{if, empty}
+use Rattle.answers.specs.Text.{Text, text, wrong}
 use Rattle.document.specs.Tags.{Shown}
 use Rattle.document.specs.Rows.{Tables}
 use Rattle.document.specs.Refusals.{bare}
 use Rattle.document.specs.Elements.{among}
 use Rattle.document.specs.Reading.{State, begun, reading, accepted, refused}
 use Rattle.document.specs.Whole.{Room, read}
+use Rattle.document.specs.declared.Refusal.{Refusal}
 use Rattle.document.proofs.Tests.{never}
+use Rattle.files.specs.Files.{documentOf, readText, readFile}
 use Rattle.breaches.specs.Least.{lesser, least}
 use Rattle.breaches.specs.Breaches.{breaches}
 use Rattle.breaches.specs.declared.Breach.{Breach}
 use Rattle.breaches.specs.declared.Breach.the-variants.{Nowhere, At}
-use Rattle.strict.specs.Strict.{judged, strict}
+use Rattle.strict.specs.Strict.{judged, strict, strictText, strictFile}
 use Rattle.strict.specs.Promises.{AcceptedHasNone, NoneIsAccepted, SomeIsRefused, RefusedAlike}
 
 -- the least of some is nowhere only where there is none
@@ -78,9 +81,11 @@ least-is (p ∷ ps) q e = go (least ps) refl e (λ r f. least-is ps r f)
         first (yes h) k l = let m : q ≡ s = omega arith in rw m (among-later s p ps (l .one))
         first (no h) k l = among-first q p ps (omega arith)
 
-pub accepted-has-none : AcceptedHasNone
+-- ---- of a document
+
+document-accepted : (doc : List ℕ) (room : Room) (t : Tables Shown) → strict doc room ≡ accepted t → (breaches doc ≡ []) × (read doc room ≡ accepted t)
 unfolding strict
-accepted-has-none doc room t e = go (read doc room) (least (breaches doc)) refl refl e
+document-accepted doc room t e = go (read doc room) (least (breaches doc)) refl refl e
   where
     go : (s : State Shown) (b : Breach) → read doc room ≡ s → least (breaches doc) ≡ b → judged s b ≡ accepted t → (breaches doc ≡ []) × (read doc room ≡ accepted t)
     go begun b f g e = let z : _≡_ {A = ℕ} 0 1 = cc in absurd (omega arith)
@@ -89,13 +94,13 @@ accepted-has-none doc room t e = go (read doc room) (least (breaches doc)) refl 
     go (accepted u) (At p) f g e = let z : _≡_ {A = ℕ} 0 1 = cc in absurd (omega arith)
     go (refused x) b f g e = let z : _≡_ {A = ℕ} 0 1 = cc in absurd (omega arith)
 
-pub none-is-accepted : NoneIsAccepted
+document-none : (doc : List ℕ) (room : Room) (t : Tables Shown) → read doc room ≡ accepted t → breaches doc ≡ [] → strict doc room ≡ accepted t
 unfolding strict least
-none-is-accepted doc room t e f = rw (e, f)
+document-none doc room t e f = rw (e, f)
 
-pub some-is-refused : SomeIsRefused
+document-some : (doc : List ℕ) (room : Room) (t : Tables Shown) → read doc room ≡ accepted t → empty (breaches doc) ≡ false → (p : ℕ) × (strict doc room ≡ refused (bare 29 p)) × (among p (breaches doc) ≡ true) × ((q : ℕ) → among q (breaches doc) ≡ true → p ≤ q)
 unfolding strict
-some-is-refused doc room t e f = go (breaches doc) refl f
+document-some doc room t e f = go (breaches doc) refl f
   where
     go : (ps : List ℕ) → breaches doc ≡ ps → empty ps ≡ false → (p : ℕ) × (strict doc room ≡ refused (bare 29 p)) × (among p (breaches doc) ≡ true) × ((q : ℕ) → among q (breaches doc) ≡ true → p ≤ q)
     go [] g f = never (sym f)
@@ -105,6 +110,32 @@ some-is-refused doc room t e f = go (breaches doc) refl f
         let l = least-is (breaches doc) (q .0) k in
         (q .0, rw (e, k), l .one, l .none)
 
-pub refused-alike : RefusedAlike
+document-refused : (doc : List ℕ) (room : Room) (x : Refusal) → read doc room ≡ refused x → strict doc room ≡ refused x
 unfolding strict
-refused-alike doc room x e = rw e
+document-refused doc room x e = rw e
+
+-- ---- of a file
+
+pub accepted-has-none : AcceptedHasNone
+unfolding strictFile readFile
+accepted-has-none raw room decodedRoom t e = go (documentOf raw decodedRoom) refl e
+  where
+    go : (o : Text) → documentOf raw decodedRoom ≡ o → strictText o room ≡ accepted t → (doc : List ℕ) × (o ≡ text doc) × (breaches doc ≡ []) × (readText o room ≡ accepted t)
+    go (text doc) f e = let d = document-accepted doc room t e in (doc, refl, d .0, d .1)
+    go (wrong n p) f e = let z : _≡_ {A = ℕ} 0 1 = cc in absurd (omega arith)
+
+pub none-is-accepted : NoneIsAccepted
+unfolding strictFile readFile
+none-is-accepted raw doc room decodedRoom t d e f = rw d (document-none doc room t (rw d at e) f)
+
+pub some-is-refused : SomeIsRefused
+unfolding strictFile readFile
+some-is-refused raw doc room decodedRoom t d e f = rw d (document-some doc room t (rw d at e) f)
+
+pub refused-alike : RefusedAlike
+unfolding strictFile readFile
+refused-alike raw room decodedRoom x e = go (documentOf raw decodedRoom) e
+  where
+    go : (o : Text) → readText o room ≡ refused x → strictText o room ≡ refused x
+    go (text doc) e = document-refused doc room x e
+    go (wrong n p) e = e
