@@ -1,7 +1,7 @@
 -- What is decoded: it is what the units say, well-formed, at most 3/2 of the document's bytes, within the limit and the room, and stands in the buffer.
 -- Assumes nothing.
 use Prim.Native.Nat.{ℕ, zero, suc, _+_, _-_, _*_, _/_, _%_, _≤_, _<_}
-use mathlib.Core.Path.{_≡_, refl, sym, _∙_}
+use mathlib.Core.Path.{_≡_, refl}
 use mathlib.Core.List.{List, [], _∷_, _++_}
 use mathlib.Core.Bool.{Bool, true, false, _&&_, _||_}
 use borrow.Author.Tests.{ltb-true, ltb-false, lt-ltb, le-ltb, leb-true, le-leb, lt-leb}
@@ -14,7 +14,6 @@ use lib.Seq.{take-append-seam}
 use Rattle.slices.specs.Bytes.{if, all, starts}
 use Rattle.slices.proofs.Runs.{both}
 use Rattle.utf8.specs.Encoding.{utf8}
-use Rattle.utf8.specs.WellFormed.{illFormed}
 use Rattle.utf8.proofs.Sequences.{below}
 use Rattle.utf8.proofs.Texts.{Whole, none-whole, formed, whole-append, whole-char}
 use Rattle.utf8.proofs.Encodings.{Scalar, utf8-char, utf8-short, unit-short}

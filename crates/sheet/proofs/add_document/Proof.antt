@@ -11,6 +11,8 @@ add-document-spec =
     (λ c κs. search filing)
     (λ c κs. search filing)
     (λ c κs. search filing)
+    (λ c κs. search filing)
+    (λ c. search filing)
     (λ c. search filing)
     (λ c. search filing)
     (λ c. search filing)
