@@ -49,7 +49,10 @@ fn case(out: &mut [u8], n: usize, s: &[u8], first: &mut [u8], second: &mut [u8])
     let space = slices::find(s, 0, b' ');
     let word = output::front(s, space);
     let rest = output::after(output::after(s, space), 1);
-    let operation = notation::place_of(b"escape unescape lookup read answer words file strict ", word);
+    let operation = notation::place_of(
+        b"escape unescape lookup read answer words file strict ",
+        word,
+    );
     match operation {
         0..=1 => roomy(out, n, operation == 0, rest, first, second),
         2 => lookup(out, n, rest, first, second),

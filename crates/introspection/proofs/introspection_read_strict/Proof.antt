@@ -13,4 +13,5 @@ introspection-read-strict-spec =
     (λ c. search entries)
     (λ c. search entries)
     (λ c. search entries)
+    (λ c. search entries)
     (λ c. search entries))
