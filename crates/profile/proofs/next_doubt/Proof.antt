@@ -19,9 +19,10 @@ next-doubt-spec =
     (tie.spec
     Inv-loop
     μ-loop
+    (λ c κs. search frees)
     (λ c. search frees)
     (λ c. search frees)
-    (λ c. search frees)
+    (λ c κs. search frees)
     (λ c. search frees)
     (λ c. search frees)
     (λ c. search frees)
