@@ -131,6 +131,7 @@ enum introspection_number {
     INTROSPECTION_UNCLOSED_DECLARATION = 25,    /* [past the quote that never closes; else the length] */
     INTROSPECTION_ODD_BYTES = 26,               /* of a file in UTF-16 [its length] */
     INTROSPECTION_LONE_SURROGATE = 27,          /* in a file in UTF-16 [the first byte of its unit, in the file] */
+    INTROSPECTION_PROFILE_BREACH = 29,          /* of introspection_read_strict [the least breach] */
     INTROSPECTION_TOO_MANY_ROWS = 30            /* [262,144] */
 };
 
@@ -196,9 +197,25 @@ void introspection_read(const uint8_t *document, size_t document_length, uint32_
                         uint8_t *decoded, size_t decoded_length, uint64_t answer[INTROSPECTION_ANSWER_WORDS]);
 
 /*
+ * Reads a file of the strict profile: as introspection_read, with the same buffers and the same answer. Then a document that
+ * would be accepted is refused with 29 if it breaks one of these rules of XML 1.0: no raw `<` and no `&#X` in an attribute
+ * value; no `--` inside a comment, and no hyphen at its end; tag and attribute names are Names of the fifth edition; every
+ * character is a Char; the root's tag is `node`; after the root stand only white space, closed comments and closed
+ * instructions. The place is that of the least breach (docs/FORMAT.md, The strict profile). What is accepted has the rows,
+ * warnings and text of introspection_read.
+ *
+ * answer: enum introspection_answer. Refusals: those of introspection_read, 18 too, then 29; after it rows, warnings and text
+ * are zeros, and what was decoded from UTF-16 stands. On real files it takes about 1.75 times
+ * the instructions of introspection_read.
+ */
+void introspection_read_strict(const uint8_t *document, size_t document_length, uint32_t *rows, size_t rows_length,
+                               uint32_t *warnings, size_t warnings_length, uint8_t *text, size_t text_length,
+                               uint8_t *decoded, size_t decoded_length, uint64_t answer[INTROSPECTION_ANSWER_WORDS]);
+
+/*
  * Writes the message of a refusal, with the document that was refused, of UTF-16 what was decoded: the sentence that zbus_xml's
- * XmlError has, such as missing `</node>`; where it has none, a few words (docs/FORMAT.md, Messages). refusal is the answer of introspection_read
- * as it is, or 16 words of whatever content: of them number, key and the triples that the number shows are looked at. The
+ * XmlError has, such as missing `</node>`; where it has none, a few words (docs/FORMAT.md, Messages). refusal is the answer of introspection_read or
+ * introspection_read_strict as it is, or 16 words of whatever content: of them number, key and the triples that the number shows are looked at. The
  * place is not: whoever shows it adds it. No message is longer than 64 bytes and the bytes that it shows.
  *
  * answer: number, place, bytes written. Refusals: 2, unless the number of refusal is 2; 19 at 0 for a number or key that is

@@ -68,8 +68,12 @@ struct reading {
     uint64_t answer[INTROSPECTION_ANSWER_WORDS];
 };
 
-static struct reading read_file(const char *bytes, size_t length, size_t rows, size_t warnings, size_t text,
-                                size_t decoded)
+/* introspection_read or introspection_read_strict. */
+typedef void reads(const uint8_t *, size_t, uint32_t *, size_t, uint32_t *, size_t, uint8_t *, size_t, uint8_t *, size_t,
+                   uint64_t *);
+
+static struct reading read_by(reads *f, const char *bytes, size_t length, size_t rows, size_t warnings, size_t text,
+                              size_t decoded)
 {
     struct reading r;
     r.document = copy_of(bytes, length);
@@ -83,9 +87,14 @@ static struct reading read_file(const char *bytes, size_t length, size_t rows, s
     r.decoded = lend(decoded);
     r.decoded_length = decoded;
     memset(r.answer, 0xa5, sizeof r.answer);
-    introspection_read(r.document, length, r.rows, rows, r.warnings, warnings, r.text, text, r.decoded, decoded,
-                       r.answer);
+    f(r.document, length, r.rows, rows, r.warnings, warnings, r.text, text, r.decoded, decoded, r.answer);
     return r;
+}
+
+static struct reading read_file(const char *bytes, size_t length, size_t rows, size_t warnings, size_t text,
+                                size_t decoded)
+{
+    return read_by(introspection_read, bytes, length, rows, warnings, text, decoded);
 }
 
 /* Bytes to decode into are lent, too. */
@@ -520,6 +529,59 @@ static void files_told(void)
     end_reading(&r);
 }
 
+/* ---- the strict profile */
+
+/* A document by the strict entry; 0 for accepted, and then with the words, warnings and text of the ordinary one. */
+static void strictly(const char *document, size_t length, uint64_t number, uint64_t place, int line)
+{
+    struct reading r = read_by(introspection_read_strict, document, length, 160, 40, 64, 64);
+    struct reading s = read_file(document, length, 160, 40, 64, 64);
+    check(answers(&r, number, place), "number and place by the strict entry", line);
+    if (number != 0 && number != INTROSPECTION_PROFILE_BREACH) {
+        check(memcmp(r.answer, s.answer, sizeof r.answer) == 0 && refused_clean(&r), "refused alike", line);
+    } else if (number != 0) {
+        check(s.answer[0] == 0 && refused_clean(&r) && says(&r, "profile breach"), "a breach", line);
+        check(r.answer[12] == s.answer[12] && memcmp(r.decoded, s.decoded, 64) == 0, "what was decoded stands", line);
+    } else {
+        check(memcmp(r.answer, s.answer, sizeof r.answer) == 0 && memcmp(r.rows, s.rows, 640) == 0
+                  && memcmp(r.warnings, s.warnings, 160) == 0 && memcmp(r.text, s.text, 64) == 0
+                  && memcmp(r.decoded, s.decoded, 64) == 0,
+              "accepted alike", line);
+    }
+    end_reading(&r);
+    end_reading(&s);
+}
+
+#define STRICTLY(document, number, place) strictly((document), sizeof(document) - 1, (number), (place), __LINE__)
+
+/* Each rule, and the order. */
+static void the_strict_profile(void)
+{
+    struct reading r;
+    STRICTLY("<node/>", 0, 0);
+    STRICTLY("<node name='&lt;&#x41;'><interface name='a.b'/><x/></node> <!--a--><?b?>\n", 0, 0);
+    STRICTLY("junk<!x [<!-- -- -->]><node>&#X41; & ]]></node>", 0, 0);
+    STRICTLY("<node a='1<2'/>", INTROSPECTION_PROFILE_BREACH, 10);
+    STRICTLY("<node><docstring><b c='&#X41;'/></docstring></node>", INTROSPECTION_PROFILE_BREACH, 23);
+    STRICTLY("<!--a---><node/>", INTROSPECTION_PROFILE_BREACH, 5);
+    STRICTLY("<node><x><!-- -- --></x></node>", INTROSPECTION_PROFILE_BREACH, 14);
+    STRICTLY("<node/><!-- -- -->", INTROSPECTION_PROFILE_BREACH, 12);
+    STRICTLY("<node><a\"b/></node>", INTROSPECTION_PROFILE_BREACH, 8);
+    STRICTLY("<node \xc2\xb7='1'/>", INTROSPECTION_PROFILE_BREACH, 6);
+    STRICTLY("<node>\xef\xbf\xbe</node>", INTROSPECTION_PROFILE_BREACH, 6);
+    STRICTLY("<node\fa='1'/>", INTROSPECTION_PROFILE_BREACH, 5);
+    STRICTLY("<x/>", INTROSPECTION_PROFILE_BREACH, 1);
+    STRICTLY("<node/><!-->", INTROSPECTION_PROFILE_BREACH, 7);
+    STRICTLY("<node><!--\1--></node>x", INTROSPECTION_PROFILE_BREACH, 10);
+    STRICTLY("<x></y>", INTROSPECTION_CROSSED_CLOSE, 7);
+    STRICTLY("\xff\xfe<\0x\0/\0>\0", INTROSPECTION_PROFILE_BREACH, 1);
+    STRICTLY("\xfe\xff\0<\0n\0o\0d\0e\0/\0>", 0, 0);
+    STRICTLY("\xfe\xff\xd8\0", INTROSPECTION_LONE_SURROGATE, 2);
+    r = read_by(introspection_read_strict, "<x/>", 4, 15, 0, 0, 0); /* 18 comes first */
+    CHECK(answers(&r, INTROSPECTION_NO_ROOM, 4) && refused_clean(&r));
+    end_reading(&r);
+}
+
 /* ---- null pointers with length 0, in every place that has a buffer */
 
 static void nothing_lent(void)
@@ -533,6 +595,8 @@ static void nothing_lent(void)
     introspection_read(document, 7, NULL, 0, NULL, 0, NULL, 0, NULL, 0, a);
     CHECK(a[0] == INTROSPECTION_NO_ROOM && a[1] == 7);
     introspection_read((const uint8_t *)"\xfe\xff", 2, NULL, 0, NULL, 0, NULL, 0, NULL, 0, a);
+    CHECK(a[0] == INTROSPECTION_NO_ROOT && all_zero(a, 8, sizeof a));
+    introspection_read_strict(NULL, 0, NULL, 0, NULL, 0, NULL, 0, NULL, 0, a);
     CHECK(a[0] == INTROSPECTION_NO_ROOT && all_zero(a, 8, sizeof a));
     introspection_escape(NULL, 0, NULL, 0, b);
     CHECK(b[0] == 0 && b[1] == 0 && b[2] == 0);
@@ -832,6 +896,7 @@ int main(void)
     the_hinge_in_utf16();
     files_refused();
     files_told();
+    the_strict_profile();
     nothing_lent();
     values();
     messages();

@@ -67,13 +67,15 @@ pub enum ErrorKind {
     /// A surrogate without its partner in an input in UTF-16. Place: the first byte of its unit, in
     /// the input.
     LoneSurrogate = 27,
+    /// A breach of the strict profile ([`Document::parse_strict`]). Place: the least.
+    ProfileBreach = 29,
     /// More than 262,144 rows, to be put down as columns or to be made from them. Place: 262,144.
     TooManyRows = 30,
 }
 
 use ErrorKind::*;
 
-const KINDS: [ErrorKind; 28] = [
+const KINDS: [ErrorKind; 29] = [
     NotUtf8,
     TooLong,
     NoRoot,
@@ -101,6 +103,7 @@ const KINDS: [ErrorKind; 28] = [
     UnclosedDeclaration,
     OddBytes,
     LoneSurrogate,
+    ProfileBreach,
     TooManyRows,
 ];
 

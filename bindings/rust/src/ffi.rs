@@ -25,6 +25,20 @@ extern "C" {
         answer: *mut u64,
     );
 
+    fn introspection_read_strict(
+        document: *const u8,
+        document_len: usize,
+        rows: *mut u32,
+        rows_len: usize,
+        warnings: *mut u32,
+        warnings_len: usize,
+        text: *mut u8,
+        text_len: usize,
+        decoded: *mut u8,
+        decoded_len: usize,
+        answer: *mut u64,
+    );
+
     fn introspection_message(
         document: *const u8,
         document_len: usize,
@@ -113,8 +127,25 @@ pub(crate) struct Counts {
     pub(crate) decoded: usize,
 }
 
-/// Reads a document into the tables lent; one in UTF-16 is decoded into the last buffer first.
+/// `introspection_read` or `introspection_read_strict`.
+type Read = unsafe extern "C" fn(
+    *const u8,
+    usize,
+    *mut u32,
+    usize,
+    *mut u32,
+    usize,
+    *mut u8,
+    usize,
+    *mut u8,
+    usize,
+    *mut u64,
+);
+
+/// Reads a document into the tables lent, by the strict profile or not; one in UTF-16 is decoded into
+/// the last buffer first.
 pub(crate) fn read(
+    strict: bool,
     input: &[u8],
     rows: &mut [[u32; 16]],
     warnings: &mut [[u32; 4]],
@@ -124,10 +155,11 @@ pub(crate) fn read(
     let rows = rows.as_flattened_mut();
     let warnings = warnings.as_flattened_mut();
     let mut answer = [0; 16];
-    // SAFETY: the five slices are as the head of this file says; `answer` has the 16 words that this
-    // function writes.
+    let read: Read = if strict { introspection_read_strict } else { introspection_read };
+    // SAFETY: `read` is one of the two functions; the five slices are as the head of this file says;
+    // `answer` has the 16 words that both write.
     unsafe {
-        introspection_read(
+        read(
             input.as_ptr(),
             input.len(),
             rows.as_mut_ptr(),

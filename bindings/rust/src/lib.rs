@@ -10,7 +10,8 @@
 //! with an [`Error`] at its place.
 //!
 //! A document in UTF-16 that begins with a byte order mark is decoded first, and what was decoded is
-//! then the document: [`Document::text`].
+//! then the document: [`Document::text`]. [`Document::parse_strict`] refuses, besides, a document
+//! that breaks a rule of the strict profile.
 //!
 //! ```
 //! use introspection::{ArgDirection, Document};
@@ -123,24 +124,51 @@ impl<'a> Document<'a> {
     /// # Ok::<(), introspection::Error>(())
     /// ```
     pub fn parse(input: &'a [u8]) -> Result<Self, Error> {
-        Self::parse_with(input, openings(input))
+        Self::parse_with(false, input, openings(input))
+    }
+
+    /// Reads a document of the strict profile: as [`parse`](Self::parse), and a document that would be
+    /// accepted and breaks one of the profile's rules is refused, at the least place of a breach.
+    ///
+    /// The rules are of XML 1.0: no raw `<` and no `&#X` in an attribute value, no `--` inside a
+    /// comment, tag and attribute names of the fifth edition, every character a Char, the root tag
+    /// `node`, and after the root only white space, closed comments and closed instructions.
+    ///
+    /// ```
+    /// use introspection::{Document, ErrorKind};
+    ///
+    /// let input = b"<node><!-- never -- up --></node>";
+    /// assert!(Document::parse(input).is_ok());
+    ///
+    /// let error = Document::parse_strict(input).unwrap_err();
+    /// assert_eq!(error.kind(), ErrorKind::ProfileBreach);
+    /// assert_eq!(error.position(), 17);
+    /// assert_eq!(error.message(), "profile breach");
+    ///
+    /// assert_eq!(Document::parse_strict(b"<node/>")?, Document::parse(b"<node/>")?);
+    /// # Ok::<(), introspection::Error>(())
+    /// ```
+    pub fn parse_strict(input: &'a [u8]) -> Result<Self, Error> {
+        Self::parse_with(true, input, openings(input))
     }
 
     /// Reads with this many rows and warnings at first, and with Room if those are too few.
-    fn parse_with(input: &'a [u8], first: usize) -> Result<Self, Error> {
+    fn parse_with(strict: bool, input: &'a [u8], first: usize) -> Result<Self, Error> {
         let room = room(input);
-        match Self::parse_within(input, first.min(room)) {
-            Err(error) if error.kind() == ErrorKind::NoRoom => Self::parse_within(input, room),
+        match Self::parse_within(strict, input, first.min(room)) {
+            Err(error) if error.kind() == ErrorKind::NoRoom => {
+                Self::parse_within(strict, input, room)
+            }
             answer => answer,
         }
     }
 
-    fn parse_within(input: &'a [u8], room: usize) -> Result<Self, Error> {
+    fn parse_within(strict: bool, input: &'a [u8], room: usize) -> Result<Self, Error> {
         let mut rows = vec![[0; 16]; room];
         let mut warnings = vec![[0; 4]; room];
         let mut text = vec![0; text_room(input)];
         let mut decoded = vec![0; decoded_room(input)];
-        let counts = ffi::read(input, &mut rows, &mut warnings, &mut text, &mut decoded)?;
+        let counts = ffi::read(strict, input, &mut rows, &mut warnings, &mut text, &mut decoded)?;
         shrink(&mut rows, counts.rows);
         shrink(&mut warnings, counts.warnings);
         shrink(&mut text, counts.text);

@@ -25,7 +25,7 @@ fn too_little_room_at_first_reads_the_same() {
     for input in [ANTENNA, HINGE] {
         let document = Document::parse(input).unwrap();
         for first in [0, 1, document.rows.len() - 1, usize::MAX] {
-            let other = Document::parse_with(input, first).unwrap();
+            let other = Document::parse_with(false, input, first).unwrap();
             assert_eq!(document.rows, other.rows);
             assert_eq!(document.warnings, other.warnings);
             assert_eq!(document.text, other.text);
@@ -37,7 +37,7 @@ fn too_little_room_at_first_reads_the_same() {
 fn a_refusal_is_the_same_with_too_little_room() {
     let input = include_bytes!("../../../examples/damaged.xml");
     let error = Document::parse(input).unwrap_err();
-    assert_eq!(Document::parse_with(input, 0).unwrap_err(), error);
+    assert_eq!(Document::parse_with(false, input, 0).unwrap_err(), error);
 }
 
 #[test]

@@ -160,7 +160,7 @@ fn is_tp_type(doc: &[u8], at: usize, name: Name) -> bool
 }
 
 // At the white space before a name.
-fn attribute_at(doc: &[u8], classes: &[u8; 256], from: usize) -> One
+pub fn attribute_at(doc: &[u8], classes: &[u8; 256], from: usize) -> One
     requires { ⌜ (from ≤ length (now doc)) × (length (now doc) ≤ 1048576) × Classes (now classes) ⌝ }
     ensures { λ r. ⌜ Finds attribute (now (doc .entry)) from r ⌝ }
 {

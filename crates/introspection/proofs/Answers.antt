@@ -24,8 +24,9 @@ use Rattle.document.specs.declared.Verdict.{Verdict}
 use Rattle.document.specs.declared.Verdict.the-variants as verdict
 use Rattle.files.specs.Files as files
 use Rattle.files.specs.declared.Reading.{Reading}
+use Rattle.strict.specs.Strict as strict
 use Rattle.items.specs.Writing.{writing, Writes}
-use Rattle.introspection.specs.Words.{bit, verdictWords, answerWords, columnsWords, Reads, textWords, outcomeWords, partWords, lookupWords, toldBy, messageBy, warningMessageBy, refusalWords}
+use Rattle.introspection.specs.Words.{bit, verdictWords, answerWords, columnsWords, Reads, ReadsStrictly, textWords, outcomeWords, partWords, lookupWords, toldBy, messageBy, warningMessageBy, refusalWords}
 
 pub refusal-words : {x : Refusal} {a b n d : ℕ} → n ≡ shownBy (x .number) → a ≡ bit (ltb 0 n) → b ≡ bit (ltb 1 n) → (x .number ∷ x .place ∷ 0 ∷ 0 ∷ 0 ∷ a ∷ x .first .at ∷ x .first .len ∷ b ∷ x .second .at ∷ x .second .len ∷ x .key ∷ d ∷ 0 ∷ 0 ∷ 0 ∷ []) ≡ refusalWords x d
 refusal-words n a b = rw (a, b, n) refl
@@ -37,14 +38,24 @@ module _ {v : Verdict} where
   pub verdict-accepted : {r t w d : ℕ} → v ≡ verdict.Accepted r t w → (0 ∷ 0 ∷ r ∷ t ∷ w ∷ 0 ∷ 0 ∷ 0 ∷ 0 ∷ 0 ∷ 0 ∷ 0 ∷ d ∷ 0 ∷ 0 ∷ 0 ∷ []) ≡ verdictWords v d
   verdict-accepted e = rw e refl
 
-pub reads : {raw rows warnings text decoded ws : List ℕ} {room : Room} {k : ℕ} {r : Reading} → files.Reads raw room k rows warnings text decoded r → ws ≡ verdictWords (r .verdict) (r .decoded) → Reads raw room k rows warnings text decoded ws
-reads s h = record {
-  words = h ∙ rw (s .verdict, s .length) refl;
-  rows-left = s .rows-left;
-  warnings-left = s .warnings-left;
-  text-left = s .text-left;
-  decoded-left = s .decoded-left;
-}
+module _ {raw rows warnings text decoded ws : List ℕ} {room : Room} {k : ℕ} {r : Reading} where
+  pub reads : files.Reads raw room k rows warnings text decoded r → ws ≡ verdictWords (r .verdict) (r .decoded) → Reads raw room k rows warnings text decoded ws
+  reads s h = record {
+    words = h ∙ rw (s .verdict, s .length) refl;
+    rows-left = s .rows-left;
+    warnings-left = s .warnings-left;
+    text-left = s .text-left;
+    decoded-left = s .decoded-left;
+  }
+
+  pub reads-strictly : strict.ReadsStrictly raw room k rows warnings text decoded r → ws ≡ verdictWords (r .verdict) (r .decoded) → ReadsStrictly raw room k rows warnings text decoded ws
+  reads-strictly s h = record {
+    words = h ∙ rw (s .verdict, s .length) refl;
+    rows-left = s .rows-left;
+    warnings-left = s .warnings-left;
+    text-left = s .text-left;
+    decoded-left = s .decoded-left;
+  }
 
 module _ {a : TextAnswer} where
   pub answer-refused : {n p : ℕ} → a ≡ answer.Refused n p → (n ∷ p ∷ 0 ∷ []) ≡ answerWords a
@@ -96,4 +107,4 @@ module _ (document ws : List ℕ) (room : ℕ) {out : List ℕ} {a : TextAnswer}
 
 pub ruleset words = (refusal-words, verdict-refused, verdict-accepted, answer-refused, answer-done, columns-refused, columns-done, needs)
 
-pub ruleset entries = (reads, text-words, outcome-words, write-words, write-left, lookup-words, message-words, message-left, warning-words, warning-left, needs)
+pub ruleset entries = (reads, reads-strictly, text-words, outcome-words, write-words, write-left, lookup-words, message-words, message-left, warning-words, warning-left, needs)

@@ -28,6 +28,7 @@ use Rattle.document.specs.declared.Verdict.{Verdict}
 use Rattle.document.specs.declared.Verdict.the-variants as verdict
 use Rattle.utf16.specs.Entry.{left}
 use Rattle.files.specs.Files.{readFile, decodedLength}
+use Rattle.strict.specs.Strict.{strictFile}
 
 abbrev pub bit : Bool → ℕ
 bit b = if b 1 0
@@ -61,13 +62,20 @@ columnsWords columns.Done = 0 ∷ 0 ∷ []
 abbrev pub readWords : State Shown → ℕ → List ℕ
 readWords s d = verdictWords (verdictOf s) d
 
--- what `introspection_read` answers for a file and the room lent, and what it leaves in the buffers
-pub record Reads (raw : List ℕ) (room : Room) (decodedRoom : ℕ) (rows warnings text decoded answer : List ℕ) : Type 0 where
-  pub words : answer ≡ readWords (readFile raw room decodedRoom) (decodedLength raw decodedRoom)
-  pub rows-left : rows ≡ rowsLeft room (readFile raw room decodedRoom)
-  pub warnings-left : warnings ≡ warningsLeft room (readFile raw room decodedRoom)
-  pub text-left : text ≡ textLeft room (readFile raw room decodedRoom)
+-- what is answered for a file whose reading comes to a state, and what is left in the buffers
+pub record Answers (s : State Shown) (raw : List ℕ) (room : Room) (decodedRoom : ℕ) (rows warnings text decoded answer : List ℕ) : Type 0 where
+  pub words : answer ≡ readWords s (decodedLength raw decodedRoom)
+  pub rows-left : rows ≡ rowsLeft room s
+  pub warnings-left : warnings ≡ warningsLeft room s
+  pub text-left : text ≡ textLeft room s
   pub decoded-left : decoded ≡ left raw decodedRoom
+
+-- `introspection_read`, and `introspection_read_strict`
+abbrev pub Reads : List ℕ → Room → ℕ → List ℕ → List ℕ → List ℕ → List ℕ → List ℕ → Type 0
+Reads raw room decodedRoom = Answers (readFile raw room decodedRoom) raw room decodedRoom
+
+abbrev pub ReadsStrictly : List ℕ → Room → ℕ → List ℕ → List ℕ → List ℕ → List ℕ → List ℕ → Type 0
+ReadsStrictly raw room decodedRoom = Answers (strictFile raw room decodedRoom) raw room decodedRoom
 
 -- of a text that was made
 abbrev pub textWords : Text → List ℕ

@@ -14,7 +14,7 @@ ghost use Rattle.answers.specs.Text.{leftOf};
 ghost use Rattle.references.specs.Entries.{escaping, unescaping};
 ghost use Rattle.document.specs.Whole.{roomOf};
 ghost use Rattle.items.specs.Writing.{writing};
-ghost use Rattle.introspection.specs.Words.{verdictWords, answerWords, columnsWords, partWords, bit, Reads, textWords, outcomeWords, lookupWords, messageBy, warningMessageBy, refusalWords};
+ghost use Rattle.introspection.specs.Words.{verdictWords, answerWords, columnsWords, partWords, bit, Reads, ReadsStrictly, textWords, outcomeWords, lookupWords, messageBy, warningMessageBy, refusalWords};
 
 // What a refusal's message shows goes with it, each excerpt as a triple; then how many bytes were decoded.
 fn refusal_words(x: Refusal, decoded: usize) -> [u64; 16]
@@ -115,6 +115,23 @@ pub extern "C" fn introspection_read(
     let r = reader::read(document, rows, warnings, text, decoded);
     let v = r.verdict;
     *answer = verdict_words(v, r.decoded);
+}
+
+// Reads a file of the strict profile, as `introspection_read` does.
+#[no_mangle]
+pub extern "C" fn introspection_read_strict(
+    document: &[u8],
+    rows: &mut [u32],
+    warnings: &mut [u32],
+    text: &mut [u8],
+    decoded: &mut [u8],
+    answer: &mut [u64; 16],
+)
+    ensures { λ _. ⌜ ReadsStrictly (now (document .entry)) (roomOf (now (rows .entry)) (now (warnings .entry)) (now (text .entry))) (length (now (decoded .entry))) (now (rows .exit)) (now (warnings .exit)) (now (text .exit)) (now (decoded .exit)) (now (answer .exit)) ⌝ }
+{
+    let reading = strict::read_strict(document, rows, warnings, text, decoded);
+    let verdict = reading.verdict;
+    *answer = verdict_words(verdict, reading.decoded);
 }
 
 // The message of a refusal, by the words of a reader's answer, or of whatever content.

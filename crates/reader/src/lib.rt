@@ -329,7 +329,7 @@ fn document_node(
 }
 
 // Leaves zeros in every buffer.
-fn refuse(rows: &mut [u32], warnings: &mut [u32], text: &mut [u8], refusal: Refusal) -> Verdict
+pub fn refuse(rows: &mut [u32], warnings: &mut [u32], text: &mut [u8], refusal: Refusal) -> Verdict
     ensures { λ r. ⌜ Refuses refusal (now (rows .entry)) (now (rows .exit)) (now (warnings .entry)) (now (warnings .exit)) (now (text .entry)) (now (text .exit)) r ⌝ }
 {
     tables::clear_words(rows, 0);

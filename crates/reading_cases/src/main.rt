@@ -49,13 +49,16 @@ fn case(out: &mut [u8], n: usize, s: &[u8], first: &mut [u8], second: &mut [u8])
     let space = slices::find(s, 0, b' ');
     let word = output::front(s, space);
     let rest = output::after(output::after(s, space), 1);
-    let operation = notation::place_of(b"escape unescape lookup read answer words file ", word);
+    let operation = notation::place_of(
+        b"escape unescape lookup read answer words file strict ",
+        word,
+    );
     match operation {
         0..=1 => roomy(out, n, operation == 0, rest, first, second),
         2 => lookup(out, n, rest, first, second),
         3..=4 => whole::read(out, n, operation == 4, rest, first, second),
         5 => whole::words(out, n, rest),
-        6 => whole::file(out, n, rest, first, second),
+        6..=7 => whole::file(out, n, operation == 7, rest, first, second),
         _ => {
             let k = notation::text::expand(first, rest);
             operations::of_text(out, n, word, output::front(first, k))

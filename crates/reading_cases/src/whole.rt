@@ -141,8 +141,9 @@ fn lent(
     put_verdict(out, n, asked, rows, warnings, text, verdict)
 }
 
-// Reads a file into tables and a fourth buffer that hold something else.
+// Reads a file, by the strict profile or not, into tables and a fourth buffer that hold something else.
 fn read_file(
+    strictly: bool,
     file: &[u8],
     rows: &mut [u32],
     warnings: &mut [u32],
@@ -151,6 +152,9 @@ fn read_file(
 ) -> Reading {
     fill(rows, warnings, text);
     notation::text::fill(decoded, 170);
+    if strictly {
+        return strict::read_strict(file, rows, warnings, text, decoded);
+    }
     reader::read(file, rows, warnings, text, decoded)
 }
 
@@ -169,13 +173,14 @@ fn put_decoded(out: &mut [u8], n: usize, decoded: &[u8], count: usize) -> usize 
 fn lent_file(
     out: &mut [u8],
     n: usize,
+    strictly: bool,
     file: &[u8],
     rows: &mut [u32],
     warnings: &mut [u32],
     text: &mut [u8],
     decoded: &mut [u8],
 ) -> usize {
-    let reading = read_file(file, rows, warnings, text, decoded);
+    let reading = read_file(strictly, file, rows, warnings, text, decoded);
     let verdict = reading.verdict;
     let m = put_verdict(out, n, true, rows, warnings, text, verdict);
     put_decoded(out, m, decoded, reading.decoded)
@@ -214,7 +219,14 @@ pub fn read(
 }
 
 // A case of a whole file: words for rows, words for warnings, bytes for text, bytes for what is decoded, the file.
-pub fn file(out: &mut [u8], n: usize, s: &[u8], first: &mut [u8], second: &mut [u8]) -> usize {
+pub fn file(
+    out: &mut [u8],
+    n: usize,
+    strictly: bool,
+    s: &[u8],
+    first: &mut [u8],
+    second: &mut [u8],
+) -> usize {
     let a = notation::number(s);
     let b = output::after(s, a.after);
     let c = notation::number(b);
@@ -233,6 +245,7 @@ pub fn file(out: &mut [u8], n: usize, s: &[u8], first: &mut [u8], second: &mut [
     lent_file(
         out,
         n,
+        strictly,
         output::front(first, k),
         row_words,
         warning_words,

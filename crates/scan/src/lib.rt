@@ -141,7 +141,7 @@ pub fn name_at(s: &[u8], classes: &[u8; 256], from: usize) -> Name
 }
 
 // Past the first place of the key, or a fault where the search began.
-fn until(s: &[u8], from: usize, key: &[u8], number: u32) -> Scan
+pub fn until(s: &[u8], from: usize, key: &[u8], number: u32) -> Scan
     requires { ⌜ (from ≤ length (now s)) × (0 < length (now key)) × (length (now key) < 256) ⌝ }
     ensures { λ r. ⌜ Scans (seek number (now (key .entry)) from) (now (s .entry)) from r ⌝ }
 {
@@ -235,7 +235,7 @@ fn declared_at(s: &[u8], at: usize) -> Scan
 }
 
 // What begins at a `<`.
-fn markup_at(s: &[u8], at: usize) -> Markup
+pub fn markup_at(s: &[u8], at: usize) -> Markup
     requires { ⌜ at < length (now s) ⌝ }
     ensures { λ r. ⌜ Marks (now (s .entry)) at r ⌝ }
 {

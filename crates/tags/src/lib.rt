@@ -120,7 +120,7 @@ fn kind_at(doc: &[u8], at: usize, name: Name) -> u32
 }
 
 // The closing tag whose `</` stands at a place: a name, white space, `>`.
-fn closing_tag(doc: &[u8], classes: &[u8; 256], lt: usize) -> Token
+pub fn closing_tag(doc: &[u8], classes: &[u8; 256], lt: usize) -> Token
     requires { ⌜ TagStart (now doc) lt × (lt + 2 ≤ length (now doc)) × Classes (now classes) ⌝ }
     ensures { λ r. ⌜ TagAt (now (doc .entry)) lt (closing (drop (lt + 2) (now (doc .entry))) lt) r ⌝ }
 {
@@ -146,7 +146,7 @@ fn closing_tag(doc: &[u8], classes: &[u8; 256], lt: usize) -> Token
 }
 
 // The end of a start tag, past the white space from a place on.
-fn tag_end(doc: &[u8], classes: &[u8; 256], from: usize) -> TagEnd
+pub fn tag_end(doc: &[u8], classes: &[u8; 256], from: usize) -> TagEnd
     requires { ⌜ (from ≤ length (now doc)) × Classes (now classes) ⌝ }
     ensures { λ r. ⌜ Ends (now (doc .entry)) from r ⌝ }
 {
