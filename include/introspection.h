@@ -119,7 +119,7 @@ enum introspection_number {
     INTROSPECTION_BAD_DIRECTION = 16,           /* [after the start tag] */
     INTROSPECTION_TOO_MANY_ATTRIBUTES = 17,     /* more than 256 in a tag [the 257th name] */
     INTROSPECTION_NO_ROOM = 18,                 /* a lent table is short [the input's length; of introspection_columns and
-                                                   introspection_rows the count] */
+                                                   introspection_rows the count; of introspection_order the definitions] */
     INTROSPECTION_UNSOUND_ROWS = 19,            /* [262,144 if more rows are claimed; else the rows lent if fewer than
                                                    claimed; else the first bad row] */
     INTROSPECTION_NOT_WRITABLE = 20,            /* no such row, or its kind is not 3, 5, 6 or 7 [the row asked for] */
@@ -128,6 +128,7 @@ enum introspection_number {
     INTROSPECTION_UNCLOSED_CDATA = 23,          /* [past its <![CDATA[] */
     INTROSPECTION_UNCLOSED_INSTRUCTION = 24,    /* [past its <?] */
     INTROSPECTION_UNCLOSED_DECLARATION = 25,    /* [past the quote that never closes; else the length] */
+    INTROSPECTION_CIRCULAR_TYPES = 28,          /* [the first row on a circle] */
     INTROSPECTION_TOO_MANY_ROWS = 30            /* [262,144] */
 };
 
@@ -271,6 +272,23 @@ void introspection_columns(const uint32_t *rows, size_t rows_length, uint64_t co
  */
 void introspection_rows(const uint32_t *columns, size_t columns_length, uint64_t count, uint32_t *rows,
                         size_t rows_length, uint64_t answer[2]);
+
+/*
+ * Gives out the number of every type definition's row once, a word each, in an order where each comes after those that it
+ * uses: of the definitions that are ready always the one with the smallest row. A struct or a mapping uses a type if the
+ * tp type of one of its members is that name, or that name followed by `[]`; of several definitions with one name the first
+ * row counts. document, text and rows are as for introspection_write. An order of one word for each row claimed is always
+ * enough.
+ *
+ * work is lent for working: the answer does not depend on its length or on what it held, and it is zeros afterwards. WORK_COST
+ *
+ * answer: number, place, definitions, members whose tp type no row defines. Refusals: 2, 19, 28 at the first row on a circle
+ * of uses, a definition that uses itself included, then 18 at the number of definitions if order has fewer words. So a
+ * circle is told with order_length 0 too.
+ */
+void introspection_order(const uint8_t *document, size_t document_length, const uint8_t *text, size_t text_length,
+                         const uint32_t *rows, size_t rows_length, uint64_t rows_claimed, uint32_t *work,
+                         size_t work_length, uint32_t *order, size_t order_length, uint64_t answer[4]);
 
 #ifdef __cplusplus
 }

@@ -62,13 +62,16 @@ pub enum ErrorKind {
     UnclosedInstruction = 24,
     /// A declaration that never closes. Place: past the quote that never closes, else the length.
     UnclosedDeclaration = 25,
+    /// Type definitions of which one uses itself, through others or not. Place: the row of the first
+    /// such definition, from 0, in [`table`](crate::Document::table).
+    CircularTypes = 28,
     /// More than 262,144 rows, to be put down as columns or to be made from them. Place: 262,144.
     TooManyRows = 30,
 }
 
 use ErrorKind::*;
 
-const KINDS: [ErrorKind; 26] = [
+const KINDS: [ErrorKind; 27] = [
     NotUtf8,
     TooLong,
     NoRoot,
@@ -94,6 +97,7 @@ const KINDS: [ErrorKind; 26] = [
     UnclosedCdata,
     UnclosedInstruction,
     UnclosedDeclaration,
+    CircularTypes,
     TooManyRows,
 ];
 
@@ -138,7 +142,8 @@ impl Error {
     }
 
     /// Where: bytes from the start of the document or of the value. It is at most its length. Of
-    /// [`columns`](crate::columns()) and [`rows`](crate::rows()) it is a number of rows.
+    /// [`columns`](crate::columns()) and [`rows`](crate::rows()) it is a number of rows, of
+    /// [`types_in_order`](crate::Document::types_in_order) a row.
     pub fn position(&self) -> usize {
         self.position
     }
@@ -181,7 +186,7 @@ impl fmt::Display for Error {
             message,
         } = self;
         match kind {
-            NoRoom | TooManyRows => write!(f, "{message} (at row {position})"),
+            NoRoom | CircularTypes | TooManyRows => write!(f, "{message} (at row {position})"),
             _ => write!(f, "{message} (at byte offset {position})"),
         }
     }

@@ -72,6 +72,7 @@ messages =
     ∷ ([], alone 23, 64, text (bytes "malformed markup"))
     ∷ ([], alone 24, 64, text (bytes "malformed markup"))
     ∷ ([], alone 25, 64, text (bytes "malformed markup"))
+    ∷ ([], alone 28, 64, text (bytes "circular types"))
     ∷ ([], alone 30, 64, text (bytes "too many rows"))
     ∷ []
 

@@ -55,6 +55,7 @@ refusals =
     ∷ plainly 23 (bytes "malformed markup")
     ∷ plainly 24 (bytes "malformed markup")
     ∷ plainly 25 (bytes "malformed markup")
+    ∷ plainly 28 (bytes "circular types")
     ∷ plainly 30 (bytes "too many rows")
     ∷ []
 

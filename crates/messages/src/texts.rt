@@ -32,6 +32,7 @@ pub fn plainly(number: u64, out: &mut [u8]) -> TextAnswer
         23 => shown::plain(b"malformed markup", out),
         24 => shown::plain(b"malformed markup", out),
         25 => shown::plain(b"malformed markup", out),
+        28 => shown::plain(b"circular types", out),
         30 => shown::plain(b"too many rows", out),
         _ => answers::refuse(out, 19, 0),
     }
