@@ -12,5 +12,4 @@ order-words-spec =
     (λ c. search words)
     (λ c. search words)
     (λ c. search words)
-    (λ c. search words)
     (λ c. search words))
