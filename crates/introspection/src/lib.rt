@@ -5,16 +5,18 @@ use document::Refusal;
 use document::Verdict;
 use messages::Told;
 use messages::Wide;
+use order::Order;
 use tables::Triple;
 ghost use mathlib.Core.Path.{_≡_};
-ghost use lib.ListN.{length};
+ghost use lib.ListN.{length, replicate};
 ghost use Rattle.tables.specs.declared.Triple.{Triple};
 ghost use Rattle.columns.specs.Entries.{toColumns, toRows, wordsLeft};
 ghost use Rattle.answers.specs.Text.{leftOf};
 ghost use Rattle.references.specs.Entries.{escaping, unescaping};
 ghost use Rattle.document.specs.Whole.{roomOf};
 ghost use Rattle.items.specs.Writing.{writing};
-ghost use Rattle.introspection.specs.Words.{verdictWords, answerWords, columnsWords, partWords, bit, Reads, ReadsStrictly, textWords, outcomeWords, lookupWords, messageBy, warningMessageBy, refusalWords};
+ghost use Rattle.introspection.specs.Words.{verdictWords, answerWords, columnsWords, partWords, bit, Reads, ReadsStrictly, textWords, outcomeWords, lookupWords, messageBy, warningMessageBy, refusalWords, orderWords, orderingWords};
+ghost use Rattle.order.specs.Ordering as order;
 
 // What a refusal's message shows goes with it, each excerpt as a triple; then how many bytes were decoded.
 fn refusal_words(x: Refusal, decoded: usize) -> [u64; 16]
@@ -82,6 +84,15 @@ fn columns_words(a: ColumnsAnswer) -> [u64; 2]
     match a {
         ColumnsAnswer::Refused(number, place) => [number as u64, place],
         ColumnsAnswer::Done => [0, 0],
+    }
+}
+
+fn order_words(a: Order) -> [u64; 4]
+    ensures { λ r. ⌜ r ≡ orderWords a ⌝ }
+{
+    match a {
+        Order::Refused(number, place) => [number as u64, place as u64, 0, 0],
+        Order::Ordered(definitions, undefined) => [0, 0, definitions as u64, undefined as u64],
     }
 }
 
@@ -264,4 +275,23 @@ pub extern "C" fn introspection_rows(
 {
     let a = columns::rows(columns, count, rows);
     *answer = columns_words(a);
+}
+
+// Gives out the type definitions in an order where each comes after those that it uses.
+#[no_mangle]
+pub extern "C" fn introspection_order<'a>(
+    document: &'a [u8],
+    text: &'a [u8],
+    rows: &[u32],
+    claimed: u64,
+    work: &mut [u32],
+    output: &mut [u32],
+    answer: &mut [u64; 4],
+)
+    ensures answer { λ _. ⌜ now (answer .exit) ≡ orderingWords (order.ordering (now (document .entry)) (now (text .entry)) (now (rows .entry)) claimed (length (now (output .entry)))) ⌝ }
+    ensures output { λ _. ⌜ now (output .exit) ≡ order.leftOf (length (now (output .entry))) (order.ordering (now (document .entry)) (now (text .entry)) (now (rows .entry)) claimed (length (now (output .entry)))) ⌝ }
+    ensures work { λ _. ⌜ now (work .exit) ≡ replicate (length (now (work .entry))) 0 ⌝ }
+{
+    let a = order::order_types(document, text, rows, claimed as usize, work, output);
+    *answer = order_words(a);
 }

@@ -74,6 +74,7 @@ messages =
     ∷ ([], alone 25, 64, text (bytes "malformed markup"))
     ∷ ([], alone 26, 64, text (bytes "odd number of bytes"))
     ∷ ([], alone 27, 64, text (bytes "lone surrogate"))
+    ∷ ([], alone 28, 64, text (bytes "circular types"))
     ∷ ([], alone 29, 64, text (bytes "profile breach"))
     ∷ ([], alone 30, 64, text (bytes "too many rows"))
     ∷ []

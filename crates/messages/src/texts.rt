@@ -34,6 +34,7 @@ pub fn plainly(number: u64, out: &mut [u8]) -> TextAnswer
         25 => shown::plain(b"malformed markup", out),
         26 => shown::plain(b"odd number of bytes", out),
         27 => shown::plain(b"lone surrogate", out),
+        28 => shown::plain(b"circular types", out),
         29 => shown::plain(b"profile breach", out),
         30 => shown::plain(b"too many rows", out),
         _ => answers::refuse(out, 19, 0),
