@@ -84,7 +84,6 @@ messages =
 abbrev pub hostile : List (List ℕ × Told × ℕ × Text)
 hostile =
     ([], alone 0, 64, wrong 19 0)
-    ∷ ([], alone 28, 64, wrong 19 0)
     ∷ ([], alone 31, 64, wrong 19 0)
     ∷ (tags, telling 12 0 (triple 1 1 1) none, 64, wrong 19 0)
     ∷ (tags, telling 12 5 (triple 1 1 1) none, 64, wrong 19 0)
