@@ -11,4 +11,5 @@ introspection-order-spec =
     (λ c. search entries)
     (λ c. search entries)
     (λ c. search entries)
+    (λ c. search entries)
     (λ c. search entries))
