@@ -19,6 +19,7 @@ use Rattle.document.specs.Tags.{Attr, Gathered, gathered, tooMany, gather, Show
 use Rattle.document.specs.Tags as tags
 use Rattle.document.specs.Tokens.{Tag, Token, start, close, fault, end, Next, more, last, tagged, tagEnd, withShown, withAttrs, opening, closeEnd, closing}
 use Rattle.document.specs.declared.ClosingTag.{ClosingTag}
+use Rattle.document.specs.declared.Refusal.{Refusal}
 use Rattle.document.specs.declared.StartTag.{StartTag}
 use Rattle.document.specs.declared.Token as token
 use Rattle.tags.specs.Outcome.{TagAt, Ends}
@@ -141,10 +142,11 @@ closing-shuts l at g q e = named (empty (span nameByte l)) (past white (past nam
     named false (b ∷ m) e = shut (eqb b 62) e
 
 module _ {doc : List ℕ} {lt : ℕ} {r : token.Token} (a : TagAt doc lt (closing (drop (lt + 2) doc) lt) r) {o : ℕ} where
-  pub close-fault : {n p : ℕ} → r ≡ token.Token.Fault n p → Closes doc lt o
-  close-fault {n} {p} e = record {
+  pub close-fault : {x : Refusal} → r ≡ token.Token.Fault x → Closes doc lt o
+  close-fault {x} e = record {
     is = λ t q k.
-        let y : last (fault n p) ≡ more t q = sym ((rw e at a) .is) ∙ k in
+        let d = (rw e at a) .is in
+        let y : last (fault (d .0) (d .1)) ≡ more t q = sym (d .2) ∙ k in
         let z : _≡_ {A = ℕ} 0 1 = cc in
         absurd (omega arith);
   }

@@ -13,6 +13,7 @@ use Rattle.document.specs.Refusals.{bare, faultIn}
 use Rattle.document.specs.Reading.{begun, accepted, step}
 use Rattle.document.specs.Outcome.{runs, whole, Tokenises}
 use Rattle.document.specs.declared.ClosingTag.{ClosingTag}
+use Rattle.document.specs.declared.Refusal.{Refusal}
 use Rattle.document.specs.declared.StartTag.{StartTag}
 use Rattle.document.specs.declared.Token as token
 use Rattle.document.proofs.Runs.{run-more, run-last, run-refused}
@@ -32,11 +33,12 @@ use Rattle.breaches.proofs.Walking.{turned}
 -- ---- the root's name
 
 module _ {doc : List ℕ} (a : Accepted doc) {r : token.Token} (k : Tokenises doc 0 r) where
-  pub root-fault : {n p : ℕ} → r ≡ token.Token.Fault n p → Nowhere ≡ least (rootName (metTags doc))
+  pub root-fault : {x : Refusal} → r ≡ token.Token.Fault x → Nowhere ≡ least (rootName (metTags doc))
   unfolding step
-  root-fault {n} {p} e =
-      let d : Tokenises doc 0 (token.Token.Fault n p) = rw e at k in
-      absurd (turned (sym (run-last whole doc 0 begun (fault n p) (d .is)) ∙ a .reads))
+  root-fault {x} e =
+      let d : Tokenises doc 0 (token.Token.Fault x) = rw e at k in
+      let f = d .is in
+      absurd (turned (sym (run-last whole doc 0 begun (fault (f .0) (f .1)) (f .2)) ∙ a .reads))
 
   pub root-end : {p : ℕ} → r ≡ token.Token.End p → Nowhere ≡ least (rootName (metTags doc))
   unfolding step

@@ -210,7 +210,7 @@ fn close_end(doc: &[u8], classes: &[u8; 256], lt: usize) -> usize
     ensures { λ r. ⌜ Closes (now (doc .entry)) lt r ⌝ }
 {
     match tags::closing_tag(doc, classes, lt) {
-        Token::Fault(number, place) => doc.len(),
+        Token::Fault(refusal) => doc.len(),
         Token::End(place) => doc.len(),
         Token::Close(c) => c.end,
         Token::Start(c) => doc.len(),
@@ -283,7 +283,7 @@ fn root_breach(doc: &[u8], classes: &[u8; 256]) -> Breach
             }
             Breach::At(at)
         }
-        Token::Fault(number, place) => Breach::Nowhere,
+        Token::Fault(refusal) => Breach::Nowhere,
         Token::End(place) => Breach::Nowhere,
         Token::Close(c) => Breach::Nowhere,
     }
