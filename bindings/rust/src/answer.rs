@@ -364,12 +364,7 @@ impl<'d> Warning<'d> {
 
 impl fmt::Display for Warning<'_> {
     fn fmt(&self, f: &mut fmt::Formatter<'_>) -> fmt::Result {
-        write!(
-            f,
-            "{} (at byte offset {})",
-            self.message(),
-            self.position
-        )
+        write!(f, "{} (at byte offset {})", self.message(), self.position)
     }
 }
 

@@ -170,7 +170,11 @@ pub(crate) fn read(
     let rows = rows.as_flattened_mut();
     let warnings = warnings.as_flattened_mut();
     let mut answer = [0; 16];
-    let read: Read = if strict { introspection_read_strict } else { introspection_read };
+    let read: Read = if strict {
+        introspection_read_strict
+    } else {
+        introspection_read
+    };
     // SAFETY: `read` is one of the two functions; the five slices are as the head of this file says;
     // `answer` has the 16 words that both write.
     unsafe {

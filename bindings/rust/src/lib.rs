@@ -169,7 +169,14 @@ impl<'a> Document<'a> {
         let mut warnings = vec![[0; 4]; room];
         let mut text = vec![0; text_room(input)];
         let mut decoded = vec![0; decoded_room(input)];
-        let counts = ffi::read(strict, input, &mut rows, &mut warnings, &mut text, &mut decoded)?;
+        let counts = ffi::read(
+            strict,
+            input,
+            &mut rows,
+            &mut warnings,
+            &mut text,
+            &mut decoded,
+        )?;
         shrink(&mut rows, counts.rows);
         shrink(&mut warnings, counts.warnings);
         shrink(&mut text, counts.text);

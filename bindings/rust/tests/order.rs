@@ -22,7 +22,9 @@ fn structure(name: &str, types: &[&str]) -> String {
 fn names(input: &str) -> Vec<String> {
     let document = Document::parse(input.as_bytes()).unwrap();
     let types = document.types_in_order().unwrap();
-    types.map(|definition| definition.name().to_owned()).collect()
+    types
+        .map(|definition| definition.name().to_owned())
+        .collect()
 }
 
 #[test]
