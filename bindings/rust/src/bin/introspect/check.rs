@@ -15,25 +15,13 @@ pub fn run(
     paint: Paint,
     output: &mut impl Write,
 ) -> io::Result<Status> {
-    let parse = if strict {
-        Document::parse_strict
-    } else {
-        Document::parse
-    };
     let mut worst = Status::Read;
     let mut sums = Sums::default();
     for input in inputs {
         // what goes to standard error comes after what went before it to standard output
         output.flush()?;
         let status = match input.read() {
-            Ok(bytes) => checked(
-                &bytes,
-                parse(&bytes),
-                input.name(),
-                paint,
-                &mut sums,
-                output,
-            )?,
+            Ok(bytes) => checked(&bytes, strict, input.name(), paint, &mut sums, output)?,
             Err(status) => {
                 sums.unreadable += 1;
                 status
@@ -47,12 +35,17 @@ pub fn run(
 
 fn checked(
     bytes: &[u8],
-    answer: Result<Document<'_>, introspection::Error>,
+    strict: bool,
     name: String,
     paint: Paint,
     sums: &mut Sums,
     output: &mut impl Write,
 ) -> io::Result<Status> {
+    let answer = if strict {
+        Document::parse_strict(bytes)
+    } else {
+        Document::parse(bytes)
+    };
     let document = match answer {
         Ok(document) => document,
         Err(error) => {
