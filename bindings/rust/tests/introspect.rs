@@ -347,7 +347,7 @@ fn help_and_version() {
 
 #[test]
 fn wrong_arguments_are_told() {
-    let cases: [(&[&str], &str); 6] = [
+    let cases: [(&[&str], &str); 8] = [
         (&[], "a command is missing"),
         (&["shew"], "there is no command `shew`"),
         (&["a\u{1b}b"], "there is no command `a\u{fffd}b`"),
