@@ -83,7 +83,7 @@ fn the_page_says_what_it_writes() {
             commands += 1;
         }
     }
-    assert_eq!(commands, 6);
+    assert_eq!(commands, 7);
 }
 
 #[test]
