@@ -17,7 +17,7 @@
  *
  * Threads. The library has no state: any threads may call at once, with buffers of their own for writing. Reading was
  * measured to use 30 kB of the stack, and 410 kB where 1,024 elements are open in what is skipped or in a docstring, so
- * 512 kB is enough.
+ * 512 kB is enough. introspection_order keeps 262,144 bytes there, and 524,288 while it seeks a circle: 1 MB is enough.
  *
  * Cost. Reading, escaping and unescaping take time in proportion to the bytes read and to the buffers lent, which are
  * cleared; each attribute of a tag is compared with those before it, at most 255. Looking up takes the same for every
@@ -120,7 +120,8 @@ enum introspection_number {
     INTROSPECTION_BAD_DIRECTION = 16,           /* [after the start tag] */
     INTROSPECTION_TOO_MANY_ATTRIBUTES = 17,     /* more than 256 in a tag [the 257th name] */
     INTROSPECTION_NO_ROOM = 18,                 /* a lent table is short [the document's length; where decoded is too short
-                                                   the file's; of introspection_columns and introspection_rows the count] */
+                                                   the file's; of introspection_columns and introspection_rows the count; of
+                                                   introspection_order the definitions] */
     INTROSPECTION_UNSOUND_ROWS = 19,            /* [262,144 if more rows are claimed; else the rows lent if fewer than
                                                    claimed; else the first bad row] */
     INTROSPECTION_NOT_WRITABLE = 20,            /* no such row, or its kind is not 3, 5, 6 or 7 [the row asked for] */
@@ -131,6 +132,7 @@ enum introspection_number {
     INTROSPECTION_UNCLOSED_DECLARATION = 25,    /* [past the quote that never closes; else the length] */
     INTROSPECTION_ODD_BYTES = 26,               /* of a file in UTF-16 [its length] */
     INTROSPECTION_LONE_SURROGATE = 27,          /* in a file in UTF-16 [the first byte of its unit, in the file] */
+    INTROSPECTION_CIRCULAR_TYPES = 28,          /* [the first row on a circle] */
     INTROSPECTION_PROFILE_BREACH = 29,          /* of introspection_read_strict [the least breach] */
     INTROSPECTION_TOO_MANY_ROWS = 30            /* [262,144] */
 };
@@ -301,6 +303,29 @@ void introspection_columns(const uint32_t *rows, size_t rows_length, uint64_t co
  */
 void introspection_rows(const uint32_t *columns, size_t columns_length, uint64_t count, uint32_t *rows,
                         size_t rows_length, uint64_t answer[2]);
+
+/*
+ * Gives out the number of every type definition's row once, a word each, in an order where each comes after those that it
+ * uses: of the definitions that are ready always the one with the smallest row. A struct or a mapping uses a type if the
+ * tp type of one of its members is that name, or that name followed by `[]`; of several definitions with one name the first
+ * row counts. document, text and rows are as for introspection_write. An order of one word for each row claimed is always
+ * enough.
+ *
+ * work is lent for working: the answer does not depend on its length or on what it held, and it is zeros afterwards. At
+ * present no use is made of it, and the cost is that of the plain form: the check of the rows; then for each definition given
+ * out a pass over the rows, and for each member looked at a comparison with the names of all definitions. Where each type is
+ * defined before it is used a definition is looked at once, and the time is in proportion to the members times the rows;
+ * else it may be looked at once for each definition that is given out before it. A circle costs up to a search of the same
+ * kind for each definition. 2,600 rows were measured to take 11 ms in the first case, and 1.9 s where each of 1,300 types is
+ * defined before the one that it uses.
+ *
+ * answer: number, place, definitions, members whose tp type no row defines. Refusals: 2, 19, 28 at the first row on a circle
+ * of uses, a definition that uses itself included, then 18 at the number of definitions if order has fewer words. So a
+ * circle is told with order_length 0 too.
+ */
+void introspection_order(const uint8_t *document, size_t document_length, const uint8_t *text, size_t text_length,
+                         const uint32_t *rows, size_t rows_length, uint64_t rows_claimed, uint32_t *work,
+                         size_t work_length, uint32_t *order, size_t order_length, uint64_t answer[4]);
 
 #ifdef __cplusplus
 }

@@ -856,6 +856,63 @@ static void columns_at_the_limit(void)
     free(rows);
 }
 
+/* ---- the order of type definitions */
+
+/* The order of what was read, with so many words for work and so much room; all words lent held others before. */
+struct ordering {
+    uint32_t *work, *order;
+    uint64_t answer[4];
+};
+
+static struct ordering order_with(const struct reading *r, uint64_t claimed, size_t work, size_t room)
+{
+    struct ordering o;
+    o.work = lend(work * 4);
+    o.order = lend(room * 4);
+    memset(o.answer, 0xa5, sizeof o.answer);
+    introspection_order(r->document, r->document_length, r->text, r->text_length, r->rows, r->rows_length, claimed, o.work, work,
+                        o.order, room, o.answer);
+    return o;
+}
+
+/* A refusal leaves zeros; work holds zeros in any case. */
+static void not_ordered(const struct reading *r, uint64_t claimed, size_t work, size_t room, uint64_t number, uint64_t place, int line)
+{
+    struct ordering o = order_with(r, claimed, work, room);
+    check(o.answer[0] == number && o.answer[1] == place && o.answer[2] == 0 && o.answer[3] == 0, "number and place", line);
+    check(all_zero(o.order, 0, room * 4) && all_zero(o.work, 0, work * 4), "zeros after a refusal", line);
+    free(o.work);
+    free(o.order);
+}
+
+#define SIMPLE(name) "<tp:simple-type name=\"" name "\" type=\"u\"/>"
+#define STRUCT(name, tp) "<tp:struct name=\"" name "\"><tp:member name=\"m\" type=\"u\" tp:type=\"" tp "\"/></tp:struct>"
+
+static void ordered(void)
+{
+    /* rows 1, 3 and 4 are the definitions; a member bears a name of no row */
+    struct reading r = read_all("<node>" STRUCT("A", "B[]") SIMPLE("B") STRUCT("C", "X") "</node>");
+    size_t work;
+    CHECK(answers(&r, INTROSPECTION_ACCEPTED, 0) && r.answer[INTROSPECTION_ANSWER_ROWS] == 6);
+    for (work = 0; work <= 18; work += 9) {
+        struct ordering o = order_with(&r, 6, work, 5);
+        CHECK(o.answer[0] == INTROSPECTION_ACCEPTED && o.answer[1] == 0 && o.answer[2] == 3 && o.answer[3] == 1);
+        CHECK(o.order[0] == 3 && o.order[1] == 1 && o.order[2] == 4 && o.order[3] == 0 && o.order[4] == 0);
+        CHECK(all_zero(o.work, 0, work * 4));
+        free(o.work);
+        free(o.order);
+        not_ordered(&r, 6, work, 2, INTROSPECTION_NO_ROOM, 3, __LINE__);
+        not_ordered(&r, 7, work, 5, INTROSPECTION_UNSOUND_ROWS, 6, __LINE__);
+        not_ordered(&r, UINT64_MAX, work, 5, INTROSPECTION_UNSOUND_ROWS, INTROSPECTION_MAX_ROWS, __LINE__);
+    }
+    end_reading(&r);
+    /* the circle is B and C: A only leads to it */
+    r = read_all("<node>" STRUCT("A", "B") STRUCT("B", "C") STRUCT("C", "B") "</node>");
+    for (work = 0; work <= 21; work += 7)
+        not_ordered(&r, 7, work, 0, INTROSPECTION_CIRCULAR_TYPES, 3, __LINE__);
+    end_reading(&r);
+}
+
 static void messages(void)
 {
     struct reading r = read_all("<a><node><node></node></x>");
@@ -907,6 +964,7 @@ int main(void)
     columns_refused(introspection_columns);
     columns_refused(introspection_rows);
     columns_at_the_limit();
+    ordered();
     printf("%u passed, %u failed\n", passed, failed);
     return failed != 0;
 }

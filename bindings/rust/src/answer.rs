@@ -67,6 +67,9 @@ pub enum ErrorKind {
     /// A surrogate without its partner in an input in UTF-16. Place: the first byte of its unit, in
     /// the input.
     LoneSurrogate = 27,
+    /// Type definitions of which one uses itself, through others or not. Place: the row of the first
+    /// such definition, from 0, in [`table`](crate::Document::table).
+    CircularTypes = 28,
     /// A breach of the strict profile ([`Document::parse_strict`]). Place: the least.
     ProfileBreach = 29,
     /// More than 262,144 rows, to be put down as columns or to be made from them. Place: 262,144.
@@ -75,7 +78,7 @@ pub enum ErrorKind {
 
 use ErrorKind::*;
 
-const KINDS: [ErrorKind; 29] = [
+const KINDS: [ErrorKind; 30] = [
     NotUtf8,
     TooLong,
     NoRoot,
@@ -103,6 +106,7 @@ const KINDS: [ErrorKind; 29] = [
     UnclosedDeclaration,
     OddBytes,
     LoneSurrogate,
+    CircularTypes,
     ProfileBreach,
     TooManyRows,
 ];
@@ -150,7 +154,8 @@ impl Error {
     /// Where: bytes from the start of the document or of the value. It is at most its length. The
     /// document of an input in UTF-16 is what it was decoded to; only
     /// [`OddBytes`](ErrorKind::OddBytes) and [`LoneSurrogate`](ErrorKind::LoneSurrogate) are places in
-    /// the input. Of [`columns`](crate::columns()) and [`rows`](crate::rows()) it is a number of rows.
+    /// the input. Of [`columns`](crate::columns()) and [`rows`](crate::rows()) it is a number of rows,
+    /// of [`types_in_order`](crate::Document::types_in_order) a row.
     pub fn position(&self) -> usize {
         self.position
     }
@@ -222,7 +227,7 @@ impl fmt::Display for Error {
             message,
         } = self;
         match kind {
-            NoRoom | TooManyRows => write!(f, "{message} (at row {position})"),
+            NoRoom | CircularTypes | TooManyRows => write!(f, "{message} (at row {position})"),
             _ => write!(f, "{message} (at byte offset {position})"),
         }
     }
@@ -359,12 +364,7 @@ impl<'d> Warning<'d> {
 
 impl fmt::Display for Warning<'_> {
     fn fmt(&self, f: &mut fmt::Formatter<'_>) -> fmt::Result {
-        write!(
-            f,
-            "{} (at byte offset {})",
-            self.message(),
-            self.position
-        )
+        write!(f, "{} (at byte offset {})", self.message(), self.position)
     }
 }
 

@@ -105,6 +105,21 @@ extern "C" {
         answer: *mut u64,
     );
 
+    fn introspection_order(
+        document: *const u8,
+        document_len: usize,
+        text: *const u8,
+        text_len: usize,
+        rows: *const u32,
+        rows_len: usize,
+        claimed: u64,
+        work: *mut u32,
+        work_len: usize,
+        order: *mut u32,
+        order_len: usize,
+        answer: *mut u64,
+    );
+
     #[cfg(test)]
     fn introspection_lookup(
         document: *const u8,
@@ -155,7 +170,11 @@ pub(crate) fn read(
     let rows = rows.as_flattened_mut();
     let warnings = warnings.as_flattened_mut();
     let mut answer = [0; 16];
-    let read: Read = if strict { introspection_read_strict } else { introspection_read };
+    let read: Read = if strict {
+        introspection_read_strict
+    } else {
+        introspection_read
+    };
     // SAFETY: `read` is one of the two functions; the five slices are as the head of this file says;
     // `answer` has the 16 words that both write.
     unsafe {
@@ -333,6 +352,40 @@ fn laid(lay: Lay, source: &[u32], count: usize, output: &mut [u32]) -> Result<()
     }
     let [number, place] = answer;
     Error::unless_done(number, place)
+}
+
+/// Gives out the type definitions in order, and gives how many there are and how many members name
+/// none. All rows lent are claimed.
+pub(crate) fn order(
+    document: &[u8],
+    text: &[u8],
+    rows: &[[u32; 16]],
+    work: &mut [u32],
+    order: &mut [u32],
+) -> Result<(usize, usize), Error> {
+    let words = rows.as_flattened();
+    let mut answer = [0; 4];
+    // SAFETY: the five slices are as the head of this file says, three of them only read; the number
+    // may be any; `answer` has the 4 words that this function writes.
+    unsafe {
+        introspection_order(
+            document.as_ptr(),
+            document.len(),
+            text.as_ptr(),
+            text.len(),
+            words.as_ptr(),
+            words.len(),
+            rows.len() as u64,
+            work.as_mut_ptr(),
+            work.len(),
+            order.as_mut_ptr(),
+            order.len(),
+            answer.as_mut_ptr(),
+        );
+    }
+    let [number, place, definitions, undefined] = answer;
+    Error::unless_done(number, place)?;
+    Ok((size(definitions), size(undefined)))
 }
 
 /// The part that a triple leads to: whether it lies inside its buffer, source, start and length.

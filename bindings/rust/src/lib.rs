@@ -84,6 +84,7 @@ pub use reader::ReadError;
 pub use text::{escape, unescape};
 
 use row::{kind, Row};
+use telepathy::TypeDef;
 
 /// The most bytes that a document or a value may have: 1,048,576.
 pub const LIMIT: usize = 1 << 20;
@@ -168,7 +169,14 @@ impl<'a> Document<'a> {
         let mut warnings = vec![[0; 4]; room];
         let mut text = vec![0; text_room(input)];
         let mut decoded = vec![0; decoded_room(input)];
-        let counts = ffi::read(strict, input, &mut rows, &mut warnings, &mut text, &mut decoded)?;
+        let counts = ffi::read(
+            strict,
+            input,
+            &mut rows,
+            &mut warnings,
+            &mut text,
+            &mut decoded,
+        )?;
         shrink(&mut rows, counts.rows);
         shrink(&mut warnings, counts.warnings);
         shrink(&mut text, counts.text);
@@ -211,6 +219,42 @@ impl<'a> Document<'a> {
     /// What was left out, in the order in which that was found.
     pub fn warnings(&self) -> impl ExactSizeIterator<Item = Warning<'_>> + Clone {
         self.warnings.iter().map(|&words| Warning::new(self, words))
+    }
+
+    /// The type definitions of all nodes and interfaces, each after those that it uses.
+    ///
+    /// A struct or a mapping uses a type if the `tp:type` of one of its members is that name, or that
+    /// name followed by `[]`. Of several definitions with one name the first counts; names that none
+    /// has are left aside. Of the definitions that are ready, the first in the document comes first.
+    ///
+    /// Refused, if a definition uses itself, through others or not, with
+    /// [`CircularTypes`](ErrorKind::CircularTypes) at the row of the first that does.
+    ///
+    /// ```
+    /// use introspection::Document;
+    ///
+    /// let document = Document::parse(
+    ///     br#"<node>
+    ///       <tp:struct name="Pair"><tp:member name="a" type="u" tp:type="Id"/></tp:struct>
+    ///       <tp:simple-type name="Id" type="u"/>
+    ///     </node>"#,
+    /// )?;
+    /// let names: Vec<_> = document.types_in_order()?.map(|t| t.name()).collect();
+    /// assert_eq!(names, ["Id", "Pair"]);
+    /// # Ok::<(), introspection::Error>(())
+    /// ```
+    pub fn types_in_order(
+        &self,
+    ) -> Result<impl ExactSizeIterator<Item = TypeDef<'_>> + Clone, Error> {
+        let mut work = vec![0; 3 * self.rows.len()];
+        let mut order = vec![0; self.rows.len()];
+        let (input, text) = (self.input.as_bytes(), self.text.as_bytes());
+        let (definitions, _) = ffi::order(input, text, &self.rows, &mut work, &mut order)?;
+        shrink(&mut order, definitions);
+        let definition = |index| TypeDef::of(self.row(index as usize));
+        Ok(order
+            .into_iter()
+            .map(move |index| definition(index).expect("a row of the order is a definition")))
     }
 
     /// The rows as words, 16 for each (docs/FORMAT.md, Tables).

@@ -43,7 +43,7 @@ pub enum TypeDef<'d> {
 }
 
 impl<'d> TypeDef<'d> {
-    fn of(row: Row<'d>) -> Option<Self> {
+    pub(crate) fn of(row: Row<'d>) -> Option<Self> {
         match row.kind() {
             kind::SIMPLE_TYPE => Some(TypeDef::SimpleType(SimpleType(row))),
             kind::ENUM => Some(TypeDef::Enum(Enum(row))),

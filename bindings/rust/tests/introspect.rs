@@ -83,7 +83,7 @@ fn the_page_says_what_it_writes() {
             commands += 1;
         }
     }
-    assert_eq!(commands, 6);
+    assert_eq!(commands, 7);
 }
 
 #[test]
@@ -329,7 +329,7 @@ fn a_closed_pipe_is_told() {
 #[test]
 fn help_and_version() {
     let (help, stderr, status) = run(&["--help"]);
-    assert!(help.contains("introspect check [FILE..]"));
+    assert!(help.contains("introspect check [--strict] [FILE..]"));
     assert!(help.lines().all(|line| line.len() <= 80));
     assert_eq!((stderr.as_str(), status), ("", 0));
     for arguments in [
@@ -347,12 +347,14 @@ fn help_and_version() {
 
 #[test]
 fn wrong_arguments_are_told() {
-    let cases: [(&[&str], &str); 6] = [
+    let cases: [(&[&str], &str); 8] = [
         (&[], "a command is missing"),
         (&["shew"], "there is no command `shew`"),
         (&["a\u{1b}b"], "there is no command `a\u{fffd}b`"),
         (&["show", "--place"], "there is no option `--place`"),
         (&["check", "--places"], "there is no option `--places`"),
+        (&["show", "--strict"], "there is no option `--strict`"),
+        (&["list", "--strict"], "there is no option `--strict`"),
         (&["list", "a", "b"], "list takes one file"),
     ];
     for (arguments, wrong) in cases {
@@ -445,5 +447,31 @@ fn places_in_a_file_in_utf16() {
         let wanted = "<stdin>:2:3: error: odd number of bytes\n\u{e9}\u{1f680}\n  ^\n";
         assert!(stdout.starts_with(wanted), "{stdout}");
         assert_eq!(status, 1);
+    }
+}
+
+#[test]
+fn a_breach_is_told_only_if_asked_for() {
+    let tab = "<node>\n<x\u{c}a='1'/></node>";
+    let both = [
+        (&["check"][..], "1 file read, 0 refused, 1 warning\n", 0),
+        (
+            &["check", "--strict"],
+            "0 files read, 1 refused, 0 warnings\n",
+            1,
+        ),
+    ];
+    for (arguments, sums, wanted) in both {
+        let (stdout, stderr, status) = fed(arguments, tab.as_bytes());
+        assert!(stdout.ends_with(sums), "{stdout}");
+        assert_eq!(
+            stdout.starts_with("<stdin>:2:3: error: profile breach\n"),
+            wanted == 1
+        );
+        assert_eq!((stderr.as_str(), status), ("", wanted));
+    }
+    // what the ordinary entry refuses is refused alike, and what has no breach is read alike
+    for name in ["examples/damaged.xml", "examples/hinge.xml"] {
+        assert_eq!(run(&["check", "--strict", name]), run(&["check", name]));
     }
 }

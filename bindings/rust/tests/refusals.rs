@@ -142,15 +142,30 @@ fn messages_are_those_of_zbus_xml() {
     let cases = [
         ("".into(), "missing root element"),
         ("<node>".into(), "missing `</node>`"),
-        ("<a><node><node></node></x>".into(), "unexpected `</x>` while parsing `<node>`"),
+        (
+            "<a><node><node></node></x>".into(),
+            "unexpected `</x>` while parsing `<node>`",
+        ),
         ("<a x='1' x='2'/>".into(), "duplicate attribute `x`"),
         ("<a x='&q'/>".into(), "unterminated entity reference"),
         ("<a x='&a &lt;'/>".into(), "unknown entity `&a &lt;`"),
         ("<a x='&#0;'/>".into(), "invalid character reference `&#0;`"),
-        (interface("<method/>"), "missing attribute `name` on `<method>`"),
-        (interface("<property name='P'/>"), "missing attribute `type` on `<property>`"),
-        (interface("<property name='P' type='s'/>"), "missing attribute `access` on `<property>`"),
-        (interface("<annotation name='n'/>"), "missing attribute `value` on `<annotation>`"),
+        (
+            interface("<method/>"),
+            "missing attribute `name` on `<method>`",
+        ),
+        (
+            interface("<property name='P'/>"),
+            "missing attribute `type` on `<property>`",
+        ),
+        (
+            interface("<property name='P' type='s'/>"),
+            "missing attribute `access` on `<property>`",
+        ),
+        (
+            interface("<annotation name='n'/>"),
+            "missing attribute `value` on `<annotation>`",
+        ),
         (
             interface("<property name='P' type='s' access='a&#96;\r\n&lt;'/>"),
             "invalid property access `a` <`",
@@ -159,7 +174,10 @@ fn messages_are_those_of_zbus_xml() {
             interface("<method name='M'><arg type='s' direction=''/></method>"),
             "invalid argument direction ``",
         ),
-        ("<node>".repeat(1025), "maximum element nesting depth exceeded"),
+        (
+            "<node>".repeat(1025),
+            "maximum element nesting depth exceeded",
+        ),
     ];
     for (input, message) in cases {
         let error = Document::parse(input.as_bytes()).unwrap_err();

@@ -18,7 +18,8 @@ fn in_utf16(text: &str) -> [Vec<u8>; 2] {
 
 #[test]
 fn the_same_as_in_utf8() {
-    let own = "<node name='&lt;\u{e9}\u{4e8c}\u{10302}'><x/><node name='\u{e9}'/></node>".as_bytes();
+    let own =
+        "<node name='&lt;\u{e9}\u{4e8c}\u{10302}'><x/><node name='\u{e9}'/></node>".as_bytes();
     for input in [ANTENNA, HINGE, own] {
         let text = std::str::from_utf8(input).unwrap();
         let document = Document::parse(input).unwrap();
@@ -38,7 +39,14 @@ fn the_same_as_in_utf8() {
 #[test]
 fn refused_as_in_utf8() {
     let damaged = std::str::from_utf8(DAMAGED).unwrap();
-    for text in [damaged, "", " ", "<a></\u{e9}>", "<a \u{4e8c}='' \u{4e8c}=''/>", "<node>"] {
+    for text in [
+        damaged,
+        "",
+        " ",
+        "<a></\u{e9}>",
+        "<a \u{4e8c}='' \u{4e8c}=''/>",
+        "<node>",
+    ] {
         let error = Document::try_from(text).unwrap_err();
         for wide in in_utf16(text) {
             assert_eq!(Document::parse(&wide).unwrap_err(), error);
@@ -52,9 +60,24 @@ fn refused_in_decoding() {
         (b"\xfe", ErrorKind::NotUtf8, 0, "not UTF-8"),
         (b"\xff", ErrorKind::NotUtf8, 0, "not UTF-8"),
         (b"\xfe\xff\0", ErrorKind::OddBytes, 3, "odd number of bytes"),
-        (b"\xfe\xff\xd8\0<", ErrorKind::OddBytes, 5, "odd number of bytes"),
-        (b"\xff\xfe\0\xdc", ErrorKind::LoneSurrogate, 2, "lone surrogate"),
-        (b"\xfe\xff\0<\xd8\0", ErrorKind::LoneSurrogate, 4, "lone surrogate"),
+        (
+            b"\xfe\xff\xd8\0<",
+            ErrorKind::OddBytes,
+            5,
+            "odd number of bytes",
+        ),
+        (
+            b"\xff\xfe\0\xdc",
+            ErrorKind::LoneSurrogate,
+            2,
+            "lone surrogate",
+        ),
+        (
+            b"\xfe\xff\0<\xd8\0",
+            ErrorKind::LoneSurrogate,
+            4,
+            "lone surrogate",
+        ),
         (
             b"\xfe\xff\xd8\0\xd8\0\xdc\0",
             ErrorKind::LoneSurrogate,
@@ -62,7 +85,12 @@ fn refused_in_decoding() {
             "lone surrogate",
         ),
         (b"\xfe\xff", ErrorKind::NoRoot, 0, "missing root element"),
-        (b"\xff\xfe\0\0", ErrorKind::NoRoot, 1, "missing root element"),
+        (
+            b"\xff\xfe\0\0",
+            ErrorKind::NoRoot,
+            1,
+            "missing root element",
+        ),
     ];
     for (input, kind, position, message) in cases {
         let error = Document::parse(input).unwrap_err();
@@ -88,11 +116,17 @@ fn at_the_limit() {
     for wide in in_utf16(&spaced(most + 1, "")) {
         assert!(wide.len() < LIMIT);
         let error = Document::parse(&wide).unwrap_err();
-        assert_eq!((error.kind(), error.position()), (ErrorKind::TooLong, LIMIT));
+        assert_eq!(
+            (error.kind(), error.position()),
+            (ErrorKind::TooLong, LIMIT)
+        );
     }
     for wide in in_utf16(&" ".repeat(LIMIT / 2)) {
         let error = Document::parse(&wide).unwrap_err();
-        assert_eq!((error.kind(), error.position()), (ErrorKind::TooLong, LIMIT));
+        assert_eq!(
+            (error.kind(), error.position()),
+            (ErrorKind::TooLong, LIMIT)
+        );
     }
 }
 

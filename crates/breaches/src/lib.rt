@@ -97,7 +97,8 @@ fn value_breach(doc: &[u8], from: usize, to: usize) -> Breach
 // In the comment whose `<` stands at a place and which ends at another.
 fn comment_breach(doc: &[u8], at: usize, end: usize) -> Breach
     requires { ⌜ («at» + 7 ≤ «end») × («end» ≤ length (now doc)) × (length (now doc) ≤ 1048576) ⌝ }
-    ensures { λ r. ⌜ r ≡ least (placesOf hyphens (take («end» - 3 - («at» + 4)) (drop («at» + 4) (now (doc .entry)))) («at» + 4)) ⌝ }
+    ensures { λ r. ⌜ r ≡ least
+        (placesOf hyphens (take («end» - 3 - («at» + 4)) (drop («at» + 4) (now (doc .entry)))) («at» + 4)) ⌝ }
 {
     let from = at + 4;
     let to = end - 3;

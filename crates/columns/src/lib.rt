@@ -38,7 +38,8 @@ fn word_above(rows: &[u32], k: usize, r: usize) -> u32
 // Puts column k of a block: each word less the one above it.
 fn put_column(rows: &[u32], count: usize, k: usize, from: usize, to: usize, out: &mut [u32])
     requires { ⌜ k < 16 ⌝ ∗ ⌜ Block from to count ⌝ ∗ ⌜ Roomy count (now rows) (now out) ⌝ }
-    ensures { λ r. ⌜ Puts (inColumns count) (difference (now (rows .entry))) k (k + 1) from to (now (out .entry)) (now (out .exit)) ⌝ }
+    ensures { λ r. ⌜ Puts (inColumns count) (difference (now (rows .entry))) k (k + 1) from to (now (out .entry))
+        (now (out .exit)) ⌝ }
 {
     let start = k * count;
     let mut above = word_above(rows, k, from);
@@ -54,8 +55,10 @@ fn put_column(rows: &[u32], count: usize, k: usize, from: usize, to: usize, out:
 
 // Puts word k of each row of a block: the word above it plus the column's word.
 fn put_words(columns: &[u32], count: usize, k: usize, from: usize, to: usize, out: &mut [u32])
-    requires { ⌜ k < 16 ⌝ ∗ ⌜ Block from to count ⌝ ∗ ⌜ Roomy count (now columns) (now out) ⌝ ∗ ⌜ wordAbove (now out) k from ≡ restoredAbove count (now columns) k from ⌝ }
-    ensures { λ r. ⌜ Puts inRows (restored count (now (columns .entry))) k (k + 1) from to (now (out .entry)) (now (out .exit)) ⌝ }
+    requires { ⌜ k < 16 ⌝ ∗ ⌜ Block from to count ⌝ ∗ ⌜ Roomy count (now columns) (now out) ⌝
+        ∗ ⌜ wordAbove (now out) k from ≡ restoredAbove count (now columns) k from ⌝ }
+    ensures { λ r. ⌜ Puts inRows (restored count (now (columns .entry))) k (k + 1) from to (now (out .entry))
+        (now (out .exit)) ⌝ }
 {
     let start = k * count;
     let mut above = word_above(out, k, from);
@@ -155,7 +158,8 @@ fn finish(out: &mut [u32], n: usize) -> ColumnsAnswer
 // with 18.
 pub fn columns(rows: &[u32], count: u64, out: &mut [u32]) -> ColumnsAnswer
     ensures answer { λ r. ⌜ r ≡ answerOf (toColumns count (now (rows .entry)) (length (now (out .entry)))) ⌝ }
-    ensures left { λ r. ⌜ now (out .exit) ≡ wordsLeft (length (now (out .entry))) (toColumns count (now (rows .entry)) (length (now (out .entry)))) ⌝ }
+    ensures left { λ r. ⌜ now (out .exit) ≡ wordsLeft (length (now (out .entry)))
+        (toColumns count (now (rows .entry)) (length (now (out .entry)))) ⌝ }
 {
     match check(rows.len(), out.len(), count) {
         ColumnsAnswer::Refused(number, place) => refuse(out, number, place),
@@ -170,7 +174,8 @@ pub fn columns(rows: &[u32], count: u64, out: &mut [u32]) -> ColumnsAnswer
 // Puts columns down as rows again. Refused as for `columns`.
 pub fn rows(columns: &[u32], count: u64, out: &mut [u32]) -> ColumnsAnswer
     ensures answer { λ r. ⌜ r ≡ answerOf (toRows count (now (columns .entry)) (length (now (out .entry)))) ⌝ }
-    ensures left { λ r. ⌜ now (out .exit) ≡ wordsLeft (length (now (out .entry))) (toRows count (now (columns .entry)) (length (now (out .entry)))) ⌝ }
+    ensures left { λ r. ⌜ now (out .exit) ≡ wordsLeft (length (now (out .entry)))
+        (toRows count (now (columns .entry)) (length (now (out .entry)))) ⌝ }
 {
     match check(columns.len(), out.len(), count) {
         ColumnsAnswer::Refused(number, place) => refuse(out, number, place),

@@ -49,7 +49,8 @@ pub fn node_row(
     f: Fill,
 ) -> Answer
     requires { ⌜ Ready (now doc) c f ⌝ ∗ ⌜ parent ≤ 1048576 ⌝ }
-    ensures { λ r. ⌜ Opening (now (doc .entry)) kinds.node c parent f (now (rows .entry)) (now (rows .exit)) (now (text .entry)) (now (text .exit)) r ⌝ }
+    ensures { λ r. ⌜ Opening (now (doc .entry)) kinds.node c parent f (now (rows .entry)) (now (rows .exit))
+        (now (text .entry)) (now (text .exit)) r ⌝ }
 {
     let head = Head {
         kind: kinds::NODE,
@@ -70,7 +71,8 @@ pub fn interface_row(
     f: Fill,
 ) -> Answer
     requires { ⌜ Ready (now doc) c f ⌝ ∗ ⌜ parent ≤ 1048576 ⌝ }
-    ensures { λ r. ⌜ Opening (now (doc .entry)) kinds.interface c parent f (now (rows .entry)) (now (rows .exit)) (now (text .entry)) (now (text .exit)) r ⌝ }
+    ensures { λ r. ⌜ Opening (now (doc .entry)) kinds.interface c parent f (now (rows .entry)) (now (rows .exit))
+        (now (text .entry)) (now (text .exit)) r ⌝ }
 {
     let name = c.values.name;
     if name.kind == 0 {
@@ -99,7 +101,8 @@ pub fn callable_row(
     f: Fill,
 ) -> Answer
     requires { ⌜ Ready (now doc) c f ⌝ ∗ ⌜ parent ≤ 1048576 ⌝ ∗ ⌜ NamedKind memberName kind ⌝ }
-    ensures { λ r. ⌜ Opening (now (doc .entry)) kind c parent f (now (rows .entry)) (now (rows .exit)) (now (text .entry)) (now (text .exit)) r ⌝ }
+    ensures { λ r. ⌜ Opening (now (doc .entry)) kind c parent f (now (rows .entry)) (now (rows .exit))
+        (now (text .entry)) (now (text .exit)) r ⌝ }
 {
     let name = c.values.name;
     if name.kind == 0 {
@@ -127,7 +130,8 @@ pub fn annotation_row(
     f: Fill,
 ) -> Answer
     requires { ⌜ Ready (now doc) c f ⌝ ∗ ⌜ parent ≤ 1048576 ⌝ }
-    ensures { λ r. ⌜ Opening (now (doc .entry)) kinds.annotation c parent f (now (rows .entry)) (now (rows .exit)) (now (text .entry)) (now (text .exit)) r ⌝ }
+    ensures { λ r. ⌜ Opening (now (doc .entry)) kinds.annotation c parent f (now (rows .entry)) (now (rows .exit))
+        (now (text .entry)) (now (text .exit)) r ⌝ }
 {
     let name = c.values.name;
     let value = c.values.value;
@@ -157,7 +161,8 @@ pub fn typed_row(
     f: Fill,
 ) -> Answer
     requires { ⌜ Ready (now doc) c f ⌝ ∗ ⌜ parent ≤ 1048576 ⌝ ∗ ⌜ TypedKind kind ⌝ }
-    ensures { λ r. ⌜ Opening (now (doc .entry)) kind c parent f (now (rows .entry)) (now (rows .exit)) (now (text .entry)) (now (text .exit)) r ⌝ }
+    ensures { λ r. ⌜ Opening (now (doc .entry)) kind c parent f (now (rows .entry)) (now (rows .exit))
+        (now (text .entry)) (now (text .exit)) r ⌝ }
 {
     let head = Head {
         kind,
@@ -188,7 +193,8 @@ pub fn untyped_row(
     f: Fill,
 ) -> Answer
     requires { ⌜ Ready (now doc) c f ⌝ ∗ ⌜ parent ≤ 1048576 ⌝ ∗ ⌜ UntypedKind kind ⌝ }
-    ensures { λ r. ⌜ Opening (now (doc .entry)) kind c parent f (now (rows .entry)) (now (rows .exit)) (now (text .entry)) (now (text .exit)) r ⌝ }
+    ensures { λ r. ⌜ Opening (now (doc .entry)) kind c parent f (now (rows .entry)) (now (rows .exit))
+        (now (text .entry)) (now (text .exit)) r ⌝ }
 {
     let head = Head {
         kind,
@@ -209,7 +215,8 @@ pub fn enumvalue_row(
     f: Fill,
 ) -> Answer
     requires { ⌜ Ready (now doc) c f ⌝ ∗ ⌜ parent ≤ 1048576 ⌝ }
-    ensures { λ r. ⌜ Opening (now (doc .entry)) kinds.enumvalue c parent f (now (rows .entry)) (now (rows .exit)) (now (text .entry)) (now (text .exit)) r ⌝ }
+    ensures { λ r. ⌜ Opening (now (doc .entry)) kinds.enumvalue c parent f (now (rows .entry)) (now (rows .exit))
+        (now (text .entry)) (now (text .exit)) r ⌝ }
 {
     let head = Head {
         kind: kinds::ENUMVALUE,
@@ -239,7 +246,8 @@ pub fn member_row(
     f: Fill,
 ) -> Answer
     requires { ⌜ Ready (now doc) c f ⌝ ∗ ⌜ parent ≤ 1048576 ⌝ }
-    ensures { λ r. ⌜ Opening (now (doc .entry)) kinds.member c parent f (now (rows .entry)) (now (rows .exit)) (now (text .entry)) (now (text .exit)) r ⌝ }
+    ensures { λ r. ⌜ Opening (now (doc .entry)) kinds.member c parent f (now (rows .entry)) (now (rows .exit))
+        (now (text .entry)) (now (text .exit)) r ⌝ }
 {
     let head = Head {
         kind: kinds::MEMBER,
@@ -269,7 +277,8 @@ pub fn property_row(
     f: Fill,
 ) -> Answer
     requires { ⌜ Ready (now doc) c f ⌝ ∗ ⌜ parent ≤ 1048576 ⌝ }
-    ensures { λ r. ⌜ Opening (now (doc .entry)) kinds.property c parent f (now (rows .entry)) (now (rows .exit)) (now (text .entry)) (now (text .exit)) r ⌝ }
+    ensures { λ r. ⌜ Opening (now (doc .entry)) kinds.property c parent f (now (rows .entry)) (now (rows .exit))
+        (now (text .entry)) (now (text .exit)) r ⌝ }
 {
     let v = c.values;
     if v.name.kind == 0 {
@@ -291,7 +300,8 @@ fn accessed_row(
     f: Fill,
 ) -> Answer
     requires { ⌜ Ready (now doc) c f ⌝ ∗ ⌜ parent ≤ 1048576 ⌝ ∗ ⌜ PropertyNamed (now doc) c ⌝ }
-    ensures { λ r. ⌜ Opening (now (doc .entry)) kinds.property c parent f (now (rows .entry)) (now (rows .exit)) (now (text .entry)) (now (text .exit)) r ⌝ }
+    ensures { λ r. ⌜ Opening (now (doc .entry)) kinds.property c parent f (now (rows .entry)) (now (rows .exit))
+        (now (text .entry)) (now (text .exit)) r ⌝ }
 {
     let v = c.values;
     if v.ty.kind == 0 {
@@ -356,7 +366,8 @@ pub fn arg_row(
     f: Fill,
 ) -> Answer
     requires { ⌜ Ready (now doc) c f ⌝ ∗ ⌜ parent ≤ 1048576 ⌝ }
-    ensures { λ r. ⌜ Opening (now (doc .entry)) kinds.arg c parent f (now (rows .entry)) (now (rows .exit)) (now (text .entry)) (now (text .exit)) r ⌝ }
+    ensures { λ r. ⌜ Opening (now (doc .entry)) kinds.arg c parent f (now (rows .entry)) (now (rows .exit))
+        (now (text .entry)) (now (text .exit)) r ⌝ }
 {
     let v = c.values;
     if v.ty.kind == 0 {

@@ -48,7 +48,9 @@ fn interface_child(
     f: Fill,
 ) -> Answer
     requires { ⌜ Ready (now doc) c f ⌝ ∗ ⌜ i < f .rows ⌝ ∗ ⌜ Classes (now classes) ⌝ }
-    ensures { λ r. ⌜ Child (now (doc .entry)) kinds.inInterface true c i f (lent (now (rows .entry)) (now (warnings .entry)) (now (text .entry))) (lent (now (rows .exit)) (now (warnings .exit)) (now (text .exit))) r ⌝ }
+    ensures { λ r. ⌜ Child (now (doc .entry)) kinds.inInterface true c i f
+        (lent (now (rows .entry)) (now (warnings .entry)) (now (text .entry)))
+        (lent (now (rows .exit)) (now (warnings .exit)) (now (text .exit))) r ⌝ }
 {
     let kind = c.kind;
     if kind == kinds::METHOD {
@@ -122,7 +124,9 @@ fn interface_children(
     f: Fill,
 ) -> Answer
     requires { ⌜ Bounded (now doc) f ⌝ ∗ ⌜ i < f .rows ⌝ ∗ ⌜ at + len ≤ length (now doc) ⌝ ∗ ⌜ Classes (now classes) ⌝ }
-    ensures { λ r. ⌜ Children (now (doc .entry)) kinds.inInterface true at len i f (lent (now (rows .entry)) (now (warnings .entry)) (now (text .entry))) (lent (now (rows .exit)) (now (warnings .exit)) (now (text .exit))) r ⌝ }
+    ensures { λ r. ⌜ Children (now (doc .entry)) kinds.inInterface true at len i f
+        (lent (now (rows .entry)) (now (warnings .entry)) (now (text .entry)))
+        (lent (now (rows .exit)) (now (warnings .exit)) (now (text .exit))) r ⌝ }
 {
     let mut g = f;
     loop {
@@ -172,7 +176,9 @@ pub fn interface(
     f: Fill,
 ) -> Answer
     requires { ⌜ Ready (now doc) c f ⌝ ∗ ⌜ parent ≤ 1048576 ⌝ ∗ ⌜ Classes (now classes) ⌝ }
-    ensures { λ r. ⌜ Begins (now (doc .entry)) kinds.interface c parent f (lent (now (rows .entry)) (now (warnings .entry)) (now (text .entry))) (lent (now (rows .exit)) (now (warnings .exit)) (now (text .exit))) r ⌝ }
+    ensures { λ r. ⌜ Begins (now (doc .entry)) kinds.interface c parent f
+        (lent (now (rows .entry)) (now (warnings .entry)) (now (text .entry)))
+        (lent (now (rows .exit)) (now (warnings .exit)) (now (text .exit))) r ⌝ }
 {
     match elements::interface_row(doc, rows, text, c, parent, f) {
         Answer::Fault(refusal) => Answer::Fault(refusal),

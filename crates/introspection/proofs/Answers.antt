@@ -6,7 +6,7 @@ use mathlib.Core.List.{List, [], _∷_}
 use mathlib.Core.Bool.{Bool}
 use borrow.Author.Needs.{needs}
 use lib.Dec.{ltb}
-use lib.ListN.{getD}
+use lib.ListN.{length, replicate, getD}
 use Rattle.tables.specs.declared.Triple.{Triple}
 use Rattle.tables.specs.Triple.{inside, resolved}
 use Rattle.columns.specs.Entries.{Outcome}
@@ -26,7 +26,11 @@ use Rattle.files.specs.Files as files
 use Rattle.files.specs.declared.Reading.{Reading}
 use Rattle.strict.specs.Strict as strict
 use Rattle.items.specs.Writing.{writing, Writes}
-use Rattle.introspection.specs.Words.{bit, verdictWords, answerWords, columnsWords, Reads, ReadsStrictly, textWords, outcomeWords, partWords, lookupWords, toldBy, messageBy, warningMessageBy, refusalWords}
+use Rattle.introspection.specs.Words.{bit, verdictWords, answerWords, columnsWords, Reads, ReadsStrictly, textWords, outcomeWords, partWords, lookupWords, toldBy, messageBy, warningMessageBy, refusalWords, orderWords, orderingWords}
+use Rattle.order.specs.Ordering as ordering
+use Rattle.order.specs.Steps.{Orders}
+use Rattle.order.specs.declared.Order.{Order}
+use Rattle.order.specs.declared.Order.the-variants as order
 
 pub refusal-words : {x : Refusal} {a b n d : ℕ} → n ≡ shownBy (x .number) → a ≡ bit (ltb 0 n) → b ≡ bit (ltb 1 n) → (x .number ∷ x .place ∷ 0 ∷ 0 ∷ 0 ∷ a ∷ x .first .at ∷ x .first .len ∷ b ∷ x .second .at ∷ x .second .len ∷ x .key ∷ d ∷ 0 ∷ 0 ∷ 0 ∷ []) ≡ refusalWords x d
 refusal-words n a b = rw (a, b, n) refl
@@ -77,6 +81,24 @@ module _ {a : ColumnsAnswer} where
   pub outcome-words : (o : Outcome) {ws : List ℕ} → ws ≡ columnsWords a → a ≡ entries-of.answerOf o → ws ≡ outcomeWords o
   outcome-words o h e = h ∙ ap columnsWords e
 
+module _ {a : Order} where
+  pub order-refused : {n p : ℕ} → a ≡ order.Refused n p → (n ∷ p ∷ 0 ∷ 0 ∷ []) ≡ orderWords a
+  order-refused e = rw e refl
+
+  pub order-done : {n u : ℕ} → a ≡ order.Ordered n u → (0 ∷ 0 ∷ n ∷ u ∷ []) ≡ orderWords a
+  order-done e = rw e refl
+
+-- of definitions that were ordered
+module _ {document x ws work out work′ : List ℕ} {n room : ℕ} {a : Order} (w : Orders document x ws n room work out work′ a) where
+  pub ordered-words : {rs : List ℕ} → rs ≡ orderWords a → rs ≡ orderingWords (ordering.ordering document x ws n room)
+  ordered-words h = h ∙ ap orderWords (w .says .answer)
+
+  pub ordered-left : out ≡ ordering.leftOf room (ordering.ordering document x ws n room)
+  ordered-left = w .says .left
+
+  pub ordered-idle : work′ ≡ replicate (length work) 0
+  ordered-idle = w .idle
+
 pub lookup-words : (document text : List ℕ) (t : Triple) {p : Triple} {b : Bool} {ws : List ℕ} → ws ≡ partWords b p → b ≡ inside document text t → p ≡ resolved document text t → ws ≡ lookupWords document text t
 lookup-words document text t h e f = h ∙ rw (e, f) refl
 
@@ -105,6 +127,6 @@ module _ (document ws : List ℕ) (room : ℕ) {out : List ℕ} {a : TextAnswer}
   unfolding warningMessageBy
   warning-left s = s .left
 
-pub ruleset words = (refusal-words, verdict-refused, verdict-accepted, answer-refused, answer-done, columns-refused, columns-done, needs)
+pub ruleset words = (refusal-words, verdict-refused, verdict-accepted, answer-refused, answer-done, columns-refused, columns-done, order-refused, order-done, needs)
 
-pub ruleset entries = (reads, reads-strictly, text-words, outcome-words, write-words, write-left, lookup-words, message-words, message-left, warning-words, warning-left, needs)
+pub ruleset entries = (reads, reads-strictly, text-words, outcome-words, write-words, write-left, lookup-words, message-words, message-left, warning-words, warning-left, ordered-words, ordered-left, ordered-idle, needs)

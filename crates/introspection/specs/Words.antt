@@ -19,6 +19,9 @@ use Rattle.answers.specs.declared.TextAnswer.the-variants as answer
 use Rattle.messages.specs.Message.{messageOf, warningMessageOf}
 use Rattle.messages.specs.declared.Wide.{Wide}
 use Rattle.messages.specs.declared.Told.{Told}
+use Rattle.order.specs.Ordering as ordering
+use Rattle.order.specs.declared.Order.{Order}
+use Rattle.order.specs.declared.Order.the-variants as order
 use Rattle.document.specs.Tags.{Shown}
 use Rattle.document.specs.Reading.{State}
 use Rattle.document.specs.Refusals.{shownBy}
@@ -58,6 +61,11 @@ abbrev pub columnsWords : ColumnsAnswer → List ℕ
 columnsWords (columns.Refused n p) = n ∷ p ∷ []
 columnsWords columns.Done = 0 ∷ 0 ∷ []
 
+-- number, place, definitions, members that bear names of no row
+abbrev pub orderWords : Order → List ℕ
+orderWords (order.Refused n p) = n ∷ p ∷ 0 ∷ 0 ∷ []
+orderWords (order.Ordered n u) = 0 ∷ 0 ∷ n ∷ u ∷ []
+
 -- of a file that was read; the number is 0 for those accepted alone, since every other number is more than 0 (crate bounds)
 abbrev pub readWords : State Shown → ℕ → List ℕ
 readWords s d = verdictWords (verdictOf s) d
@@ -84,6 +92,10 @@ textWords t = answerWords (answerOf t)
 -- of words that were made
 abbrev pub outcomeWords : Outcome → List ℕ
 outcomeWords o = columnsWords (entries.answerOf o)
+
+-- of definitions that were ordered
+abbrev pub orderingWords : ordering.Outcome → List ℕ
+orderingWords o = orderWords (ordering.answerOf o)
 
 -- 1 or 0; source, start and length of the part
 abbrev pub partWords : Bool → Triple → List ℕ

@@ -5,16 +5,18 @@ use document::Refusal;
 use document::Verdict;
 use messages::Told;
 use messages::Wide;
+use order::Order;
 use tables::Triple;
 ghost use mathlib.Core.Path.{_≡_};
-ghost use lib.ListN.{length};
+ghost use lib.ListN.{length, replicate};
 ghost use Rattle.tables.specs.declared.Triple.{Triple};
 ghost use Rattle.columns.specs.Entries.{toColumns, toRows, wordsLeft};
 ghost use Rattle.answers.specs.Text.{leftOf};
 ghost use Rattle.references.specs.Entries.{escaping, unescaping};
 ghost use Rattle.document.specs.Whole.{roomOf};
 ghost use Rattle.items.specs.Writing.{writing};
-ghost use Rattle.introspection.specs.Words.{verdictWords, answerWords, columnsWords, partWords, bit, Reads, ReadsStrictly, textWords, outcomeWords, lookupWords, messageBy, warningMessageBy, refusalWords};
+ghost use Rattle.introspection.specs.Words.{verdictWords, answerWords, columnsWords, partWords, bit, Reads, ReadsStrictly, textWords, outcomeWords, lookupWords, messageBy, warningMessageBy, refusalWords, orderWords, orderingWords};
+ghost use Rattle.order.specs.Ordering as order;
 
 // What a refusal's message shows goes with it, each excerpt as a triple; then how many bytes were decoded.
 fn refusal_words(x: Refusal, decoded: usize) -> [u64; 16]
@@ -85,6 +87,15 @@ fn columns_words(a: ColumnsAnswer) -> [u64; 2]
     }
 }
 
+fn order_words(a: Order) -> [u64; 4]
+    ensures { λ r. ⌜ r ≡ orderWords a ⌝ }
+{
+    match a {
+        Order::Refused(number, place) => [number as u64, place as u64, 0, 0],
+        Order::Ordered(definitions, undefined) => [0, 0, definitions as u64, undefined as u64],
+    }
+}
+
 fn bit(yes: bool) -> u64
     ensures { λ r. ⌜ r ≡ bit yes ⌝ }
 {
@@ -110,7 +121,9 @@ pub extern "C" fn introspection_read(
     decoded: &mut [u8],
     answer: &mut [u64; 16],
 )
-    ensures { λ _. ⌜ Reads (now (document .entry)) (roomOf (now (rows .entry)) (now (warnings .entry)) (now (text .entry))) (length (now (decoded .entry))) (now (rows .exit)) (now (warnings .exit)) (now (text .exit)) (now (decoded .exit)) (now (answer .exit)) ⌝ }
+    ensures { λ _. ⌜ Reads (now (document .entry))
+        (roomOf (now (rows .entry)) (now (warnings .entry)) (now (text .entry))) (length (now (decoded .entry)))
+        (now (rows .exit)) (now (warnings .exit)) (now (text .exit)) (now (decoded .exit)) (now (answer .exit)) ⌝ }
 {
     let r = reader::read(document, rows, warnings, text, decoded);
     let v = r.verdict;
@@ -127,7 +140,9 @@ pub extern "C" fn introspection_read_strict(
     decoded: &mut [u8],
     answer: &mut [u64; 16],
 )
-    ensures { λ _. ⌜ ReadsStrictly (now (document .entry)) (roomOf (now (rows .entry)) (now (warnings .entry)) (now (text .entry))) (length (now (decoded .entry))) (now (rows .exit)) (now (warnings .exit)) (now (text .exit)) (now (decoded .exit)) (now (answer .exit)) ⌝ }
+    ensures { λ _. ⌜ ReadsStrictly (now (document .entry))
+        (roomOf (now (rows .entry)) (now (warnings .entry)) (now (text .entry))) (length (now (decoded .entry)))
+        (now (rows .exit)) (now (warnings .exit)) (now (text .exit)) (now (decoded .exit)) (now (answer .exit)) ⌝ }
 {
     let reading = strict::read_strict(document, rows, warnings, text, decoded);
     let verdict = reading.verdict;
@@ -142,8 +157,10 @@ pub extern "C" fn introspection_message(
     output: &mut [u8],
     answer: &mut [u64; 3],
 )
-    ensures answer { λ _. ⌜ now (answer .exit) ≡ textWords (messageBy (now (document .entry)) (now (refusal .entry)) (length (now (output .entry)))) ⌝ }
-    ensures output { λ _. ⌜ now (output .exit) ≡ leftOf (length (now (output .entry))) (messageBy (now (document .entry)) (now (refusal .entry)) (length (now (output .entry)))) ⌝ }
+    ensures answer { λ _. ⌜ now (answer .exit) ≡ textWords
+        (messageBy (now (document .entry)) (now (refusal .entry)) (length (now (output .entry)))) ⌝ }
+    ensures output { λ _. ⌜ now (output .exit) ≡ leftOf (length (now (output .entry)))
+        (messageBy (now (document .entry)) (now (refusal .entry)) (length (now (output .entry)))) ⌝ }
 {
     let first = Wide {
         source: refusal[5],
@@ -173,8 +190,10 @@ pub extern "C" fn introspection_warning_message(
     output: &mut [u8],
     answer: &mut [u64; 3],
 )
-    ensures answer { λ _. ⌜ now (answer .exit) ≡ textWords (warningMessageBy (now (document .entry)) (now (warning .entry)) (length (now (output .entry)))) ⌝ }
-    ensures output { λ _. ⌜ now (output .exit) ≡ leftOf (length (now (output .entry))) (warningMessageBy (now (document .entry)) (now (warning .entry)) (length (now (output .entry)))) ⌝ }
+    ensures answer { λ _. ⌜ now (answer .exit) ≡ textWords
+        (warningMessageBy (now (document .entry)) (now (warning .entry)) (length (now (output .entry)))) ⌝ }
+    ensures output { λ _. ⌜ now (output .exit) ≡ leftOf (length (now (output .entry)))
+        (warningMessageBy (now (document .entry)) (now (warning .entry)) (length (now (output .entry)))) ⌝ }
 {
     let a = messages::warning_message(document, warning[0], warning[2], warning[3], output);
     *answer = answer_words(a);
@@ -184,7 +203,8 @@ pub extern "C" fn introspection_warning_message(
 #[no_mangle]
 pub extern "C" fn introspection_escape(value: &[u8], output: &mut [u8], answer: &mut [u64; 3])
     ensures answer { λ _. ⌜ now (answer .exit) ≡ textWords (escaping (now (value .entry)) (length (now (output .entry)))) ⌝ }
-    ensures output { λ _. ⌜ now (output .exit) ≡ leftOf (length (now (output .entry))) (escaping (now (value .entry)) (length (now (output .entry)))) ⌝ }
+    ensures output { λ _. ⌜ now (output .exit) ≡ leftOf (length (now (output .entry)))
+        (escaping (now (value .entry)) (length (now (output .entry)))) ⌝ }
 {
     let a = references::escape(value, output);
     *answer = answer_words(a);
@@ -194,7 +214,8 @@ pub extern "C" fn introspection_escape(value: &[u8], output: &mut [u8], answer: 
 #[no_mangle]
 pub extern "C" fn introspection_unescape(value: &[u8], output: &mut [u8], answer: &mut [u64; 3])
     ensures answer { λ _. ⌜ now (answer .exit) ≡ textWords (unescaping (now (value .entry)) (length (now (output .entry)))) ⌝ }
-    ensures output { λ _. ⌜ now (output .exit) ≡ leftOf (length (now (output .entry))) (unescaping (now (value .entry)) (length (now (output .entry)))) ⌝ }
+    ensures output { λ _. ⌜ now (output .exit) ≡ leftOf (length (now (output .entry)))
+        (unescaping (now (value .entry)) (length (now (output .entry)))) ⌝ }
 {
     let a = references::unescape(value, output);
     *answer = answer_words(a);
@@ -211,8 +232,12 @@ pub extern "C" fn introspection_write<'a>(
     output: &mut [u8],
     answer: &mut [u64; 3],
 )
-    ensures answer { λ _. ⌜ now (answer .exit) ≡ textWords (writing (now (document .entry)) (now (text .entry)) (now (rows .entry)) claimed row (length (now (output .entry)))) ⌝ }
-    ensures output { λ _. ⌜ now (output .exit) ≡ leftOf (length (now (output .entry))) (writing (now (document .entry)) (now (text .entry)) (now (rows .entry)) claimed row (length (now (output .entry)))) ⌝ }
+    ensures answer { λ _. ⌜ now (answer .exit) ≡ textWords
+        (writing (now (document .entry)) (now (text .entry)) (now (rows .entry)) claimed row (length (now (output .entry))))
+        ⌝ }
+    ensures output { λ _. ⌜ now (output .exit) ≡ leftOf (length (now (output .entry)))
+        (writing (now (document .entry)) (now (text .entry)) (now (rows .entry)) claimed row (length (now (output .entry))))
+        ⌝ }
 {
     let a = writers::write(document, text, rows, claimed as usize, row as usize, output);
     *answer = answer_words(a);
@@ -228,7 +253,8 @@ pub extern "C" fn introspection_lookup(
     len: u32,
     answer: &mut [u64; 4],
 )
-    ensures { λ _. ⌜ now (answer .exit) ≡ lookupWords (now (document .entry)) (now (text .entry)) (record { source = source; start = start; len = len }) ⌝ }
+    ensures { λ _. ⌜ now (answer .exit) ≡ lookupWords (now (document .entry)) (now (text .entry))
+        (record { source = source; start = start; len = len }) ⌝ }
 {
     let t = Triple { source, start, len };
     let yes = tables::is_inside(document, text, t);
@@ -244,8 +270,10 @@ pub extern "C" fn introspection_columns(
     columns: &mut [u32],
     answer: &mut [u64; 2],
 )
-    ensures answer { λ _. ⌜ now (answer .exit) ≡ outcomeWords (toColumns count (now (rows .entry)) (length (now (columns .entry)))) ⌝ }
-    ensures columns { λ _. ⌜ now (columns .exit) ≡ wordsLeft (length (now (columns .entry))) (toColumns count (now (rows .entry)) (length (now (columns .entry)))) ⌝ }
+    ensures answer { λ _. ⌜ now (answer .exit) ≡ outcomeWords
+        (toColumns count (now (rows .entry)) (length (now (columns .entry)))) ⌝ }
+    ensures columns { λ _. ⌜ now (columns .exit) ≡ wordsLeft (length (now (columns .entry)))
+        (toColumns count (now (rows .entry)) (length (now (columns .entry)))) ⌝ }
 {
     let a = columns::columns(rows, count, columns);
     *answer = columns_words(a);
@@ -259,9 +287,34 @@ pub extern "C" fn introspection_rows(
     rows: &mut [u32],
     answer: &mut [u64; 2],
 )
-    ensures answer { λ _. ⌜ now (answer .exit) ≡ outcomeWords (toRows count (now (columns .entry)) (length (now (rows .entry)))) ⌝ }
-    ensures rows { λ _. ⌜ now (rows .exit) ≡ wordsLeft (length (now (rows .entry))) (toRows count (now (columns .entry)) (length (now (rows .entry)))) ⌝ }
+    ensures answer { λ _. ⌜ now (answer .exit) ≡ outcomeWords
+        (toRows count (now (columns .entry)) (length (now (rows .entry)))) ⌝ }
+    ensures rows { λ _. ⌜ now (rows .exit) ≡ wordsLeft (length (now (rows .entry)))
+        (toRows count (now (columns .entry)) (length (now (rows .entry)))) ⌝ }
 {
     let a = columns::rows(columns, count, rows);
     *answer = columns_words(a);
+}
+
+// Gives out the type definitions in an order where each comes after those that it uses.
+#[no_mangle]
+pub extern "C" fn introspection_order<'a>(
+    document: &'a [u8],
+    text: &'a [u8],
+    rows: &[u32],
+    claimed: u64,
+    work: &mut [u32],
+    output: &mut [u32],
+    answer: &mut [u64; 4],
+)
+    ensures answer { λ _. ⌜ now (answer .exit) ≡ orderingWords
+        (order.ordering (now (document .entry)) (now (text .entry)) (now (rows .entry)) claimed (length (now (output .entry))))
+        ⌝ }
+    ensures output { λ _. ⌜ now (output .exit) ≡ order.leftOf (length (now (output .entry)))
+        (order.ordering (now (document .entry)) (now (text .entry)) (now (rows .entry)) claimed (length (now (output .entry))))
+        ⌝ }
+    ensures work { λ _. ⌜ now (work .exit) ≡ replicate (length (now (work .entry))) 0 ⌝ }
+{
+    let a = order::order_types(document, text, rows, claimed as usize, work, output);
+    *answer = order_words(a);
 }

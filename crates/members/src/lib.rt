@@ -31,7 +31,9 @@ fn annotation_children(
     f: Fill,
 ) -> Answer
     requires { ⌜ Bounded (now doc) f ⌝ ∗ ⌜ i < f .rows ⌝ ∗ ⌜ at + len ≤ length (now doc) ⌝ ∗ ⌜ Classes (now classes) ⌝ }
-    ensures { λ r. ⌜ Children (now (doc .entry)) ([]) false at len i f (lent (now (rows .entry)) (now (warnings .entry)) (now (text .entry))) (lent (now (rows .exit)) (now (warnings .exit)) (now (text .exit))) r ⌝ }
+    ensures { λ r. ⌜ Children (now (doc .entry)) ([]) false at len i f
+        (lent (now (rows .entry)) (now (warnings .entry)) (now (text .entry)))
+        (lent (now (rows .exit)) (now (warnings .exit)) (now (text .exit))) r ⌝ }
 {
     let mut g = f;
     loop {
@@ -81,7 +83,9 @@ pub fn annotation(
     f: Fill,
 ) -> Answer
     requires { ⌜ Ready (now doc) c f ⌝ ∗ ⌜ parent ≤ 1048576 ⌝ ∗ ⌜ Classes (now classes) ⌝ }
-    ensures { λ r. ⌜ Begins (now (doc .entry)) kinds.annotation c parent f (lent (now (rows .entry)) (now (warnings .entry)) (now (text .entry))) (lent (now (rows .exit)) (now (warnings .exit)) (now (text .exit))) r ⌝ }
+    ensures { λ r. ⌜ Begins (now (doc .entry)) kinds.annotation c parent f
+        (lent (now (rows .entry)) (now (warnings .entry)) (now (text .entry)))
+        (lent (now (rows .exit)) (now (warnings .exit)) (now (text .exit))) r ⌝ }
 {
     match elements::annotation_row(doc, rows, text, c, parent, f) {
         Answer::Fault(refusal) => Answer::Fault(refusal),
@@ -106,7 +110,9 @@ fn value_child(
     f: Fill,
 ) -> Answer
     requires { ⌜ Ready (now doc) c f ⌝ ∗ ⌜ i < f .rows ⌝ ∗ ⌜ Classes (now classes) ⌝ }
-    ensures { λ r. ⌜ Child (now (doc .entry)) kinds.inValue true c i f (lent (now (rows .entry)) (now (warnings .entry)) (now (text .entry))) (lent (now (rows .exit)) (now (warnings .exit)) (now (text .exit))) r ⌝ }
+    ensures { λ r. ⌜ Child (now (doc .entry)) kinds.inValue true c i f
+        (lent (now (rows .entry)) (now (warnings .entry)) (now (text .entry)))
+        (lent (now (rows .exit)) (now (warnings .exit)) (now (text .exit))) r ⌝ }
 {
     if c.kind == kinds::ANNOTATION {
         return annotation(doc, classes, rows, warnings, text, c, i + 1, f);
@@ -127,7 +133,9 @@ fn value_children(
     f: Fill,
 ) -> Answer
     requires { ⌜ Bounded (now doc) f ⌝ ∗ ⌜ i < f .rows ⌝ ∗ ⌜ at + len ≤ length (now doc) ⌝ ∗ ⌜ Classes (now classes) ⌝ }
-    ensures { λ r. ⌜ Children (now (doc .entry)) kinds.inValue true at len i f (lent (now (rows .entry)) (now (warnings .entry)) (now (text .entry))) (lent (now (rows .exit)) (now (warnings .exit)) (now (text .exit))) r ⌝ }
+    ensures { λ r. ⌜ Children (now (doc .entry)) kinds.inValue true at len i f
+        (lent (now (rows .entry)) (now (warnings .entry)) (now (text .entry)))
+        (lent (now (rows .exit)) (now (warnings .exit)) (now (text .exit))) r ⌝ }
 {
     let mut g = f;
     loop {
@@ -177,7 +185,9 @@ pub fn arg(
     f: Fill,
 ) -> Answer
     requires { ⌜ Ready (now doc) c f ⌝ ∗ ⌜ parent ≤ 1048576 ⌝ ∗ ⌜ Classes (now classes) ⌝ }
-    ensures { λ r. ⌜ Begins (now (doc .entry)) kinds.arg c parent f (lent (now (rows .entry)) (now (warnings .entry)) (now (text .entry))) (lent (now (rows .exit)) (now (warnings .exit)) (now (text .exit))) r ⌝ }
+    ensures { λ r. ⌜ Begins (now (doc .entry)) kinds.arg c parent f
+        (lent (now (rows .entry)) (now (warnings .entry)) (now (text .entry)))
+        (lent (now (rows .exit)) (now (warnings .exit)) (now (text .exit))) r ⌝ }
 {
     match elements::arg_row(doc, rows, text, c, parent, f) {
         Answer::Fault(refusal) => Answer::Fault(refusal),
@@ -202,7 +212,9 @@ pub fn property(
     f: Fill,
 ) -> Answer
     requires { ⌜ Ready (now doc) c f ⌝ ∗ ⌜ parent ≤ 1048576 ⌝ ∗ ⌜ Classes (now classes) ⌝ }
-    ensures { λ r. ⌜ Begins (now (doc .entry)) kinds.property c parent f (lent (now (rows .entry)) (now (warnings .entry)) (now (text .entry))) (lent (now (rows .exit)) (now (warnings .exit)) (now (text .exit))) r ⌝ }
+    ensures { λ r. ⌜ Begins (now (doc .entry)) kinds.property c parent f
+        (lent (now (rows .entry)) (now (warnings .entry)) (now (text .entry)))
+        (lent (now (rows .exit)) (now (warnings .exit)) (now (text .exit))) r ⌝ }
 {
     match elements::property_row(doc, rows, text, c, parent, f) {
         Answer::Fault(refusal) => Answer::Fault(refusal),
@@ -227,7 +239,9 @@ fn callable_child(
     f: Fill,
 ) -> Answer
     requires { ⌜ Ready (now doc) c f ⌝ ∗ ⌜ i < f .rows ⌝ ∗ ⌜ Classes (now classes) ⌝ }
-    ensures { λ r. ⌜ Child (now (doc .entry)) kinds.inCallable true c i f (lent (now (rows .entry)) (now (warnings .entry)) (now (text .entry))) (lent (now (rows .exit)) (now (warnings .exit)) (now (text .exit))) r ⌝ }
+    ensures { λ r. ⌜ Child (now (doc .entry)) kinds.inCallable true c i f
+        (lent (now (rows .entry)) (now (warnings .entry)) (now (text .entry)))
+        (lent (now (rows .exit)) (now (warnings .exit)) (now (text .exit))) r ⌝ }
 {
     let kind = c.kind;
     if kind == kinds::ARG {
@@ -272,7 +286,9 @@ fn callable_children(
     f: Fill,
 ) -> Answer
     requires { ⌜ Bounded (now doc) f ⌝ ∗ ⌜ i < f .rows ⌝ ∗ ⌜ at + len ≤ length (now doc) ⌝ ∗ ⌜ Classes (now classes) ⌝ }
-    ensures { λ r. ⌜ Children (now (doc .entry)) kinds.inCallable true at len i f (lent (now (rows .entry)) (now (warnings .entry)) (now (text .entry))) (lent (now (rows .exit)) (now (warnings .exit)) (now (text .exit))) r ⌝ }
+    ensures { λ r. ⌜ Children (now (doc .entry)) kinds.inCallable true at len i f
+        (lent (now (rows .entry)) (now (warnings .entry)) (now (text .entry)))
+        (lent (now (rows .exit)) (now (warnings .exit)) (now (text .exit))) r ⌝ }
 {
     let mut g = f;
     loop {
@@ -323,7 +339,9 @@ pub fn callable(
     f: Fill,
 ) -> Answer
     requires { ⌜ Ready (now doc) c f ⌝ ∗ ⌜ parent ≤ 1048576 ⌝ ∗ ⌜ CallableKind kind ⌝ ∗ ⌜ Classes (now classes) ⌝ }
-    ensures { λ r. ⌜ Begins (now (doc .entry)) kind c parent f (lent (now (rows .entry)) (now (warnings .entry)) (now (text .entry))) (lent (now (rows .exit)) (now (warnings .exit)) (now (text .exit))) r ⌝ }
+    ensures { λ r. ⌜ Begins (now (doc .entry)) kind c parent f
+        (lent (now (rows .entry)) (now (warnings .entry)) (now (text .entry)))
+        (lent (now (rows .exit)) (now (warnings .exit)) (now (text .exit))) r ⌝ }
 {
     match elements::callable_row(doc, rows, text, c, kind, parent, f) {
         Answer::Fault(refusal) => Answer::Fault(refusal),

@@ -33,8 +33,8 @@ module _ {room : ℕ} {u : List ℕ} {r : TextAnswer} where
   pub plain-by : (k : ℕ) {number : ℕ} → number ≡ k → ((doc : List ℕ) (x : Told) → Says (roomy room (messageBy doc x (piecesOf refusals k))) room u r) → Plainly number room u r
   plain-by k e s = record { says = λ h doc x. rw e (s doc x) }
 
-  pub plain-unknown : {number : ℕ} → Says (wrong 19 0) room u r → (number ≡ 1 → ⊥) → (number ≡ 2 → ⊥) → (number ≡ 3 → ⊥) → (number ≡ 4 → ⊥) → (number ≡ 7 → ⊥) → (number ≡ 9 → ⊥) → (number ≡ 13 → ⊥) → (number ≡ 14 → ⊥) → (number ≡ 17 → ⊥) → (number ≡ 18 → ⊥) → (number ≡ 19 → ⊥) → (number ≡ 20 → ⊥) → (number ≡ 21 → ⊥) → (number ≡ 22 → ⊥) → (number ≡ 23 → ⊥) → (number ≡ 24 → ⊥) → (number ≡ 25 → ⊥) → (number ≡ 26 → ⊥) → (number ≡ 27 → ⊥) → (number ≡ 29 → ⊥) → (number ≡ 30 → ⊥) → Plainly number room u r
-  plain-unknown {number} s p1 p2 p3 p4 p7 p9 p13 p14 p17 p18 p19 p20 p21 p22 p23 p24 p25 p26 p27 p29 p30 = record { says = λ h doc x. rw (unknown refusals number (p1, (p2, (p3, (p4, (h .0, (h .1 .0, (p7, (h .1 .1 .0, (p9, (h .1 .1 .1 .0, (h .1 .1 .1 .1 .0, (h .1 .1 .1 .1 .1 .0, (p13, (p14, (h .1 .1 .1 .1 .1 .1 .0, (h .1 .1 .1 .1 .1 .1 .1 .0, (p17, (p18, (p19, (p20, (p21, (p22, (p23, (p24, (p25, (p26, (p27, (p29, (p30, tt)))))))))))))))))))))))))))))) s }
+  pub plain-unknown : {number : ℕ} → Says (wrong 19 0) room u r → (number ≡ 1 → ⊥) → (number ≡ 2 → ⊥) → (number ≡ 3 → ⊥) → (number ≡ 4 → ⊥) → (number ≡ 7 → ⊥) → (number ≡ 9 → ⊥) → (number ≡ 13 → ⊥) → (number ≡ 14 → ⊥) → (number ≡ 17 → ⊥) → (number ≡ 18 → ⊥) → (number ≡ 19 → ⊥) → (number ≡ 20 → ⊥) → (number ≡ 21 → ⊥) → (number ≡ 22 → ⊥) → (number ≡ 23 → ⊥) → (number ≡ 24 → ⊥) → (number ≡ 25 → ⊥) → (number ≡ 26 → ⊥) → (number ≡ 27 → ⊥) → (number ≡ 28 → ⊥) → (number ≡ 29 → ⊥) → (number ≡ 30 → ⊥) → Plainly number room u r
+  plain-unknown {number} s p1 p2 p3 p4 p7 p9 p13 p14 p17 p18 p19 p20 p21 p22 p23 p24 p25 p26 p27 p28 p29 p30 = record { says = λ h doc x. rw (unknown refusals number (p1, (p2, (p3, (p4, (h .0, (h .1 .0, (p7, (h .1 .1 .0, (p9, (h .1 .1 .1 .0, (h .1 .1 .1 .1 .0, (h .1 .1 .1 .1 .1 .0, (p13, (p14, (h .1 .1 .1 .1 .1 .1 .0, (h .1 .1 .1 .1 .1 .1 .1 .0, (p17, (p18, (p19, (p20, (p21, (p22, (p23, (p24, (p25, (p26, (p27, (p28, (p29, (p30, tt))))))))))))))))))))))))))))))) s }
 
   -- keys
   pub lacking-by : (k : ℕ) {doc : List ℕ} {name : Wide} {key : ℕ} → key ≡ k → present (keyName k) ≡ text (keyName k) → Says (roomy room (framed (bytes "missing attribute `" ++ (keyName k ++ bytes "` on `<")) (excerptOf doc name) (bytes ">`"))) room u r → Lacking doc name key room u r

@@ -74,6 +74,7 @@ messages =
     ∷ ([], alone 25, 64, text (bytes "malformed markup"))
     ∷ ([], alone 26, 64, text (bytes "odd number of bytes"))
     ∷ ([], alone 27, 64, text (bytes "lone surrogate"))
+    ∷ ([], alone 28, 64, text (bytes "circular types"))
     ∷ ([], alone 29, 64, text (bytes "profile breach"))
     ∷ ([], alone 30, 64, text (bytes "too many rows"))
     ∷ []
@@ -83,7 +84,6 @@ messages =
 abbrev pub hostile : List (List ℕ × Told × ℕ × Text)
 hostile =
     ([], alone 0, 64, wrong 19 0)
-    ∷ ([], alone 28, 64, wrong 19 0)
     ∷ ([], alone 31, 64, wrong 19 0)
     ∷ (tags, telling 12 0 (triple 1 1 1) none, 64, wrong 19 0)
     ∷ (tags, telling 12 5 (triple 1 1 1) none, 64, wrong 19 0)

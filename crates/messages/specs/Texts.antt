@@ -57,6 +57,7 @@ refusals =
     ∷ plainly 25 (bytes "malformed markup")
     ∷ plainly 26 (bytes "odd number of bytes")
     ∷ plainly 27 (bytes "lone surrogate")
+    ∷ plainly 28 (bytes "circular types")
     ∷ plainly 29 (bytes "profile breach")
     ∷ plainly 30 (bytes "too many rows")
     ∷ []

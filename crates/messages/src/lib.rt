@@ -25,7 +25,8 @@ pub struct Told {
 // The message of a refusal. A document of more than 1,048,576 bytes is refused with 2, unless that is the number told; what has no message
 // with 19, and one that has no room with 21 and the bytes needed.
 pub fn message(document: &[u8], told: Told, out: &mut [u8]) -> TextAnswer
-    ensures { λ r. ⌜ Says (messageOf (now (document .entry)) told (length (now (out .entry)))) (length (now (out .entry))) (now (out .exit)) r ⌝ }
+    ensures { λ r. ⌜ Says (messageOf (now (document .entry)) told (length (now (out .entry))))
+        (length (now (out .entry))) (now (out .exit)) r ⌝ }
 {
     let number = told.number;
     if number == 2 {
@@ -45,7 +46,8 @@ pub fn warning_message(
     len: u32,
     out: &mut [u8],
 ) -> TextAnswer
-    ensures { λ r. ⌜ Says (warningMessageOf (now (document .entry)) reason start len (length (now (out .entry)))) (length (now (out .entry))) (now (out .exit)) r ⌝ }
+    ensures { λ r. ⌜ Says (warningMessageOf (now (document .entry)) reason start len (length (now (out .entry))))
+        (length (now (out .entry))) (now (out .exit)) r ⌝ }
 {
     if 1048576 < document.len() {
         return answers::refuse(out, 2, 1048576);

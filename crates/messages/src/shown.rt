@@ -46,7 +46,8 @@ fn excerpt<'a>(document: &'a [u8], t: Wide) -> &'a [u8]
 // Words alone.
 pub fn plain(words: &[u8], out: &mut [u8]) -> TextAnswer
     requires { ⌜ length (now words) < 1024 ⌝ }
-    ensures { λ r. ⌜ Says (roomy (length (now (out .entry))) (text (now (words .entry)))) (length (now (out .entry))) (now (out .exit)) r ⌝ }
+    ensures { λ r. ⌜ Says (roomy (length (now (out .entry))) (text (now (words .entry)))) (length (now (out .entry)))
+        (now (out .exit)) r ⌝ }
 {
     let n = put::put_bytes(out, 0, words);
     answers::finish(out, n, 21, n)
@@ -64,7 +65,8 @@ fn put_with(out: &mut [u8], n: usize, bytes: &[u8], after: &[u8]) -> usize
 // Puts bytes at a count, with words before them and after them.
 fn put_around(out: &mut [u8], n: usize, before: &[u8], bytes: &[u8], after: &[u8]) -> usize
     requires { ⌜ Short (now before) (now after) ⌝ ∗ ⌜ n + length (now bytes) < 2 ^ 61 ⌝ }
-    ensures { λ r. ⌜ Around (now (before .entry)) (now (bytes .entry)) (now (after .entry)) n (now (out .entry)) (now (out .exit)) r ⌝ }
+    ensures { λ r. ⌜ Around (now (before .entry)) (now (bytes .entry)) (now (after .entry)) n (now (out .entry))
+        (now (out .exit)) r ⌝ }
 {
     let opened = put::put_bytes(out, n, before);
     put_with(out, opened, bytes, after)
@@ -73,7 +75,9 @@ fn put_around(out: &mut [u8], n: usize, before: &[u8], bytes: &[u8], after: &[u8
 // Words before bytes and after them.
 fn wrapped(before: &[u8], bytes: &[u8], after: &[u8], out: &mut [u8]) -> TextAnswer
     requires { ⌜ Short (now before) (now after) ⌝ ∗ ⌜ length (now bytes) ≤ 1048576 ⌝ }
-    ensures { λ r. ⌜ Says (roomy (length (now (out .entry))) (framed (now (before .entry)) (text (now (bytes .entry))) (now (after .entry)))) (length (now (out .entry))) (now (out .exit)) r ⌝ }
+    ensures { λ r. ⌜ Says
+        (roomy (length (now (out .entry))) (framed (now (before .entry)) (text (now (bytes .entry))) (now (after .entry))))
+        (length (now (out .entry))) (now (out .exit)) r ⌝ }
 {
     let n = put_around(out, 0, before, bytes, after);
     answers::finish(out, n, 21, n)
@@ -82,7 +86,9 @@ fn wrapped(before: &[u8], bytes: &[u8], after: &[u8], out: &mut [u8]) -> TextAns
 // Words before what a triple shows and after it.
 pub fn named(document: &[u8], t: Wide, before: &[u8], after: &[u8], out: &mut [u8]) -> TextAnswer
     requires { ⌜ Short (now before) (now after) ⌝ ∗ ⌜ length (now document) ≤ 1048576 ⌝ }
-    ensures { λ r. ⌜ Says (roomy (length (now (out .entry))) (framed (now (before .entry)) (excerptOf (now (document .entry)) t) (now (after .entry)))) (length (now (out .entry))) (now (out .exit)) r ⌝ }
+    ensures { λ r. ⌜ Says
+        (roomy (length (now (out .entry))) (framed (now (before .entry)) (excerptOf (now (document .entry)) t) (now (after .entry))))
+        (length (now (out .entry))) (now (out .exit)) r ⌝ }
 {
     if is_shown(document, t) {
         return wrapped(before, excerpt(document, t), after, out);
@@ -93,7 +99,8 @@ pub fn named(document: &[u8], t: Wide, before: &[u8], after: &[u8], out: &mut [u
 // Puts what a raw value shows, with words before it and after it.
 fn put_unescaped(value: &[u8], before: &[u8], after: &[u8], out: &mut [u8]) -> usize
     requires { ⌜ Short (now before) (now after) ⌝ ∗ ⌜ length (now value) ≤ 1048576 ⌝ }
-    ensures { λ r. ⌜ Unescaped (now (before .entry)) (now (value .entry)) (now (after .entry)) (now (out .entry)) (now (out .exit)) r ⌝ }
+    ensures { λ r. ⌜ Unescaped (now (before .entry)) (now (value .entry)) (now (after .entry)) (now (out .entry))
+        (now (out .exit)) r ⌝ }
 {
     let opened = put::put_bytes(out, 0, before);
     let shown = references::put_shown(value, out, opened);
@@ -103,7 +110,9 @@ fn put_unescaped(value: &[u8], before: &[u8], after: &[u8], out: &mut [u8]) -> u
 // Words before what a raw value shows and after it.
 fn unescaped(value: &[u8], before: &[u8], after: &[u8], out: &mut [u8]) -> TextAnswer
     requires { ⌜ Short (now before) (now after) ⌝ ∗ ⌜ length (now value) ≤ 1048576 ⌝ }
-    ensures { λ r. ⌜ Says (roomy (length (now (out .entry))) (framed (now (before .entry)) (orUnsound (unescape (now (value .entry)))) (now (after .entry)))) (length (now (out .entry))) (now (out .exit)) r ⌝ }
+    ensures { λ r. ⌜ Says
+        (roomy (length (now (out .entry))) (framed (now (before .entry)) (orUnsound (unescape (now (value .entry)))) (now (after .entry))))
+        (length (now (out .entry))) (now (out .exit)) r ⌝ }
 {
     match references::check(value) {
         Checked::Fault(_, _) => answers::refuse(out, 19, 0),
@@ -117,7 +126,9 @@ fn unescaped(value: &[u8], before: &[u8], after: &[u8], out: &mut [u8]) -> TextA
 // Words before the raw value at a triple, unescaped, and after it.
 pub fn valued(document: &[u8], t: Wide, before: &[u8], after: &[u8], out: &mut [u8]) -> TextAnswer
     requires { ⌜ Short (now before) (now after) ⌝ ∗ ⌜ length (now document) ≤ 1048576 ⌝ }
-    ensures { λ r. ⌜ Says (roomy (length (now (out .entry))) (framed (now (before .entry)) (unescapedOf (excerptOf (now (document .entry)) t)) (now (after .entry)))) (length (now (out .entry))) (now (out .exit)) r ⌝ }
+    ensures { λ r. ⌜ Says
+        (roomy (length (now (out .entry))) (framed (now (before .entry)) (unescapedOf (excerptOf (now (document .entry)) t)) (now (after .entry))))
+        (length (now (out .entry))) (now (out .exit)) r ⌝ }
 {
     if is_shown(document, t) {
         return unescaped(excerpt(document, t), before, after, out);
@@ -134,8 +145,10 @@ fn parted(
     after: &[u8],
     out: &mut [u8],
 ) -> TextAnswer
-    requires { ⌜ Short (now before) (now between) ⌝ ∗ ⌜ length (now after) < 1024 ⌝ ∗ ⌜ length (now a) ≤ 1048576 ⌝ ∗ ⌜ length (now b) ≤ 1048576 ⌝ }
-    ensures { λ r. ⌜ Parted (now (before .entry)) (now (a .entry)) (now (between .entry)) (now (b .entry)) (now (after .entry)) (length (now (out .entry))) (now (out .exit)) r ⌝ }
+    requires { ⌜ Short (now before) (now between) ⌝ ∗ ⌜ length (now after) < 1024 ⌝ ∗ ⌜ length (now a) ≤ 1048576 ⌝
+        ∗ ⌜ length (now b) ≤ 1048576 ⌝ }
+    ensures { λ r. ⌜ Parted (now (before .entry)) (now (a .entry)) (now (between .entry)) (now (b .entry))
+        (now (after .entry)) (length (now (out .entry))) (now (out .exit)) r ⌝ }
 {
     let first = put_around(out, 0, before, a, between);
     let n = put_with(out, first, b, after);
@@ -145,7 +158,8 @@ fn parted(
 // 6, where the closing tag's name is there: that and the open element's name.
 fn unexpected_in(document: &[u8], closing: &[u8], element: Wide, out: &mut [u8]) -> TextAnswer
     requires { ⌜ length (now document) ≤ 1048576 ⌝ ∗ ⌜ length (now closing) ≤ 1048576 ⌝ }
-    ensures { λ r. ⌜ UnexpectedIn (now (document .entry)) (now (closing .entry)) element (length (now (out .entry))) (now (out .exit)) r ⌝ }
+    ensures { λ r. ⌜ UnexpectedIn (now (document .entry)) (now (closing .entry)) element (length (now (out .entry)))
+        (now (out .exit)) r ⌝ }
 {
     if is_shown(document, element) {
         let name = excerpt(document, element);

@@ -34,6 +34,7 @@ pub fn plainly(number: u64, out: &mut [u8]) -> TextAnswer
         25 => shown::plain(b"malformed markup", out),
         26 => shown::plain(b"odd number of bytes", out),
         27 => shown::plain(b"lone surrogate", out),
+        28 => shown::plain(b"circular types", out),
         29 => shown::plain(b"profile breach", out),
         30 => shown::plain(b"too many rows", out),
         _ => answers::refuse(out, 19, 0),
@@ -152,7 +153,9 @@ pub fn warned(document: &[u8], reason: u32, name: Wide, out: &mut [u8]) -> TextA
 // A malformed element's name, and why it is ignored.
 fn malformed(document: &[u8], name: Wide, why: &[u8], out: &mut [u8]) -> TextAnswer
     requires { ⌜ length (now document) ≤ 1048576 ⌝ ∗ ⌜ length (now why) < 1024 ⌝ }
-    ensures { λ r. ⌜ Says (roomy (length (now (out .entry))) (framed (bytes "malformed element `<") (excerptOf (now (document .entry)) name) (now (why .entry)))) (length (now (out .entry))) (now (out .exit)) r ⌝ }
+    ensures { λ r. ⌜ Says
+        (roomy (length (now (out .entry))) (framed (bytes "malformed element `<") (excerptOf (now (document .entry)) name) (now (why .entry))))
+        (length (now (out .entry))) (now (out .exit)) r ⌝ }
 {
     shown::named(document, name, b"malformed element `<", why, out)
 }

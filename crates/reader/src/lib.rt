@@ -46,7 +46,9 @@ fn node_child(
     f: Fill,
 ) -> Answer
     requires { ⌜ Ready (now doc) c f ⌝ ∗ ⌜ i < f .rows ⌝ ∗ ⌜ (c .kind ≡ kinds.node → ⊥) ⌝ ∗ ⌜ Classes (now classes) ⌝ }
-    ensures { λ r. ⌜ Child (now (doc .entry)) kinds.inNode true c i f (lent (now (rows .entry)) (now (warnings .entry)) (now (text .entry))) (lent (now (rows .exit)) (now (warnings .exit)) (now (text .exit))) r ⌝ }
+    ensures { λ r. ⌜ Child (now (doc .entry)) kinds.inNode true c i f
+        (lent (now (rows .entry)) (now (warnings .entry)) (now (text .entry)))
+        (lent (now (rows .exit)) (now (warnings .exit)) (now (text .exit))) r ⌝ }
 {
     let kind = c.kind;
     if kind == kinds::INTERFACE {
@@ -79,7 +81,8 @@ fn open_node(
     s: Walk,
 ) -> Turn
     requires { ⌜ Started (now doc) (now opened) c s ⌝ ∗ ⌜ c .kind ≡ kinds.node ⌝ ∗ ⌜ i < s .fill .rows ⌝ }
-    ensures { λ r. ⌜ Opens (now (doc .entry)) c i s (now (opened .entry)) (now (opened .exit)) (now (rows .entry)) (now (rows .exit)) (now (text .entry)) (now (text .exit)) r ⌝ }
+    ensures { λ r. ⌜ Opens (now (doc .entry)) c i s (now (opened .entry)) (now (opened .exit)) (now (rows .entry))
+        (now (rows .exit)) (now (text .entry)) (now (text .exit)) r ⌝ }
 {
     let f = s.fill;
     let depth = s.depth;
@@ -147,8 +150,11 @@ fn read_child(
     i: usize,
     s: Walk,
 ) -> Turn
-    requires { ⌜ Ready (now doc) c (moved (s .fill) (c .end)) ⌝ ∗ ⌜ i < s .fill .rows ⌝ ∗ ⌜ (c .kind ≡ kinds.node → ⊥) ⌝ ∗ ⌜ Classes (now classes) ⌝ }
-    ensures { λ r. ⌜ ChildIn (now (doc .entry)) c i s (lent (now (rows .entry)) (now (warnings .entry)) (now (text .entry))) (lent (now (rows .exit)) (now (warnings .exit)) (now (text .exit))) r ⌝ }
+    requires { ⌜ Ready (now doc) c (moved (s .fill) (c .end)) ⌝ ∗ ⌜ i < s .fill .rows ⌝
+        ∗ ⌜ (c .kind ≡ kinds.node → ⊥) ⌝ ∗ ⌜ Classes (now classes) ⌝ }
+    ensures { λ r. ⌜ ChildIn (now (doc .entry)) c i s
+        (lent (now (rows .entry)) (now (warnings .entry)) (now (text .entry)))
+        (lent (now (rows .exit)) (now (warnings .exit)) (now (text .exit))) r ⌝ }
 {
     let f = s.fill;
     let fill = f.moved(c.end);
@@ -173,7 +179,9 @@ fn start_in(
     s: Walk,
 ) -> Turn
     requires { ⌜ Started (now doc) (now opened) c s ⌝ ∗ ⌜ Classes (now classes) ⌝ }
-    ensures { λ r. ⌜ Begun (now (doc .entry)) c s (now (opened .entry)) (now (opened .exit)) (lent (now (rows .entry)) (now (warnings .entry)) (now (text .entry))) (lent (now (rows .exit)) (now (warnings .exit)) (now (text .exit))) r ⌝ }
+    ensures { λ r. ⌜ Begun (now (doc .entry)) c s (now (opened .entry)) (now (opened .exit))
+        (lent (now (rows .entry)) (now (warnings .entry)) (now (text .entry)))
+        (lent (now (rows .exit)) (now (warnings .exit)) (now (text .exit))) r ⌝ }
 {
     let last = s.depth - 1;
     let i = wide(opened[last]);
@@ -196,7 +204,9 @@ fn turn_at(
     s: Walk,
 ) -> Turn
     requires { ⌜ Walking (now doc) (now opened) s ⌝ ∗ ⌜ at + len ≤ length (now doc) ⌝ ∗ ⌜ Classes (now classes) ⌝ }
-    ensures { λ r. ⌜ Turns (now (doc .entry)) (nameAt (now (doc .entry)) «at» len) (now (opened .entry)) (now (opened .exit)) s (lent (now (rows .entry)) (now (warnings .entry)) (now (text .entry))) (lent (now (rows .exit)) (now (warnings .exit)) (now (text .exit))) r ⌝ }
+    ensures { λ r. ⌜ Turns (now (doc .entry)) (nameAt (now (doc .entry)) «at» len) (now (opened .entry))
+        (now (opened .exit)) s (lent (now (rows .entry)) (now (warnings .entry)) (now (text .entry)))
+        (lent (now (rows .exit)) (now (warnings .exit)) (now (text .exit))) r ⌝ }
 {
     let last = s.depth - 1;
     let level = last + 1024;
@@ -227,7 +237,9 @@ fn nodes(
     s: Walk,
 ) -> Answer
     requires { ⌜ Walking (now doc) (now opened) s ⌝ ∗ ⌜ at + len ≤ length (now doc) ⌝ ∗ ⌜ Classes (now classes) ⌝ }
-    ensures { λ r. ⌜ Walks (now (doc .entry)) (nameAt (now (doc .entry)) «at» len) (now (opened .entry)) s (lent (now (rows .entry)) (now (warnings .entry)) (now (text .entry))) (lent (now (rows .exit)) (now (warnings .exit)) (now (text .exit))) r ⌝ }
+    ensures { λ r. ⌜ Walks (now (doc .entry)) (nameAt (now (doc .entry)) «at» len) (now (opened .entry)) s
+        (lent (now (rows .entry)) (now (warnings .entry)) (now (text .entry)))
+        (lent (now (rows .exit)) (now (warnings .exit)) (now (text .exit))) r ⌝ }
 {
     let mut w = s;
     loop {
@@ -330,7 +342,8 @@ fn document_node(
 
 // Leaves zeros in every buffer.
 pub fn refuse(rows: &mut [u32], warnings: &mut [u32], text: &mut [u8], refusal: Refusal) -> Verdict
-    ensures { λ r. ⌜ Refuses refusal (now (rows .entry)) (now (rows .exit)) (now (warnings .entry)) (now (warnings .exit)) (now (text .entry)) (now (text .exit)) r ⌝ }
+    ensures { λ r. ⌜ Refuses refusal (now (rows .entry)) (now (rows .exit)) (now (warnings .entry))
+        (now (warnings .exit)) (now (text .entry)) (now (text .exit)) r ⌝ }
 {
     tables::clear_words(rows, 0);
     tables::clear_words(warnings, 0);
@@ -341,7 +354,8 @@ pub fn refuse(rows: &mut [u32], warnings: &mut [u32], text: &mut [u8], refusal: 
 // Leaves zeros past the used part of every buffer.
 fn accept(rows: &mut [u32], warnings: &mut [u32], text: &mut [u8], f: Fill) -> Verdict
     requires { ⌜ f .rows * 16 ≤ length (now rows) ⌝ ∗ ⌜ f .warnings * 4 ≤ length (now warnings) ⌝ }
-    ensures { λ r. ⌜ Accepts f (now (rows .entry)) (now (rows .exit)) (now (warnings .entry)) (now (warnings .exit)) (now (text .entry)) (now (text .exit)) r ⌝ }
+    ensures { λ r. ⌜ Accepts f (now (rows .entry)) (now (rows .exit)) (now (warnings .entry)) (now (warnings .exit))
+        (now (text .entry)) (now (text .exit)) r ⌝ }
 {
     tables::clear_words(rows, f.rows * 16);
     tables::clear_words(warnings, f.warnings * 4);
@@ -365,7 +379,8 @@ fn has_room(rows: usize, warnings: usize, text: usize, f: Fill) -> bool
 // The verdict on a document that has been read, and the buffers that go with it.
 fn finish(doc: &[u8], rows: &mut [u32], warnings: &mut [u32], text: &mut [u8], a: Answer) -> Verdict
     requires { ⌜ Ended (now doc) (now rows) (now warnings) (now text) a ⌝ }
-    ensures { λ r. ⌜ Says (now (doc .entry)) (roomOf (now (rows .entry)) (now (warnings .entry)) (now (text .entry))) (now (rows .exit)) (now (warnings .exit)) (now (text .exit)) r ⌝ }
+    ensures { λ r. ⌜ Says (now (doc .entry)) (roomOf (now (rows .entry)) (now (warnings .entry)) (now (text .entry)))
+        (now (rows .exit)) (now (warnings .exit)) (now (text .exit)) r ⌝ }
 {
     match a {
         Answer::Fault(refusal) => refuse(rows, warnings, text, refusal),
@@ -386,7 +401,9 @@ pub fn parse_with_warnings(
     warnings: &mut [u32],
     text: &mut [u8],
 ) -> Verdict
-    ensures { λ r. ⌜ Says (now (document .entry)) (roomOf (now (rows .entry)) (now (warnings .entry)) (now (text .entry))) (now (rows .exit)) (now (warnings .exit)) (now (text .exit)) r ⌝ }
+    ensures { λ r. ⌜ Says (now (document .entry))
+        (roomOf (now (rows .entry)) (now (warnings .entry)) (now (text .entry))) (now (rows .exit))
+        (now (warnings .exit)) (now (text .exit)) r ⌝ }
 {
     if 1048576 < document.len() {
         let long = document::bare(2, 1048576);
@@ -403,7 +420,8 @@ pub fn parse_with_warnings(
 // The same for a document within the limit that is UTF-8.
 fn read_sound(doc: &[u8], rows: &mut [u32], warnings: &mut [u32], text: &mut [u8]) -> Verdict
     requires { ⌜ Sound (now doc) ⌝ }
-    ensures { λ r. ⌜ Says (now (doc .entry)) (roomOf (now (rows .entry)) (now (warnings .entry)) (now (text .entry))) (now (rows .exit)) (now (warnings .exit)) (now (text .exit)) r ⌝ }
+    ensures { λ r. ⌜ Says (now (doc .entry)) (roomOf (now (rows .entry)) (now (warnings .entry)) (now (text .entry)))
+        (now (rows .exit)) (now (warnings .exit)) (now (text .exit)) r ⌝ }
 {
     let classes = scan::classes();
     let a = document_node(doc, &classes, rows, warnings, text);
@@ -419,7 +437,9 @@ pub fn read(
     text: &mut [u8],
     decoded: &mut [u8],
 ) -> Reading
-    ensures { λ r. ⌜ Reads (now (document .entry)) (roomOf (now (rows .entry)) (now (warnings .entry)) (now (text .entry))) (length (now (decoded .entry))) (now (rows .exit)) (now (warnings .exit)) (now (text .exit)) (now (decoded .exit)) r ⌝ }
+    ensures { λ r. ⌜ Reads (now (document .entry))
+        (roomOf (now (rows .entry)) (now (warnings .entry)) (now (text .entry))) (length (now (decoded .entry)))
+        (now (rows .exit)) (now (warnings .exit)) (now (text .exit)) (now (decoded .exit)) r ⌝ }
 {
     match utf16::decode(document, decoded) {
         utf16::Answer::Unmarked => {

@@ -283,7 +283,8 @@ fn admit_shown(value: &[u8]) -> Checked
 // bytes needed.
 pub fn escape(value: &[u8], out: &mut [u8]) -> TextAnswer
     ensures answer { λ r. ⌜ r ≡ answerOf (escaping (now (value .entry)) (length (now (out .entry)))) ⌝ }
-    ensures left { λ r. ⌜ now (out .exit) ≡ leftOf (length (now (out .entry))) (escaping (now (value .entry)) (length (now (out .entry)))) ⌝ }
+    ensures left { λ r. ⌜ now (out .exit) ≡ leftOf (length (now (out .entry)))
+        (escaping (now (value .entry)) (length (now (out .entry)))) ⌝ }
 {
     match admit(value) {
         Checked::Fault(number, place) => answers::refuse(out, number, place.0),
@@ -298,7 +299,8 @@ pub fn escape(value: &[u8], out: &mut [u8]) -> TextAnswer
 // Unescapes a value. Refused as for `escape` with 2 and 1, then with 9 to 11 at a reference, and with 18 where there is no room.
 pub fn unescape(value: &[u8], out: &mut [u8]) -> TextAnswer
     ensures answer { λ r. ⌜ r ≡ answerOf (unescaping (now (value .entry)) (length (now (out .entry)))) ⌝ }
-    ensures left { λ r. ⌜ now (out .exit) ≡ leftOf (length (now (out .entry))) (unescaping (now (value .entry)) (length (now (out .entry)))) ⌝ }
+    ensures left { λ r. ⌜ now (out .exit) ≡ leftOf (length (now (out .entry)))
+        (unescaping (now (value .entry)) (length (now (out .entry)))) ⌝ }
 {
     match admit_shown(value) {
         Checked::Fault(number, place) => answers::refuse(out, number, place.0),

@@ -90,7 +90,8 @@ pub fn put_row(
     f: Fill,
 ) -> Fill
     requires { ⌜ RowFits (now doc) head name second tp f ⌝ }
-    ensures { λ r. ⌜ RowPut (now (doc .entry)) head name second tp f (now (rows .entry)) (now (rows .exit)) (now (text .entry)) (now (text .exit)) r ⌝ }
+    ensures { λ r. ⌜ RowPut (now (doc .entry)) head name second tp f (now (rows .entry)) (now (rows .exit))
+        (now (text .entry)) (now (text .exit)) r ⌝ }
 {
     let a = place(doc, text, name, f.text);
     let b = place(doc, text, second, a.text);

@@ -60,7 +60,8 @@ pub fn add_refused(counts: &mut [u32], number: u32)
 // Adds a file that is accepted, with r rows and w warnings.
 fn add_accepted(counts: &mut [u32], rows: &[u32], r: usize, warnings: &[u32], w: usize)
     requires { ⌜ length (now counts) ≡ 128 ⌝ ∗ ⌜ length (now rows) ≤ 16384 ⌝ ∗ ⌜ length (now warnings) ≤ 16384 ⌝ }
-    ensures { λ x. ⌜ Adds (accepted (firsts 16 r (now (rows .entry))) (firsts 4 w (now (warnings .entry)))) (now (counts .entry)) (now (counts .exit)) ⌝ }
+    ensures { λ x. ⌜ Adds (accepted (firsts 16 r (now (rows .entry))) (firsts 4 w (now (warnings .entry))))
+        (now (counts .entry)) (now (counts .exit)) ⌝ }
 {
     count(counts, 0, 0);
     count_firsts(counts, 64, rows, r, 16);

@@ -41,7 +41,8 @@ fn put_line(out: &mut [u8], n: usize, letter: u8, number: u32, count: u32) -> us
 // Puts the lines of 32 numbers, whose counts stand from `base` on.
 fn put_lines(out: &mut [u8], n: usize, letter: u8, counts: &[u32], base: usize) -> usize
     requires { ⌜ n + 4096 < 2 ^ 40 ⌝ ∗ ⌜ base ≤ 96 ⌝ ∗ ⌜ length (now counts) ≡ 128 ⌝ }
-    ensures { λ r. ⌜ PutsFew 768 (linesBy letter (countsFrom (now (counts .entry)) base)) n (now (out .entry)) (now (out .exit)) r ⌝ }
+    ensures { λ r. ⌜ PutsFew 768 (linesBy letter (countsFrom (now (counts .entry)) base)) n (now (out .entry))
+        (now (out .exit)) r ⌝ }
 {
     let mut m = n;
     let mut k = 0;

@@ -23,7 +23,8 @@ pub fn skip_element(
     len: usize,
     depth: usize,
 ) -> Passed
-    requires { ⌜ from ≤ length (now doc) ⌝ ∗ ⌜ at + len ≤ length (now doc) ⌝ ∗ ⌜ length (now doc) ≤ 1048576 ⌝ ∗ ⌜ depth ≤ 1024 ⌝ ∗ ⌜ Classes (now classes) ⌝ }
+    requires { ⌜ from ≤ length (now doc) ⌝ ∗ ⌜ at + len ≤ length (now doc) ⌝ ∗ ⌜ length (now doc) ≤ 1048576 ⌝
+        ∗ ⌜ depth ≤ 1024 ⌝ ∗ ⌜ Classes (now classes) ⌝ }
     ensures { λ r. ⌜ Passes (now (doc .entry)) from at len depth r ⌝ }
 {
     let mut here = from;
@@ -79,7 +80,8 @@ pub fn skip_unsupported(
 
 // Puts the trimmed content between two places into row i, unless it is empty.
 fn capture(doc: &[u8], rows: &mut [u32], from: usize, lt: usize, i: usize)
-    requires { ⌜ from ≤ lt ⌝ ∗ ⌜ lt ≤ length (now doc) ⌝ ∗ ⌜ length (now doc) ≤ 1048576 ⌝ ∗ ⌜ i < 1048576 ⌝ ∗ ⌜ illFormed (take (lt - from) (drop from (now doc))) ≡ length (take (lt - from) (drop from (now doc))) ⌝ }
+    requires { ⌜ from ≤ lt ⌝ ∗ ⌜ lt ≤ length (now doc) ⌝ ∗ ⌜ length (now doc) ≤ 1048576 ⌝ ∗ ⌜ i < 1048576 ⌝
+        ∗ ⌜ illFormed (take (lt - from) (drop from (now doc))) ≡ length (take (lt - from) (drop from (now doc))) ⌝ }
     ensures { λ r. ⌜ Puts (now (doc .entry)) from lt i (now (rows .entry)) (now (rows .exit)) ⌝ }
 {
     let s = utf8::trim(&doc[from..lt]);
@@ -127,7 +129,8 @@ pub fn docstring_or_skip(
     f: Fill,
 ) -> Answer
     requires { ⌜ Ready (now doc) c f ⌝ ∗ ⌜ i < f .rows ⌝ ∗ ⌜ Classes (now classes) ⌝ }
-    ensures { λ r. ⌜ Others (now (doc .entry)) c i f (now (rows .entry)) (now (rows .exit)) (now (warnings .entry)) (now (warnings .exit)) r ⌝ }
+    ensures { λ r. ⌜ Others (now (doc .entry)) c i f (now (rows .entry)) (now (rows .exit)) (now (warnings .entry))
+        (now (warnings .exit)) r ⌝ }
 {
     if c.kind == kinds::DOCSTRING {
         return docstring(doc, classes, rows, c, i, f);

@@ -105,7 +105,8 @@ fn sound_row<'a>(
 // The first bad row, or n.
 fn first_bad<'a>(document: &'a [u8], text: &'a [u8], rows: &[u32], n: usize) -> usize
     requires { ⌜ n * 16 ≤ length (now rows) ⌝ }
-    ensures { λ r. ⌜ r ≡ firstBad (now (document .entry)) (now (text .entry)) (rowsOf n (now (rows .entry))) 0 (rowsOf n (now (rows .entry))) ⌝ }
+    ensures { λ r. ⌜ r ≡ firstBad (now (document .entry)) (now (text .entry)) (rowsOf n (now (rows .entry))) 0
+        (rowsOf n (now (rows .entry))) ⌝ }
 {
     let ordered = order::in_document_order(rows, n);
     let mut i = 0;

@@ -20,7 +20,8 @@ fn judge(
     w: usize,
 ) -> Verdict
     requires { ⌜ Accepted (now document) ⌝ }
-    ensures { λ r. ⌜ Judges (now (document .entry)) n t w (now (rows .entry)) (now (rows .exit)) (now (warnings .entry)) (now (warnings .exit)) (now (text .entry)) (now (text .exit)) r ⌝ }
+    ensures { λ r. ⌜ Judges (now (document .entry)) n t w (now (rows .entry)) (now (rows .exit))
+        (now (warnings .entry)) (now (warnings .exit)) (now (text .entry)) (now (text .exit)) r ⌝ }
 {
     match breaches::least_breach(document) {
         Breach::Nowhere => Verdict::Accepted(n, t, w),
@@ -39,7 +40,9 @@ pub fn read_strict(
     text: &mut [u8],
     decoded: &mut [u8],
 ) -> Reading
-    ensures { λ r. ⌜ ReadsStrictly (now (document .entry)) (roomOf (now (rows .entry)) (now (warnings .entry)) (now (text .entry))) (length (now (decoded .entry))) (now (rows .exit)) (now (warnings .exit)) (now (text .exit)) (now (decoded .exit)) r ⌝ }
+    ensures { λ r. ⌜ ReadsStrictly (now (document .entry))
+        (roomOf (now (rows .entry)) (now (warnings .entry)) (now (text .entry))) (length (now (decoded .entry)))
+        (now (rows .exit)) (now (warnings .exit)) (now (text .exit)) (now (decoded .exit)) r ⌝ }
 {
     let reading = reader::read(document, rows, warnings, text, decoded);
     let end = reading.decoded;

@@ -122,7 +122,8 @@ pub fn resolve(document: &[u8], text: &[u8], t: Triple) -> Triple
 fn part_of<'a>(document: &'a [u8], text: &'a [u8], t: Triple) -> &'a [u8]
     requires { ⌜ Inside (now document) (now text) t ⌝ }
     ensures bytes { λ r. ⌜ now r ≡ shown (now (document .entry)) (now (text .entry)) t ⌝ }
-    ensures place { λ r. ⌜ r .ptr ≡ place (document .entry .ptr) (text .entry .ptr) (resolved (now (document .entry)) (now (text .entry)) t) ⌝ }
+    ensures place { λ r. ⌜ r .ptr ≡ place (document .entry .ptr) (text .entry .ptr)
+        (resolved (now (document .entry)) (now (text .entry)) t) ⌝ }
 {
     let from = t.start as usize;
     let to = from + t.len as usize;
@@ -135,7 +136,8 @@ fn part_of<'a>(document: &'a [u8], text: &'a [u8], t: Triple) -> &'a [u8]
 // The part of the document or of the text that a triple leads to, never a copy.
 pub fn lookup<'a>(document: &'a [u8], text: &'a [u8], t: Triple) -> &'a [u8]
     ensures bytes { λ r. ⌜ now r ≡ shown (now (document .entry)) (now (text .entry)) t ⌝ }
-    ensures place { λ r. ⌜ r .ptr ≡ place (document .entry .ptr) (text .entry .ptr) (resolved (now (document .entry)) (now (text .entry)) t) ⌝ }
+    ensures place { λ r. ⌜ r .ptr ≡ place (document .entry .ptr) (text .entry .ptr)
+        (resolved (now (document .entry)) (now (text .entry)) t) ⌝ }
 {
     if is_inside(document, text, t) {
         return part_of(document, text, t);

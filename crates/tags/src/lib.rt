@@ -42,7 +42,8 @@ fn one(name: &[u8], key: &[u8], kind: u32) -> u32
 
 // The first kind if the name is the first key, else the second if it is the second.
 fn either(name: &[u8], key: &[u8], kind: u32, key2: &[u8], kind2: u32) -> u32
-    ensures { λ r. ⌜ r ≡ if (same (now (name .entry)) (now (key .entry))) kind (if (same (now (name .entry)) (now (key2 .entry))) kind2 0) ⌝ }
+    ensures { λ r. ⌜ r ≡ if (same (now (name .entry)) (now (key .entry))) kind
+        (if (same (now (name .entry)) (now (key2 .entry))) kind2 0) ⌝ }
 {
     if slices::equal(name, key) {
         return kind;
@@ -173,7 +174,8 @@ pub fn tag_end(doc: &[u8], classes: &[u8; 256], from: usize) -> TagEnd
 // A fault at a reference, which is shown from its place to its `;`.
 fn reference_in(doc: &[u8], number: u32, place: usize) -> Refusal
     requires { ⌜ (place ≤ length (now doc)) × (length (now doc) ≤ 1048576) ⌝ }
-    ensures { λ r. ⌜ r ≡ showing number place (record { at = place; len = suc (length (span (other 59) (drop place (now (doc .entry))))) }) ⌝ }
+    ensures { λ r. ⌜ r ≡ showing number place
+        (record { at = place; len = suc (length (span (other 59) (drop place (now (doc .entry))))) }) ⌝ }
 {
     let end = slices::find(doc, place, b';');
     document::showing(number, place, Excerpt::new(place, end - place + 1))

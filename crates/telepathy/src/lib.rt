@@ -41,7 +41,9 @@ fn part_children(
     f: Fill,
 ) -> Answer
     requires { ⌜ Bounded (now doc) f ⌝ ∗ ⌜ i < f .rows ⌝ ∗ ⌜ «at» + len ≤ length (now doc) ⌝ ∗ ⌜ Classes (now classes) ⌝ }
-    ensures { λ r. ⌜ Children (now (doc .entry)) [] true «at» len i f (lent (now (rows .entry)) (now (warnings .entry)) (now (text .entry))) (lent (now (rows .exit)) (now (warnings .exit)) (now (text .exit))) r ⌝ }
+    ensures { λ r. ⌜ Children (now (doc .entry)) [] true «at» len i f
+        (lent (now (rows .entry)) (now (warnings .entry)) (now (text .entry)))
+        (lent (now (rows .exit)) (now (warnings .exit)) (now (text .exit))) r ⌝ }
 {
     let mut g = f;
     loop {
@@ -77,7 +79,8 @@ fn part_row(
     f: Fill,
 ) -> Answer
     requires { ⌜ Ready (now doc) c f ⌝ ∗ ⌜ parent ≤ 1048576 ⌝ ∗ ⌜ PartKind (c .kind) ⌝ }
-    ensures { λ r. ⌜ Opening (now (doc .entry)) (c .kind) c parent f (now (rows .entry)) (now (rows .exit)) (now (text .entry)) (now (text .exit)) r ⌝ }
+    ensures { λ r. ⌜ Opening (now (doc .entry)) (c .kind) c parent f (now (rows .entry)) (now (rows .exit))
+        (now (text .entry)) (now (text .exit)) r ⌝ }
 {
     if c.kind == kinds::ENUMVALUE {
         return elements::enumvalue_row(doc, rows, text, c, parent, f);
@@ -96,8 +99,11 @@ fn part_content(
     i: usize,
     f: Fill,
 ) -> Answer
-    requires { ⌜ Bounded (now doc) f ⌝ ∗ ⌜ i < f .rows ⌝ ∗ ⌜ PartKind (c .kind) ⌝ ∗ ⌜ c .at + c .len ≤ length (now doc) ⌝ ∗ ⌜ Classes (now classes) ⌝ }
-    ensures { λ r. ⌜ PartContent (now (doc .entry)) c i f (lent (now (rows .entry)) (now (warnings .entry)) (now (text .entry))) (lent (now (rows .exit)) (now (warnings .exit)) (now (text .exit))) r ⌝ }
+    requires { ⌜ Bounded (now doc) f ⌝ ∗ ⌜ i < f .rows ⌝ ∗ ⌜ PartKind (c .kind) ⌝
+        ∗ ⌜ c .at + c .len ≤ length (now doc) ⌝ ∗ ⌜ Classes (now classes) ⌝ }
+    ensures { λ r. ⌜ PartContent (now (doc .entry)) c i f
+        (lent (now (rows .entry)) (now (warnings .entry)) (now (text .entry)))
+        (lent (now (rows .exit)) (now (warnings .exit)) (now (text .exit))) r ⌝ }
 {
     if c.closes {
         return Answer::Done(f);
@@ -117,7 +123,9 @@ fn part(
     f: Fill,
 ) -> Answer
     requires { ⌜ Ready (now doc) c f ⌝ ∗ ⌜ i < f .rows ⌝ ∗ ⌜ PartKind (c .kind) ⌝ ∗ ⌜ Classes (now classes) ⌝ }
-    ensures { λ r. ⌜ Begins (now (doc .entry)) (c .kind) c (i + 1) f (lent (now (rows .entry)) (now (warnings .entry)) (now (text .entry))) (lent (now (rows .exit)) (now (warnings .exit)) (now (text .exit))) r ⌝ }
+    ensures { λ r. ⌜ Begins (now (doc .entry)) (c .kind) c (i + 1) f
+        (lent (now (rows .entry)) (now (warnings .entry)) (now (text .entry)))
+        (lent (now (rows .exit)) (now (warnings .exit)) (now (text .exit))) r ⌝ }
 {
     match part_row(doc, rows, text, c, i + 1, f) {
         Answer::Fault(refusal) => Answer::Fault(refusal),
@@ -222,8 +230,11 @@ fn noted_part(
     p: Parts,
     f: Fill,
 ) -> Inner
-    requires { ⌜ Ready (now doc) c f ⌝ ∗ ⌜ i < f .rows ⌝ ∗ ⌜ PartKind (c .kind) ⌝ ∗ ⌜ p .count < f .at ⌝ ∗ ⌜ Classes (now classes) ⌝ }
-    ensures { λ r. ⌜ Noted (now (doc .entry)) c i p f (lent (now (rows .entry)) (now (warnings .entry)) (now (text .entry))) (lent (now (rows .exit)) (now (warnings .exit)) (now (text .exit))) r ⌝ }
+    requires { ⌜ Ready (now doc) c f ⌝ ∗ ⌜ i < f .rows ⌝ ∗ ⌜ PartKind (c .kind) ⌝ ∗ ⌜ p .count < f .at ⌝
+        ∗ ⌜ Classes (now classes) ⌝ }
+    ensures { λ r. ⌜ Noted (now (doc .entry)) c i p f
+        (lent (now (rows .entry)) (now (warnings .entry)) (now (text .entry)))
+        (lent (now (rows .exit)) (now (warnings .exit)) (now (text .exit))) r ⌝ }
 {
     let q = one_more(doc, c, p, f);
     match part(doc, classes, rows, warnings, text, c, i, f) {
@@ -245,8 +256,11 @@ fn definition_child(
     p: Parts,
     f: Fill,
 ) -> Inner
-    requires { ⌜ Ready (now doc) c f ⌝ ∗ ⌜ i < f .rows ⌝ ∗ ⌜ DefinitionKind kind ⌝ ∗ ⌜ p .count < f .at ⌝ ∗ ⌜ Classes (now classes) ⌝ }
-    ensures { λ r. ⌜ Child (now (doc .entry)) kind i c p f (lent (now (rows .entry)) (now (warnings .entry)) (now (text .entry))) (lent (now (rows .exit)) (now (warnings .exit)) (now (text .exit))) r ⌝ }
+    requires { ⌜ Ready (now doc) c f ⌝ ∗ ⌜ i < f .rows ⌝ ∗ ⌜ DefinitionKind kind ⌝ ∗ ⌜ p .count < f .at ⌝
+        ∗ ⌜ Classes (now classes) ⌝ }
+    ensures { λ r. ⌜ Child (now (doc .entry)) kind i c p f
+        (lent (now (rows .entry)) (now (warnings .entry)) (now (text .entry)))
+        (lent (now (rows .exit)) (now (warnings .exit)) (now (text .exit))) r ⌝ }
 {
     if holds(kind, c.kind) {
         return noted_part(doc, classes, rows, warnings, text, c, i, p, f);
@@ -270,8 +284,11 @@ fn definition_children(
     i: usize,
     f: Fill,
 ) -> Inner
-    requires { ⌜ Bounded (now doc) f ⌝ ∗ ⌜ i < f .rows ⌝ ∗ ⌜ DefinitionKind kind ⌝ ∗ ⌜ «at» + len ≤ length (now doc) ⌝ ∗ ⌜ Classes (now classes) ⌝ }
-    ensures { λ r. ⌜ Body (now (doc .entry)) kind «at» len i f (lent (now (rows .entry)) (now (warnings .entry)) (now (text .entry))) (lent (now (rows .exit)) (now (warnings .exit)) (now (text .exit))) r ⌝ }
+    requires { ⌜ Bounded (now doc) f ⌝ ∗ ⌜ i < f .rows ⌝ ∗ ⌜ DefinitionKind kind ⌝ ∗ ⌜ «at» + len ≤ length (now doc) ⌝
+        ∗ ⌜ Classes (now classes) ⌝ }
+    ensures { λ r. ⌜ Body (now (doc .entry)) kind «at» len i f
+        (lent (now (rows .entry)) (now (warnings .entry)) (now (text .entry)))
+        (lent (now (rows .exit)) (now (warnings .exit)) (now (text .exit))) r ⌝ }
 {
     let mut g = f;
     let mut p = no_parts();
@@ -321,8 +338,11 @@ fn content(
     i: usize,
     f: Fill,
 ) -> Inner
-    requires { ⌜ Bounded (now doc) f ⌝ ∗ ⌜ i < f .rows ⌝ ∗ ⌜ DefinitionKind (c .kind) ⌝ ∗ ⌜ c .at + c .len ≤ length (now doc) ⌝ ∗ ⌜ Classes (now classes) ⌝ }
-    ensures { λ r. ⌜ Content (now (doc .entry)) c i f (lent (now (rows .entry)) (now (warnings .entry)) (now (text .entry))) (lent (now (rows .exit)) (now (warnings .exit)) (now (text .exit))) r ⌝ }
+    requires { ⌜ Bounded (now doc) f ⌝ ∗ ⌜ i < f .rows ⌝ ∗ ⌜ DefinitionKind (c .kind) ⌝
+        ∗ ⌜ c .at + c .len ≤ length (now doc) ⌝ ∗ ⌜ Classes (now classes) ⌝ }
+    ensures { λ r. ⌜ Content (now (doc .entry)) c i f
+        (lent (now (rows .entry)) (now (warnings .entry)) (now (text .entry)))
+        (lent (now (rows .exit)) (now (warnings .exit)) (now (text .exit))) r ⌝ }
 {
     if c.closes {
         return Inner::Done(f, no_parts());
@@ -430,7 +450,8 @@ fn definition_row(
     f: Fill,
 ) -> Answer
     requires { ⌜ Ready (now doc) c f ⌝ ∗ ⌜ parent ≤ 1048576 ⌝ ∗ ⌜ DefinitionKind (c .kind) ⌝ }
-    ensures { λ r. ⌜ Opening (now (doc .entry)) (c .kind) c parent f (now (rows .entry)) (now (rows .exit)) (now (text .entry)) (now (text .exit)) r ⌝ }
+    ensures { λ r. ⌜ Opening (now (doc .entry)) (c .kind) c parent f (now (rows .entry)) (now (rows .exit))
+        (now (text .entry)) (now (text .exit)) r ⌝ }
 {
     if kinds::ENUM < c.kind {
         return elements::untyped_row(doc, rows, text, c, c.kind, parent, f);
@@ -450,7 +471,9 @@ fn rest(
     g: Fill,
 ) -> Answer
     requires { ⌜ Judging (now doc) c f g ⌝ ∗ ⌜ DefinitionKind (c .kind) ⌝ ∗ ⌜ Classes (now classes) ⌝ }
-    ensures { λ r. ⌜ Rest (now (doc .entry)) c f g (lent (now (rows .entry)) (now (warnings .entry)) (now (text .entry))) (lent (now (rows .exit)) (now (warnings .exit)) (now (text .exit))) r ⌝ }
+    ensures { λ r. ⌜ Rest (now (doc .entry)) c f g
+        (lent (now (rows .entry)) (now (warnings .entry)) (now (text .entry)))
+        (lent (now (rows .exit)) (now (warnings .exit)) (now (text .exit))) r ⌝ }
 {
     match content(doc, classes, rows, warnings, text, c, f.rows, g) {
         Inner::Fault(refusal) => Answer::Fault(refusal),
@@ -470,7 +493,9 @@ pub fn definition(
     f: Fill,
 ) -> Answer
     requires { ⌜ Ready (now doc) c f ⌝ ∗ ⌜ parent ≤ 1048576 ⌝ ∗ ⌜ DefinitionKind (c .kind) ⌝ ∗ ⌜ Classes (now classes) ⌝ }
-    ensures { λ r. ⌜ Begins (now (doc .entry)) (c .kind) c parent f (lent (now (rows .entry)) (now (warnings .entry)) (now (text .entry))) (lent (now (rows .exit)) (now (warnings .exit)) (now (text .exit))) r ⌝ }
+    ensures { λ r. ⌜ Begins (now (doc .entry)) (c .kind) c parent f
+        (lent (now (rows .entry)) (now (warnings .entry)) (now (text .entry)))
+        (lent (now (rows .exit)) (now (warnings .exit)) (now (text .exit))) r ⌝ }
 {
     match definition_row(doc, rows, text, c, parent, f) {
         Answer::Fault(refusal) => Answer::Fault(refusal),

@@ -214,7 +214,8 @@ fn put_all(raw: &[u8], big: bool, out: &mut [u8]) -> Put
 // Decodes what follows the mark, in a byte order.
 fn decode_ordered(raw: &[u8], big: bool, out: &mut [u8]) -> answers::TextAnswer
     requires { ⌜ 2 ≤ length (now raw) ⌝ }
-    ensures { λ r. ⌜ Says (ordered big (now (raw .entry)) (length (now (out .entry)))) (length (now (out .entry))) (now (out .exit)) r ⌝ }
+    ensures { λ r. ⌜ Says (ordered big (now (raw .entry)) (length (now (out .entry)))) (length (now (out .entry)))
+        (now (out .exit)) r ⌝ }
 {
     if 1048576 < raw.len() {
         return answers::refuse(out, 2, 1048576);

@@ -36,7 +36,8 @@ fn put_shown<'a>(
     n: usize,
 ) -> usize
     requires { ⌜ Puttable (now document) (now text) (now rows) i k (now classes) (now before) n ⌝ }
-    ensures { λ r. ⌜ ShownPut (now (document .entry)) (now (text .entry)) (now (rows .entry)) i k (now (before .entry)) n (now (out .entry)) (now (out .exit)) r ⌝ }
+    ensures { λ r. ⌜ ShownPut (now (document .entry)) (now (text .entry)) (now (rows .entry)) i k
+        (now (before .entry)) n (now (out .entry)) (now (out .exit)) r ⌝ }
 {
     let value = shown_at(document, text, rows, i, k);
     writer::put_value(out, n, before, value, classes)
@@ -53,7 +54,8 @@ fn put_annotation<'a>(
     n: usize,
 ) -> usize
     requires { ⌜ RowHeld (now document) (now text) (now rows) i ⌝ ∗ ⌜ Classes (now classes) ⌝ ∗ ⌜ n + 16777216 < 2 ^ 62 ⌝ }
-    ensures { λ r. ⌜ AnnotationPut (now (document .entry)) (now (text .entry)) (now (rows .entry)) i n (now (out .entry)) (now (out .exit)) r ⌝ }
+    ensures { λ r. ⌜ AnnotationPut (now (document .entry)) (now (text .entry)) (now (rows .entry)) i n
+        (now (out .entry)) (now (out .exit)) r ⌝ }
 {
     let named = put_shown(
         document,
@@ -92,7 +94,8 @@ fn put_if_annotation<'a>(
     n: usize,
 ) -> usize
     requires { ⌜ RowHeld (now document) (now text) (now rows) i ⌝ ∗ ⌜ Classes (now classes) ⌝ ∗ ⌜ n + 16777216 < 2 ^ 62 ⌝ }
-    ensures { λ r. ⌜ IfAnnotationPut (now (document .entry)) (now (text .entry)) (now (rows .entry)) p i n (now (out .entry)) (now (out .exit)) r ⌝ }
+    ensures { λ r. ⌜ IfAnnotationPut (now (document .entry)) (now (text .entry)) (now (rows .entry)) p i n
+        (now (out .entry)) (now (out .exit)) r ⌝ }
 {
     if children::is_child(rows, i, kinds::ANNOTATION, p) {
         return put_annotation(document, text, rows, i, classes, out, n);
@@ -113,7 +116,8 @@ fn put_annotations<'a>(
     n: usize,
 ) -> usize
     requires { ⌜ Scannable (now document) (now text) (now rows) from to (now classes) n ⌝ }
-    ensures { λ r. ⌜ AnnotationsPut (now (document .entry)) (now (text .entry)) (now (rows .entry)) p from to n (now (out .entry)) (now (out .exit)) r ⌝ }
+    ensures { λ r. ⌜ AnnotationsPut (now (document .entry)) (now (text .entry)) (now (rows .entry)) p from to n
+        (now (out .entry)) (now (out .exit)) r ⌝ }
 {
     let mut m = n;
     let mut k = from;
@@ -135,7 +139,8 @@ fn put_arg_name<'a>(
     n: usize,
 ) -> usize
     requires { ⌜ RowHeld (now document) (now text) (now rows) i ⌝ ∗ ⌜ Classes (now classes) ⌝ ∗ ⌜ CountFits n 8388608 ⌝ }
-    ensures { λ r. ⌜ PairsPut (optional (nameAt (now (document .entry)) (now (text .entry)) (now (rows .entry)) i)) n (now (out .entry)) (now (out .exit)) r ⌝ }
+    ensures { λ r. ⌜ PairsPut (optional (nameAt (now (document .entry)) (now (text .entry)) (now (rows .entry)) i)) n
+        (now (out .entry)) (now (out .exit)) r ⌝ }
 {
     if items::is_absent(items::triple(rows, i, 2)) {
         return n;
@@ -155,7 +160,8 @@ fn put_arg_type<'a>(
     n: usize,
 ) -> usize
     requires { ⌜ RowHeld (now document) (now text) (now rows) i ⌝ ∗ ⌜ Classes (now classes) ⌝ ∗ ⌜ CountFits n 8388608 ⌝ }
-    ensures { λ r. ⌜ PairsPut (typeAt (now (document .entry)) (now (text .entry)) (now (rows .entry)) i) n (now (out .entry)) (now (out .exit)) r ⌝ }
+    ensures { λ r. ⌜ PairsPut (typeAt (now (document .entry)) (now (text .entry)) (now (rows .entry)) i) n
+        (now (out .entry)) (now (out .exit)) r ⌝ }
 {
     let typed = put_shown(document, text, rows, i, 5, b" type=\"", classes, out, n);
     writer::put_text(out, typed, b"\"")
@@ -187,7 +193,8 @@ fn put_arg_tag<'a>(
     n: usize,
 ) -> usize
     requires { ⌜ RowHeld (now document) (now text) (now rows) i ⌝ ∗ ⌜ Classes (now classes) ⌝ ∗ ⌜ CountFits n 16777216 ⌝ }
-    ensures { λ r. ⌜ ArgTagPut (now (document .entry)) (now (text .entry)) (now (rows .entry)) i n (now (out .entry)) (now (out .exit)) r ⌝ }
+    ensures { λ r. ⌜ ArgTagPut (now (document .entry)) (now (text .entry)) (now (rows .entry)) i n (now (out .entry))
+        (now (out .exit)) r ⌝ }
 {
     let tagged = writer::put_text(out, n, b"<arg");
     let named = put_arg_name(document, text, rows, i, classes, out, tagged);
@@ -207,7 +214,8 @@ fn put_arg<'a>(
     n: usize,
 ) -> usize
     requires { ⌜ i < to ⌝ ∗ ⌜ Scannable (now document) (now text) (now rows) i to (now classes) n ⌝ }
-    ensures { λ r. ⌜ ArgPut (now (document .entry)) (now (text .entry)) (now (rows .entry)) i to n (now (out .entry)) (now (out .exit)) r ⌝ }
+    ensures { λ r. ⌜ ArgPut (now (document .entry)) (now (text .entry)) (now (rows .entry)) i to n (now (out .entry))
+        (now (out .exit)) r ⌝ }
 {
     let tagged = put_arg_tag(document, text, rows, i, classes, out, n);
     let p = i + 1;
@@ -233,7 +241,8 @@ fn put_if_arg<'a>(
     n: usize,
 ) -> usize
     requires { ⌜ Turn (now document) (now text) (now rows) count p ordered i (now classes) n ⌝ }
-    ensures { λ r. ⌜ IfArgPut (now (document .entry)) (now (text .entry)) (now (rows .entry)) count p i n (now (out .entry)) (now (out .exit)) r ⌝ }
+    ensures { λ r. ⌜ IfArgPut (now (document .entry)) (now (text .entry)) (now (rows .entry)) count p i n
+        (now (out .entry)) (now (out .exit)) r ⌝ }
 {
     if children::is_child(rows, i, kinds::ARG, p) {
         let to = children::last_child(rows, count, i, p, ordered);
@@ -254,8 +263,10 @@ fn put_args<'a>(
     out: &mut [u8],
     n: usize,
 ) -> usize
-    requires { ⌜ ArgsScannable (now document) (now text) (now rows) count p ordered (now classes) ⌝ ∗ ⌜ CountFits n 2305843009213693952 ⌝ }
-    ensures { λ r. ⌜ KindPut (argsIn (now (document .entry)) (now (text .entry)) (now (rows .entry)) count p p) n (now (out .entry)) (now (out .exit)) r ⌝ }
+    requires { ⌜ ArgsScannable (now document) (now text) (now rows) count p ordered (now classes) ⌝
+        ∗ ⌜ CountFits n 2305843009213693952 ⌝ }
+    ensures { λ r. ⌜ KindPut (argsIn (now (document .entry)) (now (text .entry)) (now (rows .entry)) count p p) n
+        (now (out .entry)) (now (out .exit)) r ⌝ }
 {
     let mut m = n;
     let mut k = p;
@@ -277,8 +288,10 @@ fn put_notes<'a>(
     out: &mut [u8],
     n: usize,
 ) -> usize
-    requires { ⌜ NotesScannable (now document) (now text) (now rows) count p (now classes) ⌝ ∗ ⌜ CountFits n 2305843009213693952 ⌝ }
-    ensures { λ r. ⌜ KindPut (annotationsIn (now (document .entry)) (now (text .entry)) (now (rows .entry)) p p count) n (now (out .entry)) (now (out .exit)) r ⌝ }
+    requires { ⌜ NotesScannable (now document) (now text) (now rows) count p (now classes) ⌝
+        ∗ ⌜ CountFits n 2305843009213693952 ⌝ }
+    ensures { λ r. ⌜ KindPut (annotationsIn (now (document .entry)) (now (text .entry)) (now (rows .entry)) p p count)
+        n (now (out .entry)) (now (out .exit)) r ⌝ }
 {
     put_annotations(document, text, rows, p, p, count, classes, out, n)
 }
@@ -294,7 +307,8 @@ fn put_member_tag<'a>(
     out: &mut [u8],
 ) -> usize
     requires { ⌜ RowHeld (now document) (now text) (now rows) i ⌝ ∗ ⌜ Classes (now classes) ⌝ }
-    ensures { λ r. ⌜ MemberTagPut (now (document .entry)) (now (text .entry)) (now (rows .entry)) i kind (now (out .entry)) (now (out .exit)) r ⌝ }
+    ensures { λ r. ⌜ MemberTagPut (now (document .entry)) (now (text .entry)) (now (rows .entry)) i kind
+        (now (out .entry)) (now (out .exit)) r ⌝ }
 {
     if kind == kinds::METHOD {
         return put_shown(
@@ -345,7 +359,8 @@ fn put_children<'a>(
     n: usize,
 ) -> usize
     requires { ⌜ MemberScannable (now document) (now text) (now rows) count i (now classes) ⌝ ∗ ⌜ n < 6291500 ⌝ }
-    ensures { λ r. ⌜ ChildrenPut (now (document .entry)) (now (text .entry)) (now (rows .entry)) count i n (now (out .entry)) (now (out .exit)) r ⌝ }
+    ensures { λ r. ⌜ ChildrenPut (now (document .entry)) (now (text .entry)) (now (rows .entry)) count i n
+        (now (out .entry)) (now (out .exit)) r ⌝ }
 {
     let p = i + 1;
     let ordered = children::is_ordered(rows, count, i);
@@ -365,7 +380,8 @@ fn put_member<'a>(
     out: &mut [u8],
 ) -> usize
     requires { ⌜ MemberScannable (now document) (now text) (now rows) count i (now classes) ⌝ }
-    ensures { λ r. ⌜ MemberPut (now (document .entry)) (now (text .entry)) (now (rows .entry)) count i kind (now (out .entry)) (now (out .exit)) r ⌝ }
+    ensures { λ r. ⌜ MemberPut (now (document .entry)) (now (text .entry)) (now (rows .entry)) count i kind
+        (now (out .entry)) (now (out .exit)) r ⌝ }
 {
     let tagged = put_member_tag(document, text, rows, i, kind, classes, out);
     if children::has_children(rows, i + 1, count) {
@@ -403,8 +419,10 @@ fn put_item<'a>(
     classes: &[u8; 256],
     out: &mut [u8],
 ) -> usize
-    requires { ⌜ MemberScannable (now document) (now text) (now rows) count i (now classes) ⌝ ∗ ⌜ Word (now rows) i 0 kind ⌝ ∗ ⌜ Writable kind true ⌝ }
-    ensures { λ r. ⌜ ItemPut (now (document .entry)) (now (text .entry)) (now (rows .entry)) count i (now (out .entry)) (now (out .exit)) r ⌝ }
+    requires { ⌜ MemberScannable (now document) (now text) (now rows) count i (now classes) ⌝
+        ∗ ⌜ Word (now rows) i 0 kind ⌝ ∗ ⌜ Writable kind true ⌝ }
+    ensures { λ r. ⌜ ItemPut (now (document .entry)) (now (text .entry)) (now (rows .entry)) count i
+        (now (out .entry)) (now (out .exit)) r ⌝ }
 {
     if kind == kinds::ANNOTATION {
         return put_annotation(document, text, rows, i, classes, out, 0);
@@ -425,7 +443,8 @@ fn write_sound<'a>(
     out: &mut [u8],
 ) -> TextAnswer
     requires { ⌜ Admitted (now document) (now text) (now rows) claimed ⌝ }
-    ensures { λ r. ⌜ WritesSound (now (document .entry)) (now (text .entry)) (now (rows .entry)) claimed row (now (out .entry)) (now (out .exit)) r ⌝ }
+    ensures { λ r. ⌜ WritesSound (now (document .entry)) (now (text .entry)) (now (rows .entry)) claimed row
+        (now (out .entry)) (now (out .exit)) r ⌝ }
 {
     if claimed <= row {
         return answers::refuse(out, 20, row);
@@ -450,7 +469,8 @@ pub fn write<'a>(
     row: usize,
     out: &mut [u8],
 ) -> TextAnswer
-    ensures { λ r. ⌜ Writes (now (document .entry)) (now (text .entry)) (now (rows .entry)) claimed row (length (now (out .entry))) (now (out .exit)) r ⌝ }
+    ensures { λ r. ⌜ Writes (now (document .entry)) (now (text .entry)) (now (rows .entry)) claimed row
+        (length (now (out .entry))) (now (out .exit)) r ⌝ }
 {
     if 1048576 < document.len() {
         return answers::refuse(out, 2, 1048576);

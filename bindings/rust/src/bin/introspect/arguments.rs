@@ -8,13 +8,14 @@ pub const HELP: &str = "\
 Shows, checks and lists D-Bus introspection documents.
 
   introspect show [--places] [FILE..]   the tree, then what was left out
-  introspect check [FILE..]             the places of what is wrong, and sums
+  introspect check [--strict] [FILE..]  the places of what is wrong, and sums
   introspect list [FILE]                the tables as numbers
   introspect --help | --version
 
 Without a FILE, or for -, standard input is read. After -- all are FILEs.
 
   --places   each item with its line and column
+  --strict   refuse, too, what breaks the strict profile
 
 Exit status: 0 if all was read, 1 if a document was refused, 2 if a file cannot
 be read or standard output cannot be written. Colours come only on a terminal,
@@ -30,7 +31,7 @@ pub enum Request {
 #[derive(Clone, Copy)]
 pub enum Verb {
     Show { places: bool },
-    Check,
+    Check { strict: bool },
     List,
 }
 
@@ -42,7 +43,7 @@ pub fn request(arguments: impl IntoIterator<Item = OsString>) -> Result<Request,
         Some("--help" | "-h" | "help") => return Ok(Request::Help),
         Some("--version" | "-V") => return Ok(Request::Version),
         Some("show") => Verb::Show { places: false },
-        Some("check") => Verb::Check,
+        Some("check") => Verb::Check { strict: false },
         Some("list") => Verb::List,
         _ => return Err(format!("there is no command {}", quoted(&first))),
     };
@@ -60,6 +61,9 @@ fn of_verb(mut verb: Verb, arguments: impl Iterator<Item = OsString>) -> Result<
             Some("--version" | "-V") if options => return Ok(Request::Version),
             Some("--places") if options && matches!(verb, Verb::Show { .. }) => {
                 verb = Verb::Show { places: true }
+            }
+            Some("--strict") if options && matches!(verb, Verb::Check { .. }) => {
+                verb = Verb::Check { strict: true }
             }
             Some("-") if options => inputs.push(Input::Standard),
             _ if options && argument.as_encoded_bytes().starts_with(b"-") => {

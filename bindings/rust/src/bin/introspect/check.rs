@@ -9,14 +9,19 @@ use crate::input::Input;
 use crate::paint::{plain, Paint};
 use crate::{root, Status};
 
-pub fn run(inputs: &[Input], paint: Paint, output: &mut impl Write) -> io::Result<Status> {
+pub fn run(
+    inputs: &[Input],
+    strict: bool,
+    paint: Paint,
+    output: &mut impl Write,
+) -> io::Result<Status> {
     let mut worst = Status::Read;
     let mut sums = Sums::default();
     for input in inputs {
         // what goes to standard error comes after what went before it to standard output
         output.flush()?;
         let status = match input.read() {
-            Ok(bytes) => checked(&bytes, input.name(), paint, &mut sums, output)?,
+            Ok(bytes) => checked(&bytes, strict, input.name(), paint, &mut sums, output)?,
             Err(status) => {
                 sums.unreadable += 1;
                 status
@@ -30,12 +35,18 @@ pub fn run(inputs: &[Input], paint: Paint, output: &mut impl Write) -> io::Resul
 
 fn checked(
     bytes: &[u8],
+    strict: bool,
     name: String,
     paint: Paint,
     sums: &mut Sums,
     output: &mut impl Write,
 ) -> io::Result<Status> {
-    let document = match Document::parse(bytes) {
+    let answer = if strict {
+        Document::parse_strict(bytes)
+    } else {
+        Document::parse(bytes)
+    };
+    let document = match answer {
         Ok(document) => document,
         Err(error) => {
             sums.refused += 1;

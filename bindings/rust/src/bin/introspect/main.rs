@@ -63,7 +63,7 @@ fn run(verb: Verb, inputs: &[Input], output: &mut impl Write) -> io::Result<Stat
     let paint = Paint::of(&io::stdout());
     match verb {
         Verb::Show { places } => show::run(inputs, places, paint, output),
-        Verb::Check => check::run(inputs, paint, output),
+        Verb::Check { strict } => check::run(inputs, strict, paint, output),
         Verb::List => list::run(inputs, output),
     }
 }
