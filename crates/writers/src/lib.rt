@@ -305,9 +305,10 @@ fn put_member_tag<'a>(
     kind: u32,
     classes: &[u8; 256],
     out: &mut [u8],
+    n: usize,
 ) -> usize
-    requires { ⌜ RowHeld (now document) (now text) (now rows) i ⌝ ∗ ⌜ Classes (now classes) ⌝ }
-    ensures { λ r. ⌜ MemberTagPut (now (document .entry)) (now (text .entry)) (now (rows .entry)) i kind
+    requires { ⌜ RowHeld (now document) (now text) (now rows) i ⌝ ∗ ⌜ Classes (now classes) ⌝ ∗ ⌜ n < 4294967296 ⌝ }
+    ensures { λ r. ⌜ MemberTagPut (now (document .entry)) (now (text .entry)) (now (rows .entry)) i kind n
         (now (out .entry)) (now (out .exit)) r ⌝ }
 {
     if kind == kinds::METHOD {
@@ -320,7 +321,7 @@ fn put_member_tag<'a>(
             b"<method name=\"",
             classes,
             out,
-            0,
+            n,
         );
     }
     put_shown(
@@ -332,7 +333,7 @@ fn put_member_tag<'a>(
         b"<signal name=\"",
         classes,
         out,
-        0,
+        n,
     )
 }
 
@@ -358,7 +359,7 @@ fn put_children<'a>(
     out: &mut [u8],
     n: usize,
 ) -> usize
-    requires { ⌜ MemberScannable (now document) (now text) (now rows) count i (now classes) ⌝ ∗ ⌜ n < 6291500 ⌝ }
+    requires { ⌜ MemberScannable (now document) (now text) (now rows) count i (now classes) ⌝ ∗ ⌜ CountFits n 3458764513820540928 ⌝ }
     ensures { λ r. ⌜ ChildrenPut (now (document .entry)) (now (text .entry)) (now (rows .entry)) count i n
         (now (out .entry)) (now (out .exit)) r ⌝ }
 {
@@ -378,12 +379,13 @@ fn put_member<'a>(
     kind: u32,
     classes: &[u8; 256],
     out: &mut [u8],
+    n: usize,
 ) -> usize
-    requires { ⌜ MemberScannable (now document) (now text) (now rows) count i (now classes) ⌝ }
-    ensures { λ r. ⌜ MemberPut (now (document .entry)) (now (text .entry)) (now (rows .entry)) count i kind
+    requires { ⌜ MemberScannable (now document) (now text) (now rows) count i (now classes) ⌝ ∗ ⌜ n < 4294967296 ⌝ }
+    ensures { λ r. ⌜ MemberPut (now (document .entry)) (now (text .entry)) (now (rows .entry)) count i kind n
         (now (out .entry)) (now (out .exit)) r ⌝ }
 {
-    let tagged = put_member_tag(document, text, rows, i, kind, classes, out);
+    let tagged = put_member_tag(document, text, rows, i, kind, classes, out, n);
     if children::has_children(rows, i + 1, count) {
         let opened = writer::put_text(out, tagged, b"\">");
         let inside = put_children(document, text, rows, count, i, classes, out, opened);
@@ -418,19 +420,20 @@ fn put_item<'a>(
     kind: u32,
     classes: &[u8; 256],
     out: &mut [u8],
+    n: usize,
 ) -> usize
     requires { ⌜ MemberScannable (now document) (now text) (now rows) count i (now classes) ⌝
-        ∗ ⌜ Word (now rows) i 0 kind ⌝ ∗ ⌜ Writable kind true ⌝ }
-    ensures { λ r. ⌜ ItemPut (now (document .entry)) (now (text .entry)) (now (rows .entry)) count i
+        ∗ ⌜ Word (now rows) i 0 kind ⌝ ∗ ⌜ Writable kind true ⌝ ∗ ⌜ n < 4294967296 ⌝ }
+    ensures { λ r. ⌜ ItemPut (now (document .entry)) (now (text .entry)) (now (rows .entry)) count i n
         (now (out .entry)) (now (out .exit)) r ⌝ }
 {
     if kind == kinds::ANNOTATION {
-        return put_annotation(document, text, rows, i, classes, out, 0);
+        return put_annotation(document, text, rows, i, classes, out, n);
     }
     if kind == kinds::ARG {
-        return put_arg(document, text, rows, i, count, classes, out, 0);
+        return put_arg(document, text, rows, i, count, classes, out, n);
     }
-    put_member(document, text, rows, count, i, kind, classes, out)
+    put_member(document, text, rows, count, i, kind, classes, out, n)
 }
 
 // A row of sound rows: 20 where there is no such row or its kind is not written, 21 where there is no room.
@@ -452,7 +455,7 @@ fn write_sound<'a>(
     let kind = items::word(rows, row, 0);
     if is_writable(kind) {
         let classes = scan::classes();
-        let n = put_item(document, text, rows, claimed, row, kind, &classes, out);
+        let n = put_item(document, text, rows, claimed, row, kind, &classes, out, 0);
         return answers::finish(out, n, 21, n);
     }
     answers::refuse(out, 20, row)
