@@ -61,11 +61,11 @@ drop-map f zero l = refl
 drop-map f (suc i) [] = refl
 drop-map f (suc i) (a ∷ l) = drop-map f i l
 
-content-is : (d x ws : List ℕ) (m i : ℕ) → i < m → contentAt d x ws m i ≡ itemOf (rowsShown d x ws m) i (rowAt d x ws i)
+pub content-is : (d x ws : List ℕ) (m i : ℕ) → i < m → contentAt d x ws m i ≡ itemOf (rowsShown d x ws m) i (rowAt d x ws i)
 unfolding content
 content-is d x ws m i h = ap (firstItem (rowsShown d x ws m) i) (drop-map (viewed d x) i (rowsOf m ws) ∙ ap (map (viewed d x)) (row-at m i ws h))
 
-content-past : (d x ws : List ℕ) (m i : ℕ) → m ≤ i → contentAt d x ws m i ≡ none
+pub content-past : (d x ws : List ℕ) (m i : ℕ) → m ≤ i → contentAt d x ws m i ≡ none
 unfolding content
 content-past d x ws m i h =
     let l : length (rowsOf m ws) ≤ i = omega (arith, h, length-rowsOf m ws) in
@@ -161,7 +161,7 @@ writable-true y e = record { is = sym e ∙ y .is }
 
 -- sound rows are held
 module _ {d x ws : List ℕ} {n : ℕ} (h : Admitted d x ws n) where
-  admitted-rows : Held ws n
+  pub admitted-rows : Held ws n
   admitted-rows = record { few = sound-claimed d x ws n (h .rows); held = sound-held d x ws n (h .rows); parents = λ k l. sound-parent d x ws n (h .rows) k l }
 
   module _ {i : ℕ} (l : i < n) where

@@ -241,17 +241,17 @@ member-within h = h .within
 pub ruleset inner = (member-args, member-notes, children-put, first-inside, next-inside, member-held, member-within, needs)
 
 -- the args of row i are those among the rows after it
-clear-args : (d x ws : List ℕ) (t : List Row) (p i a : ℕ) → Clear ws p i a → args t p i (rowsIn d x ws i a) ≡ []
+pub clear-args : (d x ws : List ℕ) (t : List Row) (p i a : ℕ) → Clear ws p i a → args t p i (rowsIn d x ws i a) ≡ []
 clear-args d x ws t p i zero h = refl
 clear-args d x ws t p i (suc a) h =
     ap (args t p i) (shown-one d x ws i a)
     ∙ ap (λ b. if b (argOf t i (rowAt d x ws i) ∷ args t p (suc i) (rowsIn d x ws (suc i) a)) (args t p (suc i) (rowsIn d x ws (suc i) a))) (no-child d x ws 7 p i h)
     ∙ clear-args d x ws t p (suc i) a (later-clear h)
 
-length-rows : (d x ws : List ℕ) (i a : ℕ) → length (rowsIn d x ws i a) ≡ a
+pub length-rows : (d x ws : List ℕ) (i a : ℕ) → length (rowsIn d x ws i a) ≡ a
 length-rows d x ws i a = length-map (wordsIn ws i a) (viewed d x) ∙ length-rowsOf a (drop (i * 16) ws)
 
-own-args : (d x ws : List ℕ) (m i : ℕ) → Held ws m → i < m → args (rowsShown d x ws m) (suc i) 0 (rowsShown d x ws m) ≡ args (rowsShown d x ws m) (suc i) (suc i) (rowsIn d x ws (suc i) (m - suc i))
+pub own-args : (d x ws : List ℕ) (m i : ℕ) → Held ws m → i < m → args (rowsShown d x ws m) (suc i) 0 (rowsShown d x ws m) ≡ args (rowsShown d x ws m) (suc i) (suc i) (rowsIn d x ws (suc i) (m - suc i))
 own-args d x ws m i h l =
     let table = rowsShown d x ws m in
     let a = m - suc i in
@@ -269,7 +269,7 @@ any-arg d x t p i (r ∷ rs) = go (isChild kinds.arg p (r .kind) (r .parent)) (a
     go true e = refl
     go false e = e
 
-concat-append : (l r : List (List ℕ)) → concat (l ++ r) ≡ concat l ++ concat r
+pub concat-append : (l r : List (List ℕ)) → concat (l ++ r) ≡ concat l ++ concat r
 concat-append [] r = refl
 concat-append (c ∷ l) r = ap (_++_ c) (concat-append l r) ∙ sym (append-assoc c (concat l) (concat r))
 
