@@ -1,0 +1,2 @@
+-- Laws of docstrings.
+-- Assumes nothing.
