@@ -8,7 +8,7 @@ ghost use Rattle.soundness.specs.Outcome.{Placed, Front, Back, RowSound,
 
 mod kinds;
 mod members;
-mod order;
+pub mod order;
 mod texts;
 
 // What a check says: the rows are sound, or the place of refusal 19.

@@ -4,4 +4,5 @@ pub mod Trees
 pub mod Shape
 pub mod Written
 pub mod Writing
+pub mod Steps
 pub mod Cases

@@ -1,0 +1,185 @@
+// The bytes of one element: its start tag up to its end, its docstring, its closing tag.
+use document::kinds;
+ghost use Prim.Native.Nat.{_+_, _<_, _^_};
+ghost use Rattle.trees.specs.Steps.{Puttable, StartPut, DocstringPut, ClosePut};
+
+// A part of the texts below.
+pub struct Part {
+    pub from: usize,
+    pub to: usize,
+}
+
+// Where the name of the tag of a kind stands in "nodeinterfacemethodpropertysignalannotationargtp:simple-typetp:enumtp:enumvaluetp:structtp:membertp:mapping".
+fn tag_part(kind: u32) -> Part {
+    match kind {
+        kinds::NODE => Part { from: 0, to: 4 },
+        kinds::INTERFACE => Part { from: 4, to: 13 },
+        kinds::METHOD => Part { from: 13, to: 19 },
+        kinds::PROPERTY => Part { from: 19, to: 27 },
+        kinds::SIGNAL => Part { from: 27, to: 33 },
+        kinds::ANNOTATION => Part { from: 33, to: 43 },
+        kinds::ARG => Part { from: 43, to: 46 },
+        kinds::SIMPLE_TYPE => Part { from: 46, to: 60 },
+        kinds::ENUM => Part { from: 60, to: 67 },
+        kinds::ENUMVALUE => Part { from: 67, to: 79 },
+        kinds::STRUCT => Part { from: 79, to: 88 },
+        kinds::MEMBER => Part { from: 88, to: 97 },
+        _ => Part { from: 97, to: 107 },
+    }
+}
+
+// The name of the tag of a kind, after some bytes.
+fn put_name(kind: u32, before: &[u8], out: &mut [u8], n: usize) -> usize {
+    let names =
+        b"nodeinterfacemethodpropertysignalannotationargtp:simple-typetp:enumtp:enumvaluetp:structtp:membertp:mapping";
+    let part = tag_part(kind);
+    let from = part.from;
+    let to = part.to;
+    let begun = writer::put_text(out, n, before);
+    writer::put_text(out, begun, &names[from..to])
+}
+
+// An attribute whose value is the triple from word k on of row i, if it is there; `before` ends in its opening quote.
+fn put_attribute<'a>(
+    document: &'a [u8],
+    text: &'a [u8],
+    rows: &[u32],
+    i: usize,
+    k: usize,
+    before: &[u8],
+    classes: &[u8; 256],
+    out: &mut [u8],
+    n: usize,
+) -> usize {
+    let t = items::triple(rows, i, k);
+    if items::is_absent(t) {
+        return n;
+    }
+    let value = tables::lookup(document, text, t);
+    let put = writer::put_value(out, n, before, value, classes);
+    writer::put_text(out, put, b"\"")
+}
+
+// Where the key of words 2-4, or of words 5-7, stands in " name=\" suffix=\" type=\" value=\"".
+fn name_part(kind: u32) -> Part {
+    if kind == kinds::ENUMVALUE {
+        return Part { from: 7, to: 16 };
+    }
+    Part { from: 0, to: 7 }
+}
+
+fn value_part(kind: u32) -> Part {
+    match kind {
+        kinds::ANNOTATION => Part { from: 23, to: 31 },
+        kinds::ENUMVALUE => Part { from: 23, to: 31 },
+        _ => Part { from: 16, to: 23 },
+    }
+}
+
+// Where word 14 of a property or an arg stands, as an attribute, in " access=\"read\" access=\"write\" access=\"readwrite\" direction=\"in\" direction=\"out\"".
+fn word_part(kind: u32, word: u32) -> Part {
+    match kind {
+        kinds::PROPERTY => match word {
+            1 => Part { from: 0, to: 14 },
+            2 => Part { from: 14, to: 29 },
+            _ => Part { from: 29, to: 48 },
+        },
+        kinds::ARG => match word {
+            0 => Part { from: 0, to: 0 },
+            1 => Part { from: 48, to: 63 },
+            _ => Part { from: 63, to: 79 },
+        },
+        _ => Part { from: 0, to: 0 },
+    }
+}
+
+// Word 14 of row i as an attribute, if there is one.
+fn put_word(rows: &[u32], i: usize, kind: u32, out: &mut [u8], n: usize) -> usize {
+    let words =
+        b" access=\"read\" access=\"write\" access=\"readwrite\" direction=\"in\" direction=\"out\"";
+    let part = word_part(kind, items::word(rows, i, 14));
+    let from = part.from;
+    let to = part.to;
+    writer::put_text(out, n, &words[from..to])
+}
+
+// The start tag of row i, up to its end.
+pub fn put_start<'a>(
+    document: &'a [u8],
+    text: &'a [u8],
+    rows: &[u32],
+    n: usize,
+    i: usize,
+    classes: &[u8; 256],
+    out: &mut [u8],
+    put: usize,
+) -> usize
+    requires { ⌜ Puttable (now document) (now text) (now rows) n i (now classes) put ⌝ }
+    ensures { λ r. ⌜ StartPut (now (document .entry)) (now (text .entry)) (now (rows .entry)) i put (now (out .entry)) (now (out .exit)) r ⌝ }
+{
+    let kind = items::word(rows, i, 0);
+    let keys = b" name=\" suffix=\" type=\" value=\"";
+    let name = name_part(kind);
+    let value = value_part(kind);
+    let a = name.from;
+    let b = name.to;
+    let c = value.from;
+    let d = value.to;
+    let tagged = put_name(kind, b"<", out, put);
+    let named = put_attribute(
+        document,
+        text,
+        rows,
+        i,
+        2,
+        &keys[a..b],
+        classes,
+        out,
+        tagged,
+    );
+    let valued = put_attribute(document, text, rows, i, 5, &keys[c..d], classes, out, named);
+    let typed = put_attribute(
+        document,
+        text,
+        rows,
+        i,
+        8,
+        b" tp:type=\"",
+        classes,
+        out,
+        valued,
+    );
+    put_word(rows, i, kind, out, typed)
+}
+
+// The docstring of row i, unless it is empty.
+pub fn put_docstring<'a>(
+    document: &'a [u8],
+    text: &'a [u8],
+    rows: &[u32],
+    n: usize,
+    i: usize,
+    classes: &[u8; 256],
+    out: &mut [u8],
+    put: usize,
+) -> usize
+    requires { ⌜ Puttable (now document) (now text) (now rows) n i (now classes) put ⌝ }
+    ensures { λ r. ⌜ DocstringPut (now (document .entry)) (now (text .entry)) (now (rows .entry)) i put (now (out .entry)) (now (out .exit)) r ⌝ }
+{
+    let t = items::triple(rows, i, 11);
+    if t.len == 0 {
+        return put;
+    }
+    let begun = writer::put_text(out, put, b"<tp:docstring>");
+    let told = writer::put_text(out, begun, tables::lookup(document, text, t));
+    writer::put_text(out, told, b"</tp:docstring>")
+}
+
+// The closing tag of a kind.
+pub fn put_close(kind: u32, out: &mut [u8], put: usize) -> usize
+    requires { ⌜ put + 33554432 < 2 ^ 62 ⌝ }
+    ensures { λ r. ⌜ ClosePut kind put (now (out .entry)) (now (out .exit)) r ⌝ }
+{
+    let named = put_name(kind, b"</", out, put);
+    writer::put_text(out, named, b">")
+}
