@@ -17,9 +17,9 @@ use Rattle.items.specs.Order.{DocumentOrder}
 use Rattle.items.specs.Written.{pairs, closingTag, concat}
 use Rattle.trees.specs.Shape.{types, args, members, annotations, nodes}
 use Rattle.trees.specs.Written.{elementAt, tagOf, attributes, docstrings}
-use Rattle.trees.specs.declared.Found.{Found}
-use Rattle.trees.specs.declared.Found.the-variants.{At, Nothing}
-use Rattle.trees.specs.declared.Standing.{Standing}
+use Rattle.trees.specs.declared.children.Found.{Found}
+use Rattle.trees.specs.declared.children.Found.the-variants.{At, Nothing}
+use Rattle.trees.specs.declared.children.Standing.{Standing}
 
 -- the groups by their numbers
 abbrev pub groupKinds : ℕ → List ℕ
@@ -60,7 +60,7 @@ NodesLast ws n =
 -- how the rows stand
 pub record Stands (ws : List ℕ) (n : ℕ) (s : Standing) : Type 0 where
   pub ordered : s .ordered ≡ true → DocumentOrder ws n
-  pub last : s .nodes_last ≡ true → NodesLast ws n
+  pub last : s .nodes-last ≡ true → NodesLast ws n
 
 -- whether row k is a child of row i in group g
 abbrev pub childIn : List ℕ → ℕ → ℕ → ℕ → Bool

@@ -28,25 +28,34 @@ fn tag_part(kind: u32) -> Part {
     }
 }
 
-// The name of the tag of a kind, after some bytes.
-fn put_name(kind: u32, before: &[u8], out: &mut [u8], n: usize) -> usize {
-    let names =
-        b"nodeinterfacemethodpropertysignalannotationargtp:simple-typetp:enumtp:enumvaluetp:structtp:membertp:mapping";
-    let part = tag_part(kind);
+// A part of some texts.
+fn put_part(texts: &[u8], part: Part, out: &mut [u8], n: usize) -> usize {
     let from = part.from;
     let to = part.to;
-    let begun = writer::put_text(out, n, before);
-    writer::put_text(out, begun, &names[from..to])
+    writer::put_text(out, n, &texts[from..to])
 }
 
-// An attribute whose value is the triple from word k on of row i, if it is there; `before` ends in its opening quote.
+// The name of the tag of a kind, after some bytes.
+fn put_name(kind: u32, before: &[u8], out: &mut [u8], n: usize) -> usize {
+    let part = tag_part(kind);
+    let begun = writer::put_text(out, n, before);
+    put_part(
+        b"nodeinterfacemethodpropertysignalannotationargtp:simple-typetp:enumtp:enumvaluetp:structtp:membertp:mapping",
+        part,
+        out,
+        begun,
+    )
+}
+
+// An attribute whose value is the triple from word k on of row i, if it is there; its space, key, `=` and quote are a part of the keys.
 fn put_attribute<'a>(
     document: &'a [u8],
     text: &'a [u8],
     rows: &[u32],
     i: usize,
     k: usize,
-    before: &[u8],
+    keys: &[u8],
+    part: Part,
     classes: &[u8; 256],
     out: &mut [u8],
     n: usize,
@@ -56,11 +65,12 @@ fn put_attribute<'a>(
         return n;
     }
     let value = tables::lookup(document, text, t);
-    let put = writer::put_value(out, n, before, value, classes);
+    let keyed = put_part(keys, part, out, n);
+    let put = writer::put_value(out, keyed, b"", value, classes);
     writer::put_text(out, put, b"\"")
 }
 
-// Where the key of words 2-4, or of words 5-7, stands in " name=\" suffix=\" type=\" value=\"".
+// Where the key of words 2-4, or of words 5-7, stands in " name=\" suffix=\" type=\" value=\" tp:type=\"".
 fn name_part(kind: u32) -> Part {
     if kind == kinds::ENUMVALUE {
         return Part { from: 7, to: 16 };
@@ -95,12 +105,63 @@ fn word_part(kind: u32, word: u32) -> Part {
 
 // Word 14 of row i as an attribute, if there is one.
 fn put_word(rows: &[u32], i: usize, kind: u32, out: &mut [u8], n: usize) -> usize {
-    let words =
-        b" access=\"read\" access=\"write\" access=\"readwrite\" direction=\"in\" direction=\"out\"";
     let part = word_part(kind, items::word(rows, i, 14));
-    let from = part.from;
-    let to = part.to;
-    writer::put_text(out, n, &words[from..to])
+    put_part(
+        b" access=\"read\" access=\"write\" access=\"readwrite\" direction=\"in\" direction=\"out\"",
+        part,
+        out,
+        n,
+    )
+}
+
+// The attributes of row i but for word 14, each by its part of the keys.
+fn put_attributes<'a>(
+    document: &'a [u8],
+    text: &'a [u8],
+    rows: &[u32],
+    i: usize,
+    kind: u32,
+    keys: &[u8],
+    classes: &[u8; 256],
+    out: &mut [u8],
+    n: usize,
+) -> usize {
+    let named = put_attribute(
+        document,
+        text,
+        rows,
+        i,
+        2,
+        keys,
+        name_part(kind),
+        classes,
+        out,
+        n,
+    );
+    let valued = put_attribute(
+        document,
+        text,
+        rows,
+        i,
+        5,
+        keys,
+        value_part(kind),
+        classes,
+        out,
+        named,
+    );
+    put_attribute(
+        document,
+        text,
+        rows,
+        i,
+        8,
+        keys,
+        Part { from: 31, to: 41 },
+        classes,
+        out,
+        valued,
+    )
 }
 
 // The start tag of row i, up to its end.
@@ -118,38 +179,19 @@ pub fn put_start<'a>(
     ensures { λ r. ⌜ StartPut (now (document .entry)) (now (text .entry)) (now (rows .entry)) i put (now (out .entry)) (now (out .exit)) r ⌝ }
 {
     let kind = items::word(rows, i, 0);
-    let keys = b" name=\" suffix=\" type=\" value=\"";
-    let name = name_part(kind);
-    let value = value_part(kind);
-    let a = name.from;
-    let b = name.to;
-    let c = value.from;
-    let d = value.to;
     let tagged = put_name(kind, b"<", out, put);
-    let named = put_attribute(
+    let told = put_attributes(
         document,
         text,
         rows,
         i,
-        2,
-        &keys[a..b],
+        kind,
+        b" name=\" suffix=\" type=\" value=\" tp:type=\"",
         classes,
         out,
         tagged,
     );
-    let valued = put_attribute(document, text, rows, i, 5, &keys[c..d], classes, out, named);
-    let typed = put_attribute(
-        document,
-        text,
-        rows,
-        i,
-        8,
-        b" tp:type=\"",
-        classes,
-        out,
-        valued,
-    );
-    put_word(rows, i, kind, out, typed)
+    put_word(rows, i, kind, out, told)
 }
 
 // The docstring of row i, unless it is empty.
