@@ -60,7 +60,7 @@ NodesLast ws n =
 -- how the rows stand
 pub record Stands (ws : List ℕ) (n : ℕ) (s : Standing) : Type 0 where
   pub ordered : s .ordered ≡ true → DocumentOrder ws n
-  pub last : s .nodes-last ≡ true → NodesLast ws n
+  pub last : s .last ≡ true → NodesLast ws n
 
 -- whether row k is a child of row i in group g
 abbrev pub childIn : List ℕ → ℕ → ℕ → ℕ → Bool

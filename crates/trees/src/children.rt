@@ -10,7 +10,7 @@ ghost use Rattle.trees.specs.Steps.{groupOf, Held, Stands, Sought, Next,
 // How the rows stand: in document order; and so that after a node no other child of the same node follows.
 pub struct Standing {
     pub ordered: bool,
-    pub nodes_last: bool,
+    pub last: bool,
 }
 
 // The group in which rows of a kind are written: 0 types, 1 args, 2 members, 3 annotations, 4 nodes.
@@ -56,7 +56,7 @@ pub fn rows_stand<'a>(document: &'a [u8], text: &'a [u8], rows: &[u32], n: usize
 {
     Standing {
         ordered: soundness::order::in_document_order(rows, n),
-        nodes_last: nodes_stand_last(rows, n),
+        last: nodes_stand_last(rows, n),
     }
 }
 
@@ -74,7 +74,7 @@ fn is_past(rows: &[u32], i: usize, group: u32, k: usize, s: Standing) -> bool {
             return true;
         }
     }
-    if s.nodes_last {
+    if s.last {
         if parent == i + 1 {
             if items::word(rows, k, 0) == kinds::NODE {
                 return group < 4;
