@@ -3,7 +3,7 @@
 use Prim.Native.Nat.{ℕ, zero, suc, _+_, _*_, _≤_, _<_}
 use native.Mathlib.Omega.{arith}
 use mathlib.Core.Path.{_≡_, refl, sym, ap, _∙_}
-use mathlib.Core.List.{List, [], _∷_, _++_, map, append-assoc, append-nil}
+use mathlib.Core.List.{List, [], _∷_, _++_, map, map-append, append-assoc, append-nil}
 use mathlib.Core.Option.{Option, none, some}
 use mathlib.Core.Bool.{Bool, true, false, _&&_, and-true, and-false}
 use borrow.Author.Tests.{eq-eqb, ne-eqb}
@@ -147,10 +147,6 @@ mutual
 
 abbrev linkIn : Row → Link
 linkIn r = record { kind = r .kind; parent = r .parent }
-
-map-append : {A B : Type 0} (g : A → B) (l m : List A) → map g (l ++ m) ≡ map g l ++ map g m
-map-append g [] m = refl
-map-append g (a ∷ l) m = ap (_∷_ (g a)) (map-append g l m)
 
 mutual
   flat-links : (t : Tree Element) (p i at : ℕ) → map linkIn (flat p i at t) ≡ record { kind = kindIn t; parent = p } ∷ inner i t
