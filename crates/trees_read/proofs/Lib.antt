@@ -4,3 +4,4 @@ pub mod Good
 pub mod Flat
 pub mod Regrown
 pub mod Depth
+pub mod SoundTrees
