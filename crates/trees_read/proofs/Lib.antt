@@ -5,3 +5,4 @@ pub mod Flat
 pub mod Regrown
 pub mod Depth
 pub mod SoundTrees
+pub mod Sizes

@@ -36,11 +36,11 @@ not-both : false ≡ true → ⊥
 not-both e = let z : _≡_ {A = ℕ} 0 1 = cc in omega arith
 
 -- no kind of js is one of ks
-abbrev Apart : List ℕ → List ℕ → Type 0
+abbrev pub Apart : List ℕ → List ℕ → Type 0
 Apart ks [] = Unit {0}
 Apart ks (j ∷ js) = (among j ks ≡ false) × Apart ks js
 
-apart : (ks js : List ℕ) → Apart ks js → (k : ℕ) → among k js ≡ true → among k ks ≡ false
+pub apart : (ks js : List ℕ) → Apart ks js → (k : ℕ) → among k js ≡ true → among k ks ≡ false
 apart ks [] a k h = absurd (not-both h)
 apart ks (j ∷ js) a k h = go (eqb k j) refl (apart ks js (a .1) k) h
   where
