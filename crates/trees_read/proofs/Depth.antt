@@ -1,15 +1,14 @@
 -- No node of a good tree is too deep.
 -- Assumes nothing.
 use Prim.Native.Nat.{ℕ, suc}
-use mathlib.Core.Path.{_≡_, refl, sym, ap, _∙_}
+use mathlib.Core.Path.{_≡_, refl, ap, _∙_}
 use mathlib.Core.Option.{Option, none, some}
-use mathlib.Core.Bool.{Bool, true, false, _&&_}
-use lib.Dec.{eqb, leb}
+use mathlib.Core.Bool.{Bool, true, false}
+use lib.Dec.{leb}
 use Rattle.slices.specs.Bytes.{if}
-use Rattle.document.specs.Kinds as kinds
 use Rattle.trees.specs.Trees.{Tree, tree, Forest, bare, more, mapTree, mapForest}
 use Rattle.trees.specs.Written.{Element}
-use Rattle.trees.specs.Writing.{isOpen, isOpenNode, first, tooDeep, tooDeeps}
+use Rattle.trees.specs.Writing.{isOpenNode, first, tooDeep, tooDeeps}
 use Rattle.trees_read.proofs.Good.{Good, Goods, openIn}
 
 pub open-map : (e : ℕ → Element) (x : Element) (f : Forest ℕ) → isOpenNode x (mapForest e f) ≡ isOpenNode x f

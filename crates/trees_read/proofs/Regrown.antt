@@ -1,6 +1,6 @@
 -- The rows that a written tree is read as give the tree again.
 -- Assumes nothing.
-use Prim.Native.Nat.{ℕ, zero, suc, _+_, _*_, _≤_, _<_}
+use Prim.Native.Nat.{ℕ, zero, suc, _+_, _*_, _≤_}
 use native.Mathlib.Omega.{arith}
 use mathlib.Core.Path.{_≡_, refl, sym, ap, _∙_}
 use mathlib.Core.List.{List, [], _∷_, _++_, map, map-append, append-assoc, append-nil}
@@ -12,13 +12,12 @@ use lib.ListN.{length, take, drop, length-append}
 use lib.Seq.{drop-drop, drop-nil, drop-at, take-append-seam}
 use Rattle.slices.specs.Bytes.{if, empty}
 use Rattle.document.specs.Elements.{among}
-use Rattle.items.specs.Words.{RowWords, rowOf, rowsOf, viewed, rowsShown}
+use Rattle.items.specs.Words.{rowOf, viewed, rowsShown}
 use Rattle.items.specs.View.{over}
 use Rattle.items.specs.Content.{Row}
 use Rattle.items.specs.Written.{Pair, tag, closingTag, concat, element}
-use Rattle.docstrings.specs.Passable.{Passable}
 use Rattle.trees.specs.Trees.{Tree, tree, Forest, bare, more, joined, mapTree, mapForest, size, sizes}
-use Rattle.trees.specs.Shape.{Link, linkOf, linksOf, grouped, chosen, stands, forest, under, shapeAt, types, args, members, annotations, nodes}
+use Rattle.trees.specs.Shape.{Link, linkOf, linksOf, grouped, chosen, forest, under, shapeAt, types, args, members, annotations, nodes}
 use Rattle.trees.specs.Written.{Element, elementOf, elementAt, docstring, treeAt, tagOf, attributes, docTag, docstrings, writtenTree, writtenForest}
 use Rattle.trees_read.proofs.Good.{Good, Goods, Fit, Documented, kindIn, ofKinds, anyTree, openIn}
 use Rattle.trees_read.proofs.Flat.{contentAt, docAt, rowFor, flat, flats}

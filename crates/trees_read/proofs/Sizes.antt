@@ -2,9 +2,9 @@
 -- Assumes nothing.
 use Prim.Native.Nat.{ℕ, zero, suc, _+_, _≤_, _<_}
 use native.Mathlib.Omega.{arith}
-use mathlib.Core.Path.{_≡_, refl, sym, ap, _∙_}
-use mathlib.Core.List.{List, [], _∷_, map}
-use mathlib.Core.Bool.{Bool, true, false, _&&_, and-false}
+use mathlib.Core.Path.{_≡_, refl, ap}
+use mathlib.Core.List.{List, [], _∷_}
+use mathlib.Core.Bool.{Bool, true, false, and-false}
 use borrow.Author.Tests.{eqb-true, ne-eqb}
 use lib.Dec.{eqb}
 use lib.ListN.{length, drop, length-map}
@@ -13,8 +13,8 @@ use Rattle.document.specs.Elements.{among}
 use Rattle.items.specs.Words.{rowsOf}
 use Rattle.items.proofs.Rows.{length-rowsOf}
 use Rattle.trees.specs.Trees.{Tree, tree, Forest, bare, more, joined, mapTree, mapForest, size, sizes}
-use Rattle.trees.specs.Shape.{Link, linkOf, linksOf, grouped, chosen, stands, forest, shapeAt, types, args, members, annotations, nodes}
-use Rattle.trees.specs.Written.{Element, elementAt, treeAt}
+use Rattle.trees.specs.Shape.{Link, linkOf, linksOf, grouped, stands, forest, shapeAt, types, args, members, annotations, nodes}
+use Rattle.trees.specs.Written.{elementAt, treeAt}
 use Rattle.trees_read.proofs.SoundTrees.{Apart, apart}
 
 mutual

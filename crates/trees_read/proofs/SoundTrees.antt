@@ -3,12 +3,12 @@
 use Prim.Native.Nat.{ℕ, zero, suc, _+_, _*_, _-_, _≤_, _<_}
 use native.Mathlib.Omega.{arith}
 use mathlib.Core.Path.{_≡_, refl, sym, ap, _∙_, subst}
-use mathlib.Core.List.{List, [], _∷_, _++_, map}
+use mathlib.Core.List.{List, [], _∷_, map}
 use mathlib.Core.Option.{Option, none, some}
 use mathlib.Core.Bool.{Bool, true, false, not, _&&_, and-false}
-use borrow.Author.Tests.{eqb-true, eq-eqb, ne-eqb, not-true}
+use borrow.Author.Tests.{eqb-true, ne-eqb, not-true}
 use lib.Dec.{eqb, leb, ltb}
-use lib.ListN.{length, take, drop, getD}
+use lib.ListN.{drop, getD}
 use lib.Seq.{drop-drop}
 use Rattle.slices.specs.Bytes.{if}
 use Rattle.slices.proofs.Runs.{and-both}
@@ -18,16 +18,16 @@ use Rattle.tables.specs.Triple as triples
 use Rattle.tables.specs.declared.Triple.{Triple}
 use Rattle.document.specs.Kinds as kinds
 use Rattle.document.specs.Elements.{among, heldBy, mayHold}
-use Rattle.items.specs.Words.{RowWords, absent, rowOf, rowsOf, shownBy, viewed, isChild}
+use Rattle.items.specs.Words.{RowWords, absent, rowOf, rowsOf, shownBy}
 use Rattle.items.specs.Sound.{Use, nameUse, valueUse, tpUse, validName, validValue, anyText, kindAt, placed, goodTriple, membersOf, anyMember, keyed, counted, sound, soundness}
 use Rattle.items.specs.Content.{present}
 use Rattle.items.proofs.Rows.{RowIs, kind-at, row-word, row-parts, sound-row, before-it, both-true}
 use Rattle.trees.specs.Trees.{Tree, tree, Forest, bare, more, joined, mapTree, mapForest}
-use Rattle.trees.specs.Shape.{Link, linkOf, linksOf, grouped, chosen, stands, forest, under, shapeAt, types, args, members, annotations, nodes}
+use Rattle.trees.specs.Shape.{Link, linkOf, linksOf, grouped, chosen, forest, shapeAt, types, args, members, annotations, nodes}
 use Rattle.trees.specs.Written.{Element, elementAt, treeAt}
-use Rattle.trees.specs.Writing.{isOpen, isOpenNode, first, tooDeep, tooDeeps}
-use Rattle.trees_read.proofs.Good.{Good, Goods, Fit, Fitting, Documented, kindIn, ofKinds, valueIn, anyTree, keyedIn, complete, openIn}
-use Rattle.trees_read.proofs.Regrown.{joined-bare, map-joined, map-grouped}
+use Rattle.trees.specs.Writing.{isOpenNode, first, tooDeep, tooDeeps}
+use Rattle.trees_read.proofs.Good.{Good, Goods, Fit, Fitting, Documented, kindIn, ofKinds, anyTree, keyedIn, complete, openIn}
+use Rattle.trees_read.proofs.Regrown.{joined-bare, map-grouped}
 use Rattle.trees_read.proofs.Depth.{open-map}
 
 -- ---- kinds
