@@ -2,3 +2,7 @@
 -- Assumes nothing.
 pub mod Good
 pub mod Flat
+pub mod Regrown
+pub mod Depth
+pub mod SoundTrees
+pub mod Sizes
