@@ -2,3 +2,6 @@
 -- Assumes nothing.
 pub mod Good
 pub mod Flat
+pub mod Runs
+pub mod Shapes
+pub mod Entering
