@@ -5,3 +5,4 @@ pub mod Flat
 pub mod Runs
 pub mod Shapes
 pub mod Entering
+pub mod Frames

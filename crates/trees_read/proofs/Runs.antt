@@ -48,10 +48,10 @@ module _ (doc : List ℕ) (at : ℕ) where
 -- ---- a docstring, in an element whose row is i
 
 -- where its bytes begin
-abbrev textAt : ℕ → ℕ
+abbrev pub textAt : ℕ → ℕ
 textAt at = at + length (tag docTag [] false)
 
-abbrev catching : ℕ → ℕ → Frame
+abbrev pub catching : ℕ → ℕ → Frame
 catching at i = passing (captures (textAt at) i) (nameFrom at docTag ∷ [])
 
 -- its bytes lead to its closing tag
@@ -85,7 +85,7 @@ pub documented-last : (d : Doc) (rs : List Row) (r : Row) → documented (length
 documented-last d [] r = refl
 documented-last d (x ∷ rs) r = ap (_∷_ x) (documented-last d rs r)
 
-abbrev written : List ℕ → List ℕ
+abbrev pub written : List ℕ → List ℕ
 written s = tag docTag [] false ++ (s ++ closingTag docTag)
 
 -- all of it, if its start tag opens it
