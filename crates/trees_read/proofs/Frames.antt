@@ -148,7 +148,7 @@ module _ (doc : List ℕ) where
   parent-framed false k n a i p fs = refl
 
   -- a docstring's start tag
-  docstring-start : (b : Bool) (k : ℕ) (n : reading.Name) (a i : ℕ) (p : Parts) (fs : List Frame) (rs : List Row) (at : ℕ) → eqb k kinds.annotation ≡ false → step keeps doc (inside (framedBy b k n a i p ∷ fs) rs []) (start (tagAt at docTag [] false)) ≡ inside (catching at i ∷ framedBy b k n a i p ∷ fs) rs []
+  pub docstring-start : (b : Bool) (k : ℕ) (n : reading.Name) (a i : ℕ) (p : Parts) (fs : List Frame) (rs : List Row) (at : ℕ) → eqb k kinds.annotation ≡ false → step keeps doc (inside (framedBy b k n a i p ∷ fs) rs []) (start (tagAt at docTag [] false)) ≡ inside (catching at i ∷ framedBy b k n a i p ∷ fs) rs []
   unfolding kindOf docstringIn
   docstring-start b k n a i p fs rs at h = step-child b k n a i p fs rs (tagAt at docTag [] false) ∙ rw h
 
@@ -164,7 +164,7 @@ module _ (doc : List ℕ) where
         go false m true = rw m
         go false m false = rw m
 
-    abbrev own : List Row → Frame
+    abbrev pub own : List Row → Frame
     own rs = framed (e .kind) (nameFrom at (tagOf (e .kind))) at (length rs) noParts
 
     entered-self : (r : Row) (fs gs : List Frame) (rs : List Row) → noted (e .kind) (startAt at e true) fs ≡ gs → partsReason (e .kind) noParts ≡ 0 → entered keeps doc (e .kind) (startAt at e true) r fs (table rs []) ≡ closed gs (table (rs ++ r ∷ []) [])
@@ -181,3 +181,48 @@ module _ (doc : List ℕ) where
 
     child-begins : (self : Bool) (k i : ℕ) (fs : List Frame) (rs : List Row) → mayHold k (e .kind) ≡ true → child keeps doc k i (startAt at e self) fs (table rs []) ≡ begins keeps doc (e .kind) (startAt at e self) fs (table rs [])
     child-begins self k i fs rs m = rw (kind-of h, no-docstring h, m)
+
+    -- in an open element
+    module _ (k : ℕ) (n : reading.Name) (a i : ℕ) (p : Parts) (fs : List Frame) (rs : List Row) (m : mayHold k (e .kind) ≡ true) where
+      abbrev row : Row
+      row = marked (bareFor (suc i) e)
+
+      start-entered : (self : Bool) → step keeps doc (inside (framed k n a i p ∷ fs) rs []) (start (startAt at e self)) ≡ entered keeps doc (e .kind) (startAt at e self) row (framed k n a i p ∷ fs) (table rs [])
+      start-entered self =
+          let b = among k kinds.definitions in
+          step-child b k n a i p fs rs (startAt at e self)
+          ∙ child-begins self k i (framed k n a i p ∷ fs) rs m
+          ∙ begins-entered self (framed k n a i p ∷ fs) rs
+          ∙ ap (λ q. entered keeps doc (e .kind) (startAt at e self) (marked (bareFor q e)) (framed k n a i p ∷ fs) (table rs [])) (parent-framed b k n a i p fs)
+
+      pub start-self : partsReason (e .kind) noParts ≡ 0 → step keeps doc (inside (framed k n a i p ∷ fs) rs []) (start (startAt at e true)) ≡ inside (framed k n a i (plusIf e p) ∷ fs) (rs ++ row ∷ []) []
+      start-self e0 =
+          start-entered true
+          ∙ entered-self row (framed k n a i p ∷ fs) (framed k n a i (plusIf e p) ∷ fs) rs (noted-framed true (among k kinds.definitions) k n a i p fs) e0
+
+      pub start-open : tooDeep keeps doc (e .kind) (framed k n a i p ∷ fs) ≡ false → step keeps doc (inside (framed k n a i p ∷ fs) rs []) (start (startAt at e false)) ≡ inside (own rs ∷ framed k n a i (plusIf e p) ∷ fs) (rs ++ row ∷ []) []
+      start-open d =
+          start-entered false
+          ∙ entered-open row (framed k n a i p ∷ fs) (framed k n a i (plusIf e p) ∷ fs) rs (noted-framed false (among k kinds.definitions) k n a i p fs) d
+
+    -- the root
+    module _ (is : e .kind ≡ kinds.node) where
+      root-noted : (self : Bool) → noted (e .kind) (startAt at e self) [] ≡ []
+      root-noted self = go (among (e .kind) kinds.parts)
+        where
+          go : (b : Bool) → _≡_ {A = List Frame} (if b [] []) []
+          go true = refl
+          go false = refl
+
+      root-begins : (self : Bool) → step keeps doc reading.begun (start (startAt at e self)) ≡ begins keeps doc (e .kind) (startAt at e self) [] (table [] [])
+      unfolding step
+      root-begins self = ap (λ k. begins keeps doc k (startAt at e self) [] (table [] [])) (sym is)
+
+      pub root-self : partsReason (e .kind) noParts ≡ 0 → step keeps doc reading.begun (start (startAt at e true)) ≡ closed [] (table (marked (bareFor 0 e) ∷ []) [])
+      root-self e0 = root-begins true ∙ begins-entered true [] [] ∙ entered-self (marked (bareFor 0 e)) [] [] [] (root-noted true) e0
+
+      root-shallow : tooDeep keeps doc (e .kind) [] ≡ false
+      root-shallow = rw is
+
+      pub root-open : step keeps doc reading.begun (start (startAt at e false)) ≡ inside (own [] ∷ []) (marked (bareFor 0 e) ∷ []) []
+      root-open = root-begins false ∙ begins-entered false [] [] ∙ entered-open (marked (bareFor 0 e)) [] [] [] (root-noted false) root-shallow

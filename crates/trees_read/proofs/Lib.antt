@@ -6,3 +6,4 @@ pub mod Runs
 pub mod Shapes
 pub mod Entering
 pub mod Frames
+pub mod Trees
