@@ -6,7 +6,7 @@ use native.Mathlib.Nat.{add-zero}
 use mathlib.Core.Path.{_≡_, refl, ap, sym, subst, _∙_}
 use mathlib.Core.List.{List, [], _∷_, _++_, map, map-append, append-nil, append-assoc}
 use mathlib.Core.Option.{Option, none, some}
-use mathlib.Core.Bool.{Bool, true, false, _&&_}
+use mathlib.Core.Bool.{Bool, true, false, not, _&&_}
 use borrow.Author.Tests.{eqb-true}
 use lib.Dec.{eqb, leb}
 use lib.ListN.{length, length-append, length-map, drop}
@@ -109,7 +109,7 @@ something-said : (e : Element) (f : Forest Element) → empty (docstrings (e .do
 something-said e (more t f) h = refl
 something-said e bare h = go (e .doc) h
   where
-    go : (o : Option (List ℕ)) → empty (docstrings o ++ []) ≡ false → mathlib.Core.Bool.not (empty (docstrings o)) ≡ true
+    go : (o : Option (List ℕ)) → empty (docstrings o ++ []) ≡ false → not (empty (docstrings o)) ≡ true
     go none h = cc
     go (some []) h = cc
     go (some (b ∷ s)) h = refl
@@ -168,3 +168,78 @@ module _ (doc : List ℕ) (e : Element) (f : Forest Element) (g : Fit e) (h : Kn
       b
       (λ n q c. content-run (k n) q c)
       (λ lt q. close-framed doc (among (e .kind) kinds.definitions) (e .kind) (nameFrom at (tagOf (e .kind))) at (length rs) (partsAfter f noParts) gs all lt q whole)
+
+-- ---- depth
+
+-- where the innermost open element is a node, d nodes are open
+abbrev Nodes : ℕ → ℕ → List Frame → Type 0
+Nodes k d fs = eqb k kinds.node ≡ true → suc (length fs) ≡ d
+
+module _ (e : Element) (f : Forest Element) (d : ℕ) (o : isOpen e f ≡ true) where
+  open-node : eqb (e .kind) kinds.node ≡ true → isOpenNode e f ≡ true
+  open-node n = rw (n, o)
+
+  -- inside of it
+  nodes-inside : (fs : List Frame) → (eqb (e .kind) kinds.node ≡ true → length fs ≡ d) → Nodes (e .kind) (openIn d e f) fs
+  nodes-inside fs h n = rw (open-node n) (ap suc (h n))
+
+  shallow : (doc : List ℕ) (fs : List Frame) → (isOpenNode e f ≡ true → leb 1024 d ≡ false) → (eqb (e .kind) kinds.node ≡ true → length fs ≡ d) → tooDeep keeps doc (e .kind) fs ≡ false
+  shallow doc fs l h = go (eqb (e .kind) kinds.node) refl
+    where
+      go : (b : Bool) → eqb (e .kind) kinds.node ≡ b → (eqb (e .kind) kinds.node && leb 1024 (length fs)) ≡ false
+      go true n = rw (n, h n, l (open-node n))
+      go false n = rw n
+
+node-around : (k d : ℕ) (e : Element) (fs : List Frame) → mayHold k (e .kind) ≡ true → Nodes k d fs → eqb (e .kind) kinds.node ≡ true → suc (length fs) ≡ d
+node-around k d e fs m h n = h (node-in-node k (subst (λ c. mayHold k c ≡ true) (eqb-true (e .kind) kinds.node n) m))
+
+bare-whole : (e : Element) (f : Forest Element) → Fit e → partsReason (e .kind) (partsAfter f noParts) ≡ 0 → docstrings (e .doc) ++ writtenForest f ≡ [] → partsReason (e .kind) noParts ≡ 0
+bare-whole e f g h n = subst (λ (y : Forest Element). partsReason (e .kind) (partsAfter y noParts) ≡ 0) (nothing-said (e .kind) (e .doc) f (g .doc) n .1) h
+
+regroup : (rs : List Row) (x y : List content.Row) → (rs ++ map marked x) ++ map marked y ≡ rs ++ map marked (x ++ y)
+regroup rs x y = simp (map-append, append-assoc)
+
+-- ---- trees
+
+mutual
+  pub forest-run : (doc : List ℕ) (f : Forest Element) (d k : ℕ) → Goods d k f → (n : reading.Name) (a i : ℕ) (fs : List Frame) → Nodes k d fs → Leads doc k n a i fs f
+  forest-run doc bare d k g n a i fs h at r e p rs = rw (add-zero, append-nil)
+  forest-run doc (more t f) d k g n a i fs h at r e p rs =
+      let w : List ℕ = writtenTree t in
+      let v : List ℕ = concat (writtenForest f) in
+      let own : List content.Row = flat (suc i) (length rs) at t in
+      let rs′ : List Row = rs ++ map marked own in
+      let e0 : drop at doc ≡ w ++ (v ++ r) = e ∙ append-assoc w v r in
+      let l : length rs′ ≡ length rs + size t = length-append rs (map marked own) ∙ ap (λ m. length rs + m) (length-map own marked ∙ length-flat (suc i) (length rs) at t) in
+      let u : rs′ ++ map marked (flats (suc i) (length rs′) (at + length w) f) ≡ rs ++ map marked (flats (suc i) (length rs) at (more t f)) = rw l (regroup rs own (flats (suc i) (length rs + size t) (at + length w) f)) in
+      let m : at + length w + length v ≡ at + length (w ++ v) = omega (arith, length-append w v) in
+      let fr : Frame = framed k n a i (partsAfter (more t f) p) in
+      tree-run-in doc t d k (g .0) (g .1) n a i fs h at (v ++ r) e0 p rs
+      ∙ forest-run doc f d k (g .2) n a i fs h (at + length w) r (after doc at w (v ++ r) e0) (plusIf (elementIn t) p) rs′
+      ∙ ap (λ y. run keeps doc (at + length w + length v) (inside (fr ∷ fs) y [])) u
+      ∙ ap (λ y. run keeps doc y (inside (fr ∷ fs) (rs ++ map marked (flats (suc i) (length rs) at (more t f))) [])) m
+
+  pub tree-run-in : (doc : List ℕ) (t : Tree Element) (d k : ℕ) → mayHold k (kindIn t) ≡ true → Good d t → (n : reading.Name) (a i : ℕ) (fs : List Frame) → Nodes k d fs → (at : ℕ) (r : List ℕ) → drop at doc ≡ writtenTree t ++ r → (p : Parts) (rs : List Row) → run keeps doc at (inside (framed k n a i p ∷ fs) rs []) ≡ run keeps doc (at + length (writtenTree t)) (inside (framed k n a i (plusIf (elementIn t) p) ∷ fs) (rs ++ map marked (flat (suc i) (length rs) at t)) [])
+  tree-run-in doc (tree e f) d k m g n a i fs h at r c p rs =
+      let kn = held-known k (e .kind) m in
+      let x = enters e kn (g .0) in
+      let w = parts-good (e .kind) (openIn d e f) f (g .4) (g .1) in
+      let gs : List Frame = framed k n a i (plusIf e p) ∷ fs in
+      let dn = node-around k d e fs m h in
+      element-run doc e f (g .0) kn x w at gs rs (suc i) r (inside (framed k n a i p ∷ fs) rs []) c
+      (λ z. start-self doc e kn x at k n a i p fs rs m (bare-whole e f (g .0) w z))
+      (λ z. start-open doc e kn x at k n a i p fs rs m (shallow e f d (something-said e f z) doc (framed k n a i p ∷ fs) (g .3) dn))
+      (λ z at′ r′ c′ p′ rs′. forest-run doc f (openIn d e f) (e .kind) (g .4) (nameFrom at (tagOf (e .kind))) at (length rs) gs (nodes-inside e f d (something-said e f z) gs dn) at′ r′ c′ p′ rs′)
+
+-- a written tree is read as its rows
+pub tree-run : (t : Tree Element) → kindIn t ≡ kinds.node → Good 0 t → run keeps (writtenTree t) 0 begun ≡ accepted (table (map marked (flat 0 0 0 t)) [])
+tree-run (tree e f) is g =
+    let kn : Known (e .kind) = subst Known (sym is) Known.node in
+    let doc : List ℕ = writtenTree (tree e f) in
+    let x = enters e kn (g .0) in
+    let w = parts-good (e .kind) (openIn 0 e f) f (g .4) (g .1) in
+    element-run doc e f (g .0) kn x w 0 [] [] 0 [] begun (sym (append-nil doc))
+    (λ z. root-self doc e kn x 0 is (bare-whole e f (g .0) w z))
+    (λ z. root-open doc e kn x 0 is)
+    (λ z. forest-run doc f (openIn 0 e f) (e .kind) (g .4) (nameFrom 0 (tagOf (e .kind))) 0 0 [] (nodes-inside e f 0 (something-said e f z) [] (λ y. refl)))
+    ∙ run-accepted keeps doc (0 + length doc) (table (map marked (flat 0 0 0 (tree e f))) [])
