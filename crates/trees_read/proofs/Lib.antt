@@ -7,3 +7,4 @@ pub mod Shapes
 pub mod Entering
 pub mod Frames
 pub mod Trees
+pub mod Texts

@@ -83,7 +83,7 @@ doc-run doc at r (some (b ∷ s)) e h d n a q fs rs p =
 
 -- ---- its content
 
-concat-append : (xs ys : List (List ℕ)) → concat (xs ++ ys) ≡ concat xs ++ concat ys
+pub concat-append : (xs ys : List (List ℕ)) → concat (xs ++ ys) ≡ concat xs ++ concat ys
 concat-append [] ys = refl
 concat-append (x ∷ xs) ys = ap (_++_ x) (concat-append xs ys) ∙ sym (append-assoc x (concat xs) (concat ys))
 
