@@ -8,3 +8,4 @@ pub mod Entering
 pub mod Frames
 pub mod Trees
 pub mod Texts
+pub mod Answers
