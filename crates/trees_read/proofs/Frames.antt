@@ -1,34 +1,31 @@
 -- Steps in an open element: a written start tag, a closing tag, a docstring; and what a definition has seen of its parts.
 -- Assumes nothing.
-use Prim.Native.Nat.{ℕ, zero, suc, _+_, _≤_, _<_}
+use Prim.Native.Nat.{ℕ, suc, _+_, _≤_}
 use native.Mathlib.Omega.{arith}
-use native.Mathlib.Nat.{add-zero}
 use mathlib.Core.Path.{_≡_, refl, ap, sym, subst, _∙_}
-use mathlib.Core.List.{List, [], _∷_, _++_, append-nil, append-assoc}
-use mathlib.Core.Option.{Option, none, some}
-use mathlib.Core.Bool.{Bool, true, false, _&&_, _||_}
+use mathlib.Core.List.{List, [], _∷_, _++_}
+use mathlib.Core.Bool.{Bool, true, false, _||_}
 use borrow.Author.Tests.{eqb-true, ne-eqb}
-use lib.Dec.{eqb, leb}
-use lib.ListN.{length, length-append, drop}
-use Rattle.slices.specs.Bytes.{if, empty}
-use Rattle.names.specs.Signature.{basicSignature}
+use lib.Dec.{eqb}
+use lib.ListN.{length}
+use Rattle.slices.specs.Bytes.{if}
 use Rattle.document.specs.Kinds as kinds
 use Rattle.document.specs.Tokens.{Tag, start, close}
 use Rattle.document.specs.Elements.{among, kindOf, mayHold}
 use Rattle.document.specs.Reading as reading
-use Rattle.document.specs.Reading.{Parts, Frame, partsReason, noted, closed, shut, tooDeep, entered, begins, docstringIn, child, parentOf, step, run}
+use Rattle.document.specs.Reading.{Parts, Frame, partsReason, noted, closed, shut, tooDeep, entered, begins, docstringIn, child, parentOf, step}
 use Rattle.items.specs.Content.{present}
-use Rattle.items.specs.Written.{Pair, tag, closingTag, concat, element}
-use Rattle.roundtrip.proofs.Tags.{Name, TagName, Keys, tagAt}
-use Rattle.roundtrip.proofs.Held.{keeps, Row, State, marked, table, inside}
+use Rattle.items.specs.Written.{tag, element}
+use Rattle.roundtrip.proofs.Tags.{Name, tagAt}
+use Rattle.roundtrip.proofs.Held.{keeps, Row, marked, table, inside}
 use Rattle.roundtrip.proofs.Elements.{nameFrom, same-self}
 use Rattle.trees.specs.Trees.{Tree, tree, Forest, bare, more}
-use Rattle.trees.specs.Written.{Element, tagOf, attributes, docTag, docstrings}
+use Rattle.trees.specs.Written.{Element, tagOf, docTag}
 use Rattle.trees_read.proofs.Good as good
-use Rattle.trees_read.proofs.Good.{Documented, kindIn, Goods}
-use Rattle.trees_read.proofs.Runs.{after, tag-run, close-run, textAt, catching, written, documented-last, docstring-run}
+use Rattle.trees_read.proofs.Good.{kindIn, Goods}
+use Rattle.trees_read.proofs.Runs.{catching, written}
 use Rattle.trees_read.proofs.Shapes.{Known}
-use Rattle.trees_read.proofs.Entering.{bareFor, framedBy, framed, noParts, plus, startAt, Enters, tag-names, kind-of, no-docstring}
+use Rattle.trees_read.proofs.Entering.{bareFor, framedBy, framed, noParts, plus, startAt, Enters, kind-of, no-docstring}
 
 -- ---- parts
 

@@ -1,26 +1,24 @@
 -- Runs at a place of a document where the bytes are known: one token, and a docstring.
 -- Assumes nothing.
-use Prim.Native.Nat.{ℕ, zero, suc, _+_, _-_, _≤_, _<_}
+use Prim.Native.Nat.{ℕ, _+_, _-_, _≤_, _<_}
 use native.Mathlib.Omega.{arith}
 use native.Mathlib.Nat.{add-zero}
 use mathlib.Core.Path.{_≡_, refl, ap, sym, _∙_}
 use mathlib.Core.List.{List, [], _∷_, _++_, append-assoc}
-use mathlib.Core.Bool.{Bool, true, false}
+use mathlib.Core.Bool.{Bool, false}
 use borrow.Author.Tests.{lt-ltb}
-use lib.Dec.{ltb}
-use lib.ListN.{length, length-append, length-drop, take, drop}
+use lib.ListN.{length, length-append, length-drop, drop}
 use lib.Seq.{drop-drop, drop-append-seam, take-append-seam}
 use Rattle.slices.specs.Bytes.{empty}
-use Rattle.utf8.specs.WhiteSpace.{trimStart, trimEnd}
 use Rattle.document.specs.Rows.{Doc, withDoc, documented}
 use Rattle.document.specs.Tokens.{Token, start, close, more, next, tokens}
 use Rattle.document.specs.Reading as reading
-use Rattle.document.specs.Reading.{Frame, passing, captures, passed, step, fold, run}
+use Rattle.document.specs.Reading.{Frame, passing, captures, step, run}
 use Rattle.document.proofs.Runs.{run-more}
-use Rattle.items.specs.Written.{Pair, pairs, ending, tag, closingTag}
+use Rattle.items.specs.Written.{Pair, tag, closingTag}
 use Rattle.roundtrip.proofs.Tags.{Name, TagName, Keys, tagAt, tag-next, close-next}
 use Rattle.roundtrip.proofs.Held.{keeps, Row, State, table, inside}
-use Rattle.roundtrip.proofs.Elements.{nameFrom, fold-append, same-self}
+use Rattle.roundtrip.proofs.Elements.{nameFrom, fold-append}
 use Rattle.docstrings.specs.Passable.{Passable}
 use Rattle.trees.specs.Written.{docTag}
 

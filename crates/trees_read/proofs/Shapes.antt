@@ -15,7 +15,6 @@ use Rattle.names.specs.Signature.{signature}
 use Rattle.document.specs.Kinds as kinds
 use Rattle.document.specs.Elements.{among, someSignature, heldBy, mayHold}
 use Rattle.items.specs.Sound.{Use, nameUse, valueUse, tpUse, validName, validValue, validWord, anyText}
-use Rattle.trees.specs.Written.{Element}
 use Rattle.trees_read.proofs.Good.{Fitting, Fit}
 
 -- the kinds of rows

@@ -1,8 +1,8 @@
 -- A written tree is well-formed UTF-8.
 -- Assumes nothing.
 use Prim.Native.Nat.{ℕ}
-use mathlib.Core.Path.{_≡_, refl, ap, sym, subst, _∙_}
-use mathlib.Core.List.{List, [], _∷_, _++_, append-nil, append-assoc}
+use mathlib.Core.Path.{_≡_, refl, sym, subst}
+use mathlib.Core.List.{List, [], _∷_, _++_, append-assoc}
 use mathlib.Core.Option.{Option, none, some}
 use mathlib.Core.Bool.{Bool, true, false}
 use borrow.Author.Tests.{eqb-true, eq-eqb, ltb-true}
@@ -18,7 +18,7 @@ use Rattle.document.specs.Elements.{among}
 use Rattle.items.specs.Sound.{Use}
 use Rattle.items.specs.Written.{Pair, pairs, ending, tag, closingTag, concat, element}
 use Rattle.trees.specs.Trees.{Tree, tree, Forest, bare, more}
-use Rattle.trees.specs.Written.{Element, tagOf, given, nameKey, valueKey, tpKey, accessText, directionText, wordPairs, attributes, docTag, docstrings, writtenTree, writtenForest}
+use Rattle.trees.specs.Written.{Element, tagOf, given, nameKey, valueKey, tpKey, wordPairs, attributes, docTag, docstrings, writtenTree, writtenForest}
 use Rattle.trees_read.proofs.Good.{Fitting, Documented, Fit, openIn, Good, Goods}
 use Rattle.trees_read.proofs.Trees.{concat-append}
 

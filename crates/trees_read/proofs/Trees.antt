@@ -1,6 +1,6 @@
 -- A written tree is read as its rows, with no warning.
 -- Assumes nothing.
-use Prim.Native.Nat.{ℕ, zero, suc, _+_, _≤_}
+use Prim.Native.Nat.{ℕ, suc, _+_, _≤_}
 use native.Mathlib.Omega.{arith}
 use native.Mathlib.Nat.{add-zero}
 use mathlib.Core.Path.{_≡_, refl, ap, sym, subst, _∙_}
@@ -10,7 +10,7 @@ use mathlib.Core.Bool.{Bool, true, false, not, _&&_}
 use borrow.Author.Tests.{eqb-true}
 use lib.Dec.{eqb, leb}
 use lib.ListN.{length, length-append, length-map, drop}
-use Rattle.slices.specs.Bytes.{if, empty}
+use Rattle.slices.specs.Bytes.{empty}
 use Rattle.document.specs.Kinds as kinds
 use Rattle.document.specs.Tokens.{start, close}
 use Rattle.document.specs.Elements.{among, mayHold}
@@ -23,9 +23,8 @@ use Rattle.roundtrip.proofs.Tags.{Name, TagName, Keys, tagAt}
 use Rattle.roundtrip.proofs.Held.{keeps, Row, State, marked, table, inside}
 use Rattle.roundtrip.proofs.Elements.{nameFrom}
 use Rattle.trees.specs.Trees.{Tree, tree, Forest, bare, more, size, sizes}
-use Rattle.trees.specs.Written.{Element, tagOf, attributes, docTag, docstrings, writtenTree, writtenForest}
+use Rattle.trees.specs.Written.{Element, tagOf, attributes, docstrings, writtenTree, writtenForest}
 use Rattle.trees.specs.Writing.{isOpen, isOpenNode}
-use Rattle.trees_read.proofs.Good as good
 use Rattle.trees_read.proofs.Good.{Fit, Documented, kindIn, openIn, Good, Goods}
 use Rattle.trees_read.proofs.Flat.{contentAt, docAt, rowFor, flat, flats}
 use Rattle.trees_read.proofs.Runs.{after, tag-run, close-run, written, documented-last, docstring-run}
