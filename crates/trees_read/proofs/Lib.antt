@@ -2,3 +2,4 @@
 -- Assumes nothing.
 pub mod Good
 pub mod Flat
+pub mod Depths
