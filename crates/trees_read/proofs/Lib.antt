@@ -3,3 +3,4 @@
 pub mod Good
 pub mod Flat
 pub mod Depths
+pub mod Shallow
