@@ -4,3 +4,4 @@ pub mod Good
 pub mod Flat
 pub mod Depths
 pub mod Shallow
+pub mod Rooted
