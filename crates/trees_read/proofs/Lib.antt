@@ -5,3 +5,4 @@ pub mod Flat
 pub mod Depths
 pub mod Shallow
 pub mod Rooted
+pub mod Left
