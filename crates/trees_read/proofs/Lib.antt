@@ -6,3 +6,4 @@ pub mod Depths
 pub mod Shallow
 pub mod Rooted
 pub mod Left
+pub mod Entries
