@@ -129,3 +129,84 @@ pub sound-entries : SoundTrees → SoundEntries
 sound-entries h document x ws out n room m w d =
     let l = leaves document x ws out n room m w in
     (l .bytes, returns-from (take m out) (treeAt document x ws n 0) (l .bytes) (λ lent f. h document x ws n (l .is-sound) (l .there) d (l .low) lent f))
+
+-- ---- what the reader leaves, written
+
+writable : {t : Tree Element} {room : ℕ} {out : List ℕ} {r : TextAnswer} (o : Text) → o ≡ roomy room (text (writtenTree t)) → r ≡ answerOf o → out ≡ leftOf room o → ((lent : Room) → Fits t lent → ReadsBack t lent) → Writable t room out r
+writable {t} {room} {out} {r} o e a f h = record {
+  done = λ l. a ∙ ap answerOf (e ∙ whole l);
+  short = λ l. a ∙ ap answerOf (e ∙ over l);
+  left = left;
+  returns = λ l. returns-from (take (length (writtenTree t)) out) t (left l) h;
+}
+  where
+    whole : length (writtenTree t) ≤ room → roomy room (text (writtenTree t)) ≡ text (writtenTree t)
+    whole l = rw (le-ltb room (length (writtenTree t)) l)
+
+    over : room < length (writtenTree t) → roomy room (text (writtenTree t)) ≡ wrong 21 (length (writtenTree t))
+    over l = rw (lt-ltb room (length (writtenTree t)) l)
+
+    left : length (writtenTree t) ≤ room → take (length (writtenTree t)) out ≡ writtenTree t
+    left l =
+        ap (take (length (writtenTree t))) (f ∙ ap (leftOf room) (e ∙ whole l))
+        ∙ take-at (writtenTree t) (replicate (room - length (writtenTree t)) 0) (length (writtenTree t)) refl
+
+kind-first : (m : ℕ) (rs : List (Row Shown)) → 0 < length rs → kindAt (rowsFrom m rs) 0 ≡ rowAt rs 0 .kind
+unfolding rowAt
+kind-first m [] l = absurd (omega arith)
+kind-first m (r ∷ rs) l = refl
+
+no-refusal : (a b c : Bool) (s : Soundness) (o : Option ℕ) (t : Tree Element) (room : ℕ) → a ≡ false → b ≡ false → s ≡ sound → c ≡ true → o ≡ none → if (a || b) (wrong 2 1048576) (checked s (if c (treeWritten room o t) (wrong 20 0))) ≡ roomy room (text (writtenTree t))
+no-refusal a b c s o t room p q u v w = rw (p, q, u, v, w)
+
+module _ (doc : List ℕ) (u : Tables Shown) (e : meaning doc ≡ accepted u) (y z : List ℕ) where
+  abbrev x : List ℕ
+  x = texts (u .rows) ++ y
+
+  abbrev ws : List ℕ
+  ws = wordsFrom 0 (u .rows) ++ z
+
+  abbrev n : ℕ
+  n = length (u .rows)
+
+  asked : isWritable ws n 0 ≡ true
+  asked =
+      let a = meaning-accepts doc u e in
+      let l = accepts-rooted doc a in
+      let k : kindAt (rowsOf n ws) 0 ≡ 1 = ap (λ rs. kindAt rs 0) (rows-words 0 (u .rows) z) ∙ kind-first 0 (u .rows) l ∙ accepts-holds doc (a .sound .utf8) a .fine 0 l .0 .0 in
+      rw (lt-ltb 0 n l, k)
+
+  tree-written : length x ≤ 1048576 → (room : ℕ) → treeWriting doc x ws n 0 room ≡ roomy room (text (writtenTree (treeAt doc x ws n 0)))
+  unfolding treeWriting
+  tree-written l room =
+      let a = meaning-accepts doc u e in
+      no-refusal (ltb 1048576 (length doc)) (ltb 1048576 (length x)) (isWritable ws n 0) (soundness doc x ws n) (tooDeep (elementAt doc x ws) 0 (shapeAt ws n 0)) (treeAt doc x ws n 0) room
+      (le-ltb 1048576 (length doc) (a .sound .small))
+      (le-ltb 1048576 (length x) l)
+      (tables-sound doc u e y z)
+      asked
+      (shallow doc u a x z)
+
+  written-back : {room : ℕ} {out : List ℕ} {r : TextAnswer} → ((lent : Room) → Fits (treeOf doc u) lent → ReadsBack (treeOf doc u) lent) → length x ≤ 1048576 → WritesTree doc x ws n 0 room out r → Writable (treeAt doc x ws n 0) room out r
+  written-back {room} h l w =
+      writable (treeWriting doc x ws n 0 room) (tree-written l room) (w .says .answer) (w .says .left)
+      (subst (λ t. (lent : Room) → Fits t lent → ReadsBack t lent) (sym (left-tree doc u e y z)) h)
+
+-- A
+pub reader-entries : ReaderTrees → ReaderEntries
+reader-entries h doc rows warnings x lent n c w s l room out r p = go (read doc lent) refl (s .verdict) (s .rows-left) (s .text-left)
+  where
+    Goes : List ℕ → List ℕ → ℕ → Type 0
+    Goes x rows n = length x ≤ 1048576 → WritesTree doc x rows n 0 room out r → Writable (treeAt doc x rows n 0) room out r
+
+    go : (q : State Shown) → read doc lent ≡ q → Accepted n c w ≡ verdictOf q → rows ≡ rowsLeft lent q → x ≡ textLeft lent q → Writable (treeAt doc x rows n 0) room out r
+    go begun q e f g = let z : _≡_ {A = ℕ} 0 1 = cc in absurd (omega arith)
+    go (reading fs u) q e f g = let z : _≡_ {A = ℕ} 0 1 = cc in absurd (omega arith)
+    go (accepted u) q e f g =
+        let m : n ≡ length (u .rows) = cc in
+        subst (λ k. Goes x rows k) (sym m)
+        (subst (λ v. Goes x v (length (u .rows))) (sym f)
+        (subst (λ v. Goes v (filled (lent .rows) (wordsFrom 0 (u .rows))) (length (u .rows))) (sym g)
+        (λ l p. written-back doc u (read-accepts doc lent u q) (replicate (lent .text - length (texts (u .rows))) 0) (replicate (lent .rows - length (wordsFrom 0 (u .rows))) 0) (h doc lent u q .1) l p)))
+        l p
+    go (refused y) q e f g = let z : _≡_ {A = ℕ} 0 1 = cc in absurd (omega arith)

@@ -42,8 +42,8 @@ pub record Fits (t : Tree Element) (room : Room) : Type 0 where
 abbrev pub treeOf : List ℕ → Tables Shown → Tree Element
 treeOf doc u = treeAt doc (texts (u .rows)) (wordsFrom 0 (u .rows)) (length (u .rows)) 0
 
--- the bytes written are accepted, with no warning, as many rows as the tree has elements, and the text that its values need; the tree of the tables is the same, so that each
--- parent's children agree, kind by kind and in order; and it is written as the same bytes again
+-- the bytes written are accepted, with no warning, as many rows as the tree has elements, and the bytes of text that its values need; the
+-- tree of the tables is the same, so that each parent's children agree, kind by kind and in order; and it is written as the same bytes again
 pub record ReadsBack (t : Tree Element) (room : Room) : Type 0 where
   pub tables : Tables Shown
   pub accepts : read (writtenTree t) room ≡ accepted tables
