@@ -19,14 +19,14 @@ use Rattle.document.specs.Tags.{Shown}
 use Rattle.document.specs.Tokens.{Tag, Token, start, close, fault, end, tokens}
 use Rattle.document.specs.Rows.{Doc, Row, Tables, documented}
 use Rattle.document.specs.Elements.{kindOf, among, mayHold, Opened, opens, refuses, opensAs}
-use Rattle.document.specs.Reading.{Definition, Purpose, ignored, captures, Frame, element, definition, passing, State, begun, reading, accepted, refused, nameOf, rowOf, parentOf, notedIn, noted, frameOf, withRow, closed, judged, passed, shut, tooDeep, opened, begins, unsupported, docstringIn, child, started, turn, step, fold, run, Name, tagName}
+use Rattle.document.specs.Reading.{Definition, Purpose, ignored, captures, Frame, element, definition, passing, State, begun, reading, accepted, refused, nameOf, rowOf, parentOf, notedIn, noted, frameOf, withRow, closed, judged, passed, shut, tooDeep, opened, begins, unsupported, docstringIn, child, turn, step, fold, run, tagName}
 use Rattle.document.specs.Outcome.{whole}
 use Rattle.document.proofs.Tests.{never, either}
 use Rattle.document.proofs.Steps.{kindIn, takesDocs, Begins, Known, Kept, Closes, Ways, step-kept}
 use Rattle.rows.proofs.Words.{length-documented}
 use Rattle.items.proofs.Order.{Falls, falls-more}
 use Rattle.accepted.proofs.Folding.{Accepts}
-use Rattle.accepted.proofs.Entries.{Brief, brief, Entry, start-opens}
+use Rattle.accepted.proofs.Entries.{Brief, Entry, start-opens}
 use Rattle.accepted.proofs.Frames.{Agree}
 use Rattle.accepted.proofs.Entering.{none-passing, begins-kind}
 use Rattle.accepted.proofs.States.{blank, rowAt, at-more, at-last, at-first, at-documented}

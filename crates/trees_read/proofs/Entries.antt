@@ -1,10 +1,10 @@
 -- What the statements on trees say of the entries.
 -- Assumes nothing.
-use Prim.Native.Nat.{ℕ, zero, suc, _-_, _≤_, _<_}
+use Prim.Native.Nat.{ℕ, _-_, _≤_, _<_}
 use mathlib.Core.Path.{_≡_, refl, ap, sym, subst, _∙_}
 use mathlib.Core.List.{List, [], _∷_, _++_}
 use mathlib.Core.Option.{Option, none, some}
-use mathlib.Core.Bool.{Bool, true, false, not, _&&_, _||_}
+use mathlib.Core.Bool.{Bool, true, false, not, _||_}
 use borrow.Author.Tests.{ltb-true, lt-ltb, le-ltb}
 use native.Mathlib.Omega.{arith}
 use lib.Dec.{ltb}
@@ -14,7 +14,7 @@ use Rattle.slices.specs.Bytes.{if}
 use Rattle.slices.proofs.Runs.{and-both}
 use Rattle.answers.specs.Text.{Text, text, wrong, roomy, answerOf, leftOf}
 use Rattle.answers.specs.declared.TextAnswer.{TextAnswer}
-use Rattle.answers.specs.declared.TextAnswer.the-variants.{Refused, Done}
+use Rattle.answers.specs.declared.TextAnswer.the-variants.{Done}
 use Rattle.document.specs.Kinds as kinds
 use Rattle.document.specs.Tags.{Shown}
 use Rattle.document.specs.Rows.{Row, Tables, wordsFrom, texts}
@@ -27,7 +27,7 @@ use Rattle.items.specs.Words.{rowsOf}
 use Rattle.items.specs.Sound.{kindAt, Soundness, sound, unsound, soundness}
 use Rattle.items.specs.Writing.{checked}
 use Rattle.roundtrip.specs.Items.{referenced}
-use Rattle.accepted.proofs.Folding.{Accepts, meaning-accepts}
+use Rattle.accepted.proofs.Folding.{meaning-accepts}
 use Rattle.accepted.proofs.Rows.{rowsFrom, rows-words}
 use Rattle.accepted.proofs.States.{rowAt, accepts-holds}
 use Rattle.accepted.proofs.Accepted.{tables-sound, read-accepts}
@@ -35,7 +35,7 @@ use Rattle.trees.specs.Trees.{Tree, size}
 use Rattle.trees.specs.Shape.{shapeAt}
 use Rattle.trees.specs.Written.{Element, elementAt, treeAt, writtenTree}
 use Rattle.trees.specs.Writing.{tooDeep, treeWritten, isWritable, treeWriting, WritesTree}
-use Rattle.trees_read.specs.Statement.{values, Fits, treeOf, ReadsBack, ReaderTrees, NoDocstrings, SoundTrees}
+use Rattle.trees_read.specs.Statement.{values, Fits, treeOf, ReadsBack, ReaderTrees, SoundTrees}
 use Rattle.trees_read.specs.Entries.{Returns, ReturnsFrom, Writable, ReaderEntries, SoundEntries}
 use Rattle.trees_read.proofs.Shallow.{shallow}
 use Rattle.trees_read.proofs.Rooted.{accepts-rooted}
@@ -176,7 +176,7 @@ module _ (doc : List ℕ) (u : Tables Shown) (e : meaning doc ≡ accepted u) (y
       let k : kindAt (rowsOf n ws) 0 ≡ 1 = ap (λ rs. kindAt rs 0) (rows-words 0 (u .rows) z) ∙ kind-first 0 (u .rows) l ∙ accepts-holds doc (a .sound .utf8) a .fine 0 l .0 .0 in
       rw (lt-ltb 0 n l, k)
 
-  tree-written : length x ≤ 1048576 → (room : ℕ) → treeWriting doc x ws n 0 room ≡ roomy room (text (writtenTree (treeAt doc x ws n 0)))
+  pub tree-written : length x ≤ 1048576 → (room : ℕ) → treeWriting doc x ws n 0 room ≡ roomy room (text (writtenTree (treeAt doc x ws n 0)))
   unfolding treeWriting
   tree-written l room =
       let a = meaning-accepts doc u e in

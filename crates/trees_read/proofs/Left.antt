@@ -18,7 +18,7 @@ use Rattle.items.specs.Content as content
 use Rattle.accepted.proofs.Folding.{meaning-accepts}
 use Rattle.accepted.proofs.Rows.{rowsFrom, rows-words}
 use Rattle.accepted.proofs.Accepted.{words-shown}
-use Rattle.trees.specs.Trees.{Tree, tree, Forest, bare, more, joined, mapTree, mapForest}
+use Rattle.trees.specs.Trees.{tree, Forest, bare, more, joined, mapTree, mapForest}
 use Rattle.trees.specs.Shape.{Link, linkOf, types, args, members, annotations, nodes, grouped, chosen, stands, forest, under, shapeAt}
 use Rattle.trees.specs.Written.{Element, elementOf, elementAt, treeAt}
 use Rattle.trees_read.specs.Statement.{treeOf}

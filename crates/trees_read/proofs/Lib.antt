@@ -7,3 +7,4 @@ pub mod Shallow
 pub mod Rooted
 pub mod Left
 pub mod Entries
+pub mod Assembly

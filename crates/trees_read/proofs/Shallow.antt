@@ -1,26 +1,26 @@
 -- The tables of a document that is accepted: no node of the tree of row 0 is too deep.
 -- Assumes nothing.
-use Prim.Native.Nat.{ℕ, zero, suc, _+_, _*_, _-_, _<_}
+use Prim.Native.Nat.{ℕ, zero, suc, _+_, _-_, _<_}
 use mathlib.Core.Path.{_≡_, refl, ap, sym, subst, _∙_}
 use mathlib.Core.List.{List, [], _∷_, _++_, map, append-nil}
 use mathlib.Core.Option.{Option, none, some}
-use mathlib.Core.Bool.{Bool, true, false, not, _&&_}
+use mathlib.Core.Bool.{Bool, true, false, _&&_}
 use mathlib.Core.Logic.{_⊎_, inl, inr}
-use borrow.Author.Tests.{eq-eqb, eqb-true, eqb-false, not-true, lt-leb}
+use borrow.Author.Tests.{eqb-true, eqb-false, not-true, lt-leb}
 use native.Mathlib.Nat.{add-zero, zero-add}
 use native.Mathlib.Omega.{arith}
 use lib.Dec.{eqb, leb}
-use lib.ListN.{length, drop, getD}
+use lib.ListN.{length, drop}
 use Rattle.slices.specs.Bytes.{if, empty}
 use Rattle.slices.proofs.Runs.{and-both}
 use Rattle.document.specs.Kinds as kinds
 use Rattle.document.specs.Tags.{Shown}
 use Rattle.document.specs.Rows.{Doc, Row, Tables, rowText, wordsFrom, texts}
-use Rattle.document.specs.Elements.{among, heldBy, mayHold}
+use Rattle.document.specs.Elements.{among, mayHold}
 use Rattle.document.specs.Reading.{accepted}
 use Rattle.document.specs.Whole.{Room, read}
 use Rattle.document.proofs.Tests.{never, either}
-use Rattle.items.specs.Words.{RowWords, rowOf, docstringBy}
+use Rattle.items.specs.Words.{RowWords, docstringBy}
 use Rattle.items.specs.View.{over}
 use Rattle.accepted.proofs.Folding.{Accepts, meaning-accepts}
 use Rattle.accepted.proofs.Entries.{Brief}
@@ -29,11 +29,11 @@ use Rattle.accepted.proofs.Triples.{docOf}
 use Rattle.accepted.proofs.Rows.{rowsFrom, rows-words, row-back}
 use Rattle.accepted.proofs.States.{blank, rowAt, accepts-holds}
 use Rattle.accepted.proofs.Accepted.{read-accepts}
-use Rattle.trees.specs.Trees.{Tree, tree, Forest, bare, more, joined}
-use Rattle.trees.specs.Shape.{Link, linkOf, linksOf, types, args, members, annotations, nodes, grouped, chosen, stands, forest, shapeAt}
+use Rattle.trees.specs.Trees.{tree, Forest, bare, more, joined}
+use Rattle.trees.specs.Shape.{Link, linkOf, types, args, members, annotations, nodes, grouped, chosen, stands, forest, shapeAt}
 use Rattle.trees.specs.Written.{Element, docstring, docstrings, elementAt}
 use Rattle.trees.specs.Writing.{isOpen, isOpenNode, first, tooDeep, tooDeeps}
-use Rattle.trees_read.proofs.Depths.{Deep, parents, Low, docIn, Depths, accepts-depths}
+use Rattle.trees_read.proofs.Depths.{Deep, parents, Low, docIn, accepts-depths}
 
 -- ---- a tree that is not too deep
 
@@ -158,11 +158,11 @@ module _ (doc : List ℕ) (u : Tables Shown) (a : Accepts doc u) (x z : List ℕ
   abbrev ws : List ℕ
   ws = wordsFrom 0 (u .rows) ++ z
 
-  kind-is : (i : ℕ) → i < length rs → elementAt doc x ws i .kind ≡ rowAt rs i .kind
+  pub kind-is : (i : ℕ) → i < length rs → elementAt doc x ws i .kind ≡ rowAt rs i .kind
   unfolding rowAt
   kind-is i l = ap (λ (r : RowWords). r .kind) (row-back rs blank z i l .1)
 
-  doc-is : (i : ℕ) → i < length rs → elementAt doc x ws i .doc ≡ over (docstring doc) (docstringBy (docOf (docIn rs i)))
+  pub doc-is : (i : ℕ) → i < length rs → elementAt doc x ws i .doc ≡ over (docstring doc) (docstringBy (docOf (docIn rs i)))
   unfolding docIn
   doc-is i l = ap (λ (r : RowWords). over (docstring doc) (docstringBy (r .doc))) (row-back rs blank z i l .1)
 
