@@ -13,3 +13,9 @@ pub mod Frames
 pub mod Trees
 pub mod Texts
 pub mod Answers
+pub mod Depths
+pub mod Shallow
+pub mod Rooted
+pub mod Left
+pub mod Entries
+pub mod Assembly

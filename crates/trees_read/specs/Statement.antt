@@ -42,13 +42,14 @@ pub record Fits (t : Tree Element) (room : Room) : Type 0 where
 abbrev pub treeOf : List ℕ → Tables Shown → Tree Element
 treeOf doc u = treeAt doc (texts (u .rows)) (wordsFrom 0 (u .rows)) (length (u .rows)) 0
 
--- the bytes written are accepted, with no warning and as many rows as the tree has elements; the tree of the tables is the same, so that each
--- parent's children agree, kind by kind and in order; and it is written as the same bytes again
+-- the bytes written are accepted, with no warning, as many rows as the tree has elements, and the bytes of text that its values need; the
+-- tree of the tables is the same, so that each parent's children agree, kind by kind and in order; and it is written as the same bytes again
 pub record ReadsBack (t : Tree Element) (room : Room) : Type 0 where
   pub tables : Tables Shown
   pub accepts : read (writtenTree t) room ≡ accepted tables
   pub silent : tables .warnings ≡ []
   pub rows : length (tables .rows) ≡ size t
+  pub bytes : length (texts (tables .rows)) ≡ referenced (values t)
   pub same : treeOf (writtenTree t) tables ≡ t
   pub again : (lent : ℕ) → length (writtenTree t) ≤ lent → treeWriting (writtenTree t) (texts (tables .rows)) (wordsFrom 0 (tables .rows)) (length (tables .rows)) 0 lent ≡ text (writtenTree t)
 
