@@ -1,2 +1,3 @@
 -- Laws of docstrings.
 -- Assumes nothing.
+pub mod Shifts
