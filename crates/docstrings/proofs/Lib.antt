@@ -1,3 +1,4 @@
 -- Laws of docstrings.
 -- Assumes nothing.
 pub mod Shifts
+pub mod Ends
