@@ -2,3 +2,4 @@
 -- Assumes nothing.
 pub mod Shifts
 pub mod Ends
+pub mod Atoms
