@@ -3,3 +3,4 @@
 pub mod Shifts
 pub mod Ends
 pub mod Atoms
+pub mod Pieces
