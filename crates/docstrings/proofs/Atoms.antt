@@ -115,7 +115,7 @@ skip-ignorable x l at n d e = skip x l at n d (unfold next in ap (λ s. pastIgno
         ap (λ m. tagOrEnd m p) j
 
 -- bytes that are taken already
-ignorable-taken : (f l : List ℕ) (at : ℕ) → ignorableFrom (suc (length f)) (f ++ 62 ∷ l) at ≡ ignorableFrom 0 l (at + suc (length f))
+pub ignorable-taken : (f l : List ℕ) (at : ℕ) → ignorableFrom (suc (length f)) (f ++ 62 ∷ l) at ≡ ignorableFrom 0 l (at + suc (length f))
 ignorable-taken [] l at = let e : suc at ≡ at + 1 = omega arith in ap (λ a. ignorableFrom 0 l a) e
 ignorable-taken (b ∷ f) l at = let e : suc at + suc (length f) ≡ at + suc (suc (length f)) = omega arith in rw (← e) (ignorable-taken f l (suc at))
 

@@ -4,3 +4,4 @@ pub mod Shifts
 pub mod Ends
 pub mod Atoms
 pub mod Pieces
+pub mod Finding
