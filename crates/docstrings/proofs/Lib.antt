@@ -5,3 +5,4 @@ pub mod Ends
 pub mod Atoms
 pub mod Pieces
 pub mod Finding
+pub mod Whole
