@@ -1,7 +1,7 @@
 -- Content that is passed over, piece by piece: a byte of text, markup that is ignored, a tag. Wherever the pieces stand, and whatever
 -- follows them, they are the same tokens; if their tags open and close elements of their own alone, reading comes back to where it was.
 -- Assumes nothing.
-use Prim.Native.Nat.{ℕ, zero, suc, _+_, _-_, _≤_, _<_}
+use Prim.Native.Nat.{ℕ, suc, _+_, _-_, _≤_, _<_}
 use mathlib.Core.Path.{_≡_, refl, sym, ap, _∙_}
 use mathlib.Core.List.{List, [], _∷_, _++_, append-assoc}
 use mathlib.Core.Bool.{Bool, true, false}
@@ -16,14 +16,14 @@ use Rattle.scan.specs.Ignorable.{markup, further, ignorableFrom, ignorable}
 use Rattle.scan.specs.declared.Scan.{Scan}
 use Rattle.scan.specs.declared.Scan.the-variants.{Fault, At}
 use Rattle.scan.specs.declared.Markup.the-variants.{Tag, Ignored}
-use Rattle.document.specs.Tokens.{Token, start, close, fault, end, Next, more, last, tag, tagOrEnd, pastIgnorable, next, tokensFrom, tokens}
+use Rattle.document.specs.Tokens.{Token, start, close, fault, end, Next, more, last, tag, tagOrEnd, pastIgnorable, next, tokens}
 use Rattle.document.specs.Rows.{Tables}
 use Rattle.document.specs.Elements.{Keeping}
 use Rattle.document.specs.Refusals.{bare}
-use Rattle.document.specs.Reading.{Name, tagName, Purpose, Frame, passing, State, reading, refused, step, fold}
+use Rattle.document.specs.Reading.{Name, Purpose, Frame, passing, State, reading, refused, step, fold}
 use Rattle.document.proofs.Runs.{taken}
 use Rattle.document.proofs.Ignorables.{Scanned, ignorable-within}
-use Rattle.document.proofs.Nexts.{Onward, Reaches, next-reaches}
+use Rattle.document.proofs.Nexts.{Onward, next-reaches}
 use Rattle.docstrings.proofs.Shifts.{far, far-is, laterToken, laterNext, laterMarkup, markup-later, tag-later}
 
 -- what follows a `<`, up to a `>` (62): markup that is ignored

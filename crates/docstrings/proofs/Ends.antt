@@ -12,7 +12,7 @@ use lib.Seq.{length-take-le}
 use Rattle.slices.specs.Bytes.{if, bytes, other, span, past, empty, starts}
 use Rattle.slices.proofs.Runs.{and-both, starts-fits}
 use Rattle.scan.specs.Classes.{white, nameByte}
-use Rattle.scan.specs.Ignorable.{Mode, bare, quoted, quote, changed, ends, unended, declarationIn, declared, markup, seek}
+use Rattle.scan.specs.Ignorable.{Mode, bare, quoted, quote, changed, ends, declarationIn, declared, markup, seek}
 use Rattle.scan.specs.declared.Scan.{Scan}
 use Rattle.scan.specs.declared.Scan.the-variants.{Fault, At}
 use Rattle.scan.specs.declared.Markup.{Markup}

@@ -1,6 +1,6 @@
 -- What is passed over up to the end of a token is pieces, the last of them the token.
 -- Assumes nothing.
-use Prim.Native.Nat.{ℕ, zero, suc, _+_, _-_, _≤_, _<_}
+use Prim.Native.Nat.{ℕ, zero, suc, _+_, _-_, _≤_}
 use mathlib.Core.Path.{_≡_, refl, sym, ap, _∙_}
 use mathlib.Core.List.{List, [], _∷_, _++_, append-assoc}
 use mathlib.Core.Bool.{Bool, true, false}
@@ -23,9 +23,8 @@ use Rattle.document.proofs.Tests.{either}
 use Rattle.remarks.proofs.Local.{markup-local}
 use Rattle.remarks.proofs.Tagged.{next-part}
 use Rattle.docstrings.proofs.Shifts.{far, far-is, laterMarkup, laterToken, laterNext, markup-later, tag-later}
-use Rattle.docstrings.proofs.Ends.{Ended, NextEnds, ignored-ended, tag-ended}
-use Rattle.docstrings.proofs.Atoms.{Marks, Tags, Atom, text, mark, token, bytesOf, Leads, next-tag, ignorable-taken}
-use Rattle.docstrings.proofs.Pieces.{leads-append, bytes-append}
+use Rattle.docstrings.proofs.Ends.{Ended, ignored-ended, tag-ended}
+use Rattle.docstrings.proofs.Atoms.{Marks, Tags, Atom, text, mark, bytesOf, Leads, next-tag, ignorable-taken}
 
 -- ---- markup that is ignored
 
@@ -120,6 +119,10 @@ record Passes (l : List ℕ) (at p : ℕ) : Type 0 where
 ended : (at p : ℕ) → At at ≡ At p → Passes [] at p
 ended at p e = let z : at ≡ p = cc in record { atoms = []; rest = []; is = refl; long = omega arith; leads = λ ns. refl; begins = tt }
 
+-- markup, and what follows it
+past-mark : (b : ℕ) (l f r x y : List ℕ) → b ≡ 60 → l ≡ f ++ 62 ∷ r → r ≡ x ++ y → b ∷ l ≡ 60 ∷ (f ++ 62 ∷ x) ++ y
+past-mark b l f r x y c e g = rw c (ap (_∷_ 60) (e ∙ ap (λ m. f ++ 62 ∷ m) g ∙ sym (append-assoc f (62 ∷ x) y)))
+
 ignorable-passes : (n : ℕ) (l : List ℕ) (at p : ℕ) → length l ≤ n → ignorableFrom 0 l at ≡ At p → Passes l at p
 ignorable-passes zero [] at p h e = ended at p e
 ignorable-passes zero (b ∷ l) at p h e = absurd (omega arith)
@@ -142,7 +145,7 @@ ignorable-passes (suc n) (b ∷ l) at p h e = go (eqb b 60) refl e (λ m x g f. 
         record {
           atoms = mark (d .front) (ignored-marks l at q f) ∷ r .atoms;
           rest = r .rest;
-          is = rw c (ap (_∷_ 60) (d .is ∙ ap (λ m. d .front ++ 62 ∷ m) (r .is) ∙ sym (append-assoc (d .front) (62 ∷ bytesOf (r .atoms)) (r .rest))));
+          is = past-mark b l (d .front) (d .rest) (bytesOf (r .atoms)) (r .rest) c (d .is) (r .is);
           long = omega (arith, r .long, length-append (d .front) (62 ∷ bytesOf (r .atoms)));
           leads = r .leads;
           begins = r .begins;

@@ -1,19 +1,19 @@
 -- Content that is pieces, put together and cut: White_Space at its ends is text, so without it the content is pieces still.
 -- Assumes nothing.
-use Prim.Native.Nat.{ℕ, zero, suc, _+_, _-_, _≤_, _<_}
+use Prim.Native.Nat.{ℕ, _+_, _-_, _<_}
 use mathlib.Core.Path.{_≡_, refl, sym, ap, _∙_}
-use mathlib.Core.List.{List, [], _∷_, _++_, append-assoc, append-nil, reverse, reverse-cons, reverse-append, reverse-reverse}
+use mathlib.Core.List.{List, [], _∷_, _++_, append-assoc, reverse, reverse-cons, reverse-append, reverse-reverse}
 use mathlib.Core.Bool.{Bool, true, false}
-use borrow.Author.Tests.{eqb-true, ne-eqb, ltb-true}
+use borrow.Author.Tests.{ne-eqb, ltb-true}
 use native.Mathlib.Omega.{arith}
 use lib.Dec.{eqb, ltb}
 use lib.ListN.{length, take, drop, length-append}
 use lib.Seq.{take-append-seam, drop-append-seam}
-use Rattle.slices.specs.Bytes.{if, same, empty}
+use Rattle.slices.specs.Bytes.{if, empty}
 use Rattle.utf8.specs.WellFormed.{illFormed}
 use Rattle.utf8.specs.WhiteSpace.{characters, codePoint, whiteSpace, leading, trimStart, trimEnd}
 use Rattle.utf8.proofs.Sequences.{Char, Followed, char-shape, ascii-first}
-use Rattle.utf8.proofs.Texts.{All, joined, joined-append, Whole, whole, characters-joined}
+use Rattle.utf8.proofs.Texts.{All, joined, joined-append, whole, characters-joined}
 use Rattle.document.specs.Tokens.{Token, start, close, fault, end}
 use Rattle.document.specs.Elements.{Keeping}
 use Rattle.document.proofs.Tests.{never}

@@ -2,15 +2,15 @@
 -- Assumes nothing.
 use Prim.Native.Nat.{ℕ, zero, suc, _+_, _-_, _≤_, _<_}
 use mathlib.Core.Path.{_≡_, refl, sym, ap, _∙_}
-use mathlib.Core.List.{List, [], _∷_, _++_, append-assoc, append-nil}
+use mathlib.Core.List.{List, [], _∷_, _++_, append-assoc}
 use mathlib.Core.Option.{none, some}
-use mathlib.Core.Bool.{Bool, true, false}
+use mathlib.Core.Bool.{true, false}
 use borrow.Author.Tests.{leb-false}
 use native.Mathlib.Omega.{arith}
-use lib.Dec.{eqb, leb, ltb}
+use lib.Dec.{leb, ltb}
 use lib.ListN.{length, take, drop, length-append, length-drop}
 use lib.Seq.{drop-drop, drop-append-seam, drop-append-le, take-append-le, take-append-seam}
-use Rattle.slices.specs.Bytes.{if, same}
+use Rattle.slices.specs.Bytes.{same}
 use Rattle.utf8.specs.WellFormed.{illFormed}
 use Rattle.utf8.specs.WhiteSpace.{trimStart, trimEnd}
 use Rattle.utf8.specs.Trim.{Boundary}
@@ -22,10 +22,9 @@ use Rattle.document.specs.Tokens as tokens
 use Rattle.document.specs.Tokens.{Token, start, close, fault, end, Next, more, last, next}
 use Rattle.document.specs.Rows.{Doc, Row, Tables, documented}
 use Rattle.document.specs.Elements.{among, opens, opensAs, Keeping}
-use Rattle.document.specs.Reading.{Name, tagName, Purpose, ignored, captures, Frame, element, definition, passing, State, begun, reading, accepted, refused, nameOf, parentOf, notedIn, noted, frameOf, closed, passed, shut, inner, turn, step, run}
-use Rattle.document.specs.Whole.{Room, read}
+use Rattle.document.specs.Reading.{Name, Purpose, ignored, captures, Frame, element, definition, passing, State, begun, reading, accepted, refused, nameOf, parentOf, notedIn, noted, frameOf, closed, passed, shut, inner, turn, step, run}
 use Rattle.document.specs.Outcome.{whole}
-use Rattle.document.proofs.Tests.{either, never}
+use Rattle.document.proofs.Tests.{either}
 use Rattle.document.proofs.Places.{byte-left}
 use Rattle.document.proofs.Nexts.{Onward, Ended, next-reaches}
 use Rattle.document.proofs.Runs.{run-more, run-last}
@@ -34,7 +33,7 @@ use Rattle.accepted.proofs.Folding.{meaning-accepts}
 use Rattle.accepted.proofs.Entries.{Entry, start-opens}
 use Rattle.accepted.proofs.Entering.{begins-kind}
 use Rattle.accepted.proofs.Accepted.{read-accepts}
-use Rattle.docstrings.specs.Passable.{Passable, PassableDoc, AllPassable, DocstringsPassable}
+use Rattle.docstrings.specs.Passable.{PassableDoc, AllPassable, DocstringsPassable}
 use Rattle.docstrings.proofs.Shifts.{laterToken, laterTag}
 use Rattle.docstrings.proofs.Atoms.{Tags, Atom, token, bytesOf, Leads, next-bounds}
 use Rattle.docstrings.proofs.Pieces.{leads-append, bytes-append, content-passable}
