@@ -8,3 +8,7 @@ pub mod Rooted
 pub mod Left
 pub mod Entries
 pub mod Assembly
+pub mod Regrown
+pub mod Depth
+pub mod SoundTrees
+pub mod Sizes
