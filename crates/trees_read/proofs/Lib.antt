@@ -12,3 +12,10 @@ pub mod Regrown
 pub mod Depth
 pub mod SoundTrees
 pub mod Sizes
+pub mod Runs
+pub mod Shapes
+pub mod Entering
+pub mod Frames
+pub mod Trees
+pub mod Texts
+pub mod Answers
