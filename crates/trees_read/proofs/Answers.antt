@@ -142,6 +142,7 @@ pub record Answers (t : Tree Element) (room : Room) : Type 0 where
   pub accepts : read (writtenTree t) room ≡ accepted tables
   pub silent : tables .warnings ≡ []
   pub rows : length (tables .rows) ≡ size t
+  pub bytes : length (texts (tables .rows)) ≡ referenced (values t)
   pub shows : rowsShown (writtenTree t) (texts (tables .rows)) (wordsFrom 0 (tables .rows)) (length (tables .rows)) ≡ flat 0 0 0 t
 
 module _ (t : Tree Element) (room : Room) (is : kindIn t ≡ kinds.node) (g : Good 0 t) (f : Fits t room) where
@@ -194,4 +195,4 @@ module _ (t : Tree Element) (room : Room) (is : kindIn t ≡ kinds.node) (g : Go
       ∙ shown-rows
 
   pub reads : Answers t room
-  reads = record { tables = found .0; means = means-run ∙ found .1; accepts = fits; silent = no-warnings; rows = row-count; shows = words-show }
+  reads = record { tables = found .0; means = means-run ∙ found .1; accepts = fits; silent = no-warnings; rows = row-count; bytes = text-size; shows = words-show }
