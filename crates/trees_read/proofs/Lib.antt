@@ -10,7 +10,6 @@ pub mod Trees
 pub mod Texts
 pub mod Answers
 pub mod Regrown
-pub mod Depth
 pub mod SoundTrees
 pub mod Sizes
 pub mod Depths
