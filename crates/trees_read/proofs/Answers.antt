@@ -14,28 +14,27 @@ use Rattle.references.specs.Escape.{escape}
 use Rattle.references.specs.Unescape.{plain}
 use Rattle.document.specs.Kinds as kinds
 use Rattle.document.specs.Tags.{Shown}
-use Rattle.document.specs.Rows as tables
 use Rattle.document.specs.Rows.{Tables, wordsFrom, texts}
 use Rattle.document.specs.Elements.{whole}
-use Rattle.document.specs.Reading as states
 use Rattle.document.specs.Reading.{begun, accepted, run}
 use Rattle.document.specs.Whole.{Room, meaning, read}
 use Rattle.items.specs.Content as content
 use Rattle.items.specs.Words.{rowsShown}
-use Rattle.items.specs.View.{over, viewRow, viewTables, view, textShown}
+use Rattle.items.specs.View.{viewRow, viewTables, textShown}
 use Rattle.items.specs.Written.{annotated, concat}
 use Rattle.accepted.proofs.Accepted.{words-shown}
 use Rattle.roundtrip.specs.Items.{nameValues, referenced}
-use Rattle.roundtrip.proofs.Held.{Held, held, Row, marked, table}
-use Rattle.roundtrip.proofs.Equal.{valueOf, Placeless, unmarked}
+use Rattle.roundtrip.proofs.Held.{held, Row, marked, table}
+use Rattle.roundtrip.proofs.Equal.{valueOf, Placeless, both-placeless, unmarked}
 use Rattle.roundtrip.proofs.Keeping.{view-run}
-use Rattle.roundtrip.proofs.Room.{sizes, texts-size, table-size}
+use Rattle.roundtrip.proofs.Whole.{accepted-view, shown-held}
+use Rattle.roundtrip.proofs.Room.{sizes, referenced-append, texts-size, table-size}
 use Rattle.trees.specs.Trees.{Tree, tree, Forest, bare, more, size}
 use Rattle.trees.specs.Written.{Element, docstrings, writtenTree}
 use Rattle.trees_read.specs.Statement.{valuesOf, values, valuesIn, Fits}
 use Rattle.trees_read.proofs.Good.{kindIn, Good}
-use Rattle.trees_read.proofs.Flat.{contentAt, rowFor, flat, flats}
-use Rattle.trees_read.proofs.Trees.{length-flat, tree-run}
+use Rattle.trees_read.proofs.Flat.{contentAt, rowFor, flat, flats, length-flat}
+use Rattle.trees_read.proofs.Trees.{tree-run}
 use Rattle.trees_read.proofs.Texts.{whole-tree}
 
 -- ---- the size of the text
@@ -65,10 +64,6 @@ sizes-append : (xs ys : List Row) → sizes (xs ++ ys) ≡ sizes xs + sizes ys
 sizes-append [] ys = omega arith
 sizes-append (x ∷ xs) ys = omega (arith, sizes-append xs ys)
 
-referenced-append : (vs us : List (List ℕ)) → referenced (vs ++ us) ≡ referenced vs + referenced us
-referenced-append [] us = omega arith
-referenced-append (v ∷ vs) us = omega (arith, referenced-append vs us)
-
 element-size : (p at : ℕ) (e : Element) → sizes (marked (rowFor p at e) ∷ []) ≡ referenced (valuesOf e)
 element-size p at e =
     omega
@@ -92,10 +87,6 @@ mutual
 
 -- ---- rows without places
 
-both-placeless : (rs ss : List content.Row) → Placeless rs → Placeless ss → Placeless (rs ++ ss)
-both-placeless [] ss h i = i
-both-placeless (r ∷ rs) ss h i = (h .0, both-placeless rs ss (h .1) i)
-
 mutual
   pub flat-placeless : (p i at : ℕ) (t : Tree Element) → Placeless (flat p i at t)
   flat-placeless p i at (tree e f) = (refl, flats-placeless (suc i) (suc i) (contentAt at e + length (concat (docstrings (e .doc)))) f)
@@ -107,34 +98,6 @@ mutual
 
 -- ---- the reader that keeps all of an attribute
 
-accepted-view : (s : states.State Shown) (u : Tables Held) → view held s ≡ accepted u → (t : Tables Shown) × (s ≡ accepted t) × (viewTables held t ≡ u)
-accepted-view begun u e = let z : _≡_ {A = ℕ} 0 1 = cc in absurd (omega arith)
-accepted-view (states.reading fs t) u e = let z : _≡_ {A = ℕ} 0 1 = cc in absurd (omega arith)
-accepted-view (accepted t) u e = (t, refl, tablesOf e)
-  where
-    inState : states.State Held → Tables Held
-    inState begun = u
-    inState (states.reading fs v) = v
-    inState (accepted v) = v
-    inState (states.refused x) = u
-
-    tablesOf : accepted (viewTables held t) ≡ accepted u → viewTables held t ≡ u
-    tablesOf e = ap inState e
-accepted-view (states.refused x) u e = let z : _≡_ {A = ℕ} 0 1 = cc in absurd (omega arith)
-
-text-held : (o : Option Shown) → over textShown o ≡ over valueOf (over held o)
-text-held none = refl
-text-held (some s) = refl
-
-shown-held : (rs : List (tables.Row Shown)) → map (viewRow textShown) rs ≡ map (viewRow valueOf) (map (viewRow held) rs)
-shown-held [] = refl
-shown-held (r ∷ rs) =
-    let a = text-held (r .name) in
-    let v = text-held (r .value) in
-    let t = text-held (r .tp) in
-    let e = shown-held rs in
-    λ j. record { kind = r .kind; parent = r .parent; name = a j; value = v j; tp = t j; doc = r .doc; word = r .word; at = 0 } ∷ e j
-
 -- what the reader answers
 pub record Answers (t : Tree Element) (room : Room) : Type 0 where
   pub tables : Tables Shown
@@ -142,6 +105,7 @@ pub record Answers (t : Tree Element) (room : Room) : Type 0 where
   pub accepts : read (writtenTree t) room ≡ accepted tables
   pub silent : tables .warnings ≡ []
   pub rows : length (tables .rows) ≡ size t
+  pub bytes : length (texts (tables .rows)) ≡ referenced (values t)
   pub shows : rowsShown (writtenTree t) (texts (tables .rows)) (wordsFrom 0 (tables .rows)) (length (tables .rows)) ≡ flat 0 0 0 t
 
 module _ (t : Tree Element) (room : Room) (is : kindIn t ≡ kinds.node) (g : Good 0 t) (f : Fits t room) where
@@ -194,4 +158,4 @@ module _ (t : Tree Element) (room : Room) (is : kindIn t ≡ kinds.node) (g : Go
       ∙ shown-rows
 
   pub reads : Answers t room
-  reads = record { tables = found .0; means = means-run ∙ found .1; accepts = fits; silent = no-warnings; rows = row-count; shows = words-show }
+  reads = record { tables = found .0; means = means-run ∙ found .1; accepts = fits; silent = no-warnings; rows = row-count; bytes = text-size; shows = words-show }

@@ -125,8 +125,8 @@ leaves document x ws out n room m w =
     }
 
 -- B
-pub sound-entries : SoundTrees → SoundEntries
-sound-entries h document x ws out n room m w d =
+pub entries-of-sound : SoundTrees → SoundEntries
+entries-of-sound h document x ws out n room m w d =
     let l = leaves document x ws out n room m w in
     (l .bytes, returns-from (take m out) (treeAt document x ws n 0) (l .bytes) (λ lent f. h document x ws n (l .is-sound) (l .there) d (l .low) lent f))
 
@@ -193,8 +193,8 @@ module _ (doc : List ℕ) (u : Tables Shown) (e : meaning doc ≡ accepted u) (y
       (subst (λ t. (lent : Room) → Fits t lent → ReadsBack t lent) (sym (left-tree doc u e y z)) h)
 
 -- A
-pub reader-entries : ReaderTrees → ReaderEntries
-reader-entries h doc rows warnings x lent n c w s l room out r p = go (read doc lent) refl (s .verdict) (s .rows-left) (s .text-left)
+pub entries-of-reader : ReaderTrees → ReaderEntries
+entries-of-reader h doc rows warnings x lent n c w s l room out r p = go (read doc lent) refl (s .verdict) (s .rows-left) (s .text-left)
   where
     Goes : List ℕ → List ℕ → ℕ → Type 0
     Goes x rows n = length x ≤ 1048576 → WritesTree doc x rows n 0 room out r → Writable (treeAt doc x rows n 0) room out r

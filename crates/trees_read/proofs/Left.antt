@@ -22,13 +22,10 @@ use Rattle.trees.specs.Trees.{tree, Forest, bare, more, joined, mapTree, mapFor
 use Rattle.trees.specs.Shape.{Link, linkOf, types, args, members, annotations, nodes, grouped, chosen, stands, forest, under, shapeAt}
 use Rattle.trees.specs.Written.{Element, elementOf, elementAt, treeAt}
 use Rattle.trees_read.specs.Statement.{treeOf}
+use Rattle.trees_read.proofs.Regrown.{map-joined}
 use Rattle.trees_read.proofs.Rooted.{accepts-rooted}
 
 -- ---- trees of rows below n, whose elements are the same
-
-map-joined : (e : ℕ → Element) (f g : Forest ℕ) → mapForest e (joined f g) ≡ joined (mapForest e f) (mapForest e g)
-map-joined e bare g = refl
-map-joined e (more t f) g = ap (more (mapTree e t)) (map-joined e f g)
 
 module _ (e g : ℕ → Element) where
   joined-alike : (a b : Forest ℕ) → mapForest e a ≡ mapForest g a → mapForest e b ≡ mapForest g b → mapForest e (joined a b) ≡ mapForest g (joined a b)

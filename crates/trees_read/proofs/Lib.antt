@@ -2,10 +2,6 @@
 -- Assumes nothing.
 pub mod Good
 pub mod Flat
-pub mod Regrown
-pub mod Depth
-pub mod SoundTrees
-pub mod Sizes
 pub mod Runs
 pub mod Shapes
 pub mod Entering
@@ -13,9 +9,12 @@ pub mod Frames
 pub mod Trees
 pub mod Texts
 pub mod Answers
+pub mod Regrown
+pub mod SoundTrees
+pub mod Sizes
 pub mod Depths
 pub mod Shallow
 pub mod Rooted
 pub mod Left
 pub mod Entries
-pub mod Assembly
+pub mod Theorems

@@ -20,7 +20,7 @@ use Rattle.trees.specs.Trees.{Tree, tree, Forest, bare, more, joined, mapTree, 
 use Rattle.trees.specs.Shape.{Link, linkOf, linksOf, grouped, chosen, forest, under, shapeAt, types, args, members, annotations, nodes}
 use Rattle.trees.specs.Written.{Element, elementOf, elementAt, docstring, treeAt, tagOf, attributes, docTag, docstrings, writtenTree, writtenForest}
 use Rattle.trees_read.proofs.Good.{Good, Goods, Fit, Documented, kindIn, ofKinds, anyTree, openIn}
-use Rattle.trees_read.proofs.Flat.{contentAt, docAt, rowFor, flat, flats}
+use Rattle.trees_read.proofs.Flat.{contentAt, docAt, rowFor, flat, flats, concat-append, length-flat}
 
 -- ---- forests
 
@@ -157,16 +157,6 @@ mutual
       map-append linkIn (flat p i at t) (flats p (i + size t) (at + length (writtenTree t)) f)
       ∙ (λ j. flat-links t p i at j ++ flats-links f p (i + size t) (at + length (writtenTree t)) j)
 
-mutual
-  pub flat-length : (t : Tree Element) (p i at : ℕ) → length (flat p i at t) ≡ size t
-  flat-length (tree e f) p i at = ap suc (flats-length f (suc i) (suc i) (contentAt at e + length (concat (docstrings (e .doc)))))
-
-  pub flats-length : (f : Forest Element) (p i at : ℕ) → length (flats p i at f) ≡ sizes f
-  flats-length bare p i at = refl
-  flats-length (more t f) p i at =
-      length-append (flat p i at t) (flats p (i + size t) (at + length (writtenTree t)) f)
-      ∙ (λ j. flat-length t p i at j + flats-length f p (i + size t) (at + length (writtenTree t)) j)
-
 shown-links : (doc text : List ℕ) (n : ℕ) (ws : List ℕ) → linksOf n ws ≡ map linkIn (rowsShown doc text ws n)
 shown-links doc text zero ws = refl
 shown-links doc text (suc n) ws = ap (_∷_ (linkOf (rowOf ws))) (shown-links doc text n (drop 16 ws))
@@ -184,10 +174,6 @@ row-shown doc text (suc n) (suc i) ws r rs e =
 element-open : (n : List ℕ) (ps : List Pair) (cs : List (List ℕ)) → empty cs ≡ false → element n ps cs ≡ tag n ps false ++ (concat cs ++ closingTag n)
 element-open n ps [] h = let z : _≡_ {A = ℕ} 0 1 = cc in absurd (omega arith)
 element-open n ps (c ∷ cs) h = refl
-
-concat-append : (a b : List (List ℕ)) → concat (a ++ b) ≡ concat a ++ concat b
-concat-append [] b = refl
-concat-append (x ∷ a) b = ap (_++_ x) (concat-append a b) ∙ sym (append-assoc x (concat a) (concat b))
 
 some-more : (a : List (List ℕ)) (x : List ℕ) (b : List (List ℕ)) → empty (a ++ (x ∷ b)) ≡ false
 some-more [] x b = refl
@@ -246,7 +232,7 @@ module _ (doc text ws : List ℕ) (n : ℕ) where
     forest-shows bare d k p i at pre post rest g h l r = tt
     forest-shows (more t f) d k p i at pre post rest g h l r = (
       tree-shows t d p i at pre (concat (writtenForest f) ++ post) (flats p (i + size t) (at + length (writtenTree t)) f ++ rest) (g .1) (h refl ∙ simp append-assoc) l (r ∙ append-assoc (flat p i at t) (flats p (i + size t) (at + length (writtenTree t)) f) rest),
-      forest-shows f d k p (i + size t) (at + length (writtenTree t)) (pre ++ writtenTree t) post rest (g .2) (λ a. h refl ∙ simp append-assoc) (simp length-append (omega arith)) (drop-past i (size t) (rowsShown doc text ws n) (flat p i at t) (flats p (i + size t) (at + length (writtenTree t)) f ++ rest) (flat-length t p i at) (r ∙ append-assoc (flat p i at t) (flats p (i + size t) (at + length (writtenTree t)) f) rest)),
+      forest-shows f d k p (i + size t) (at + length (writtenTree t)) (pre ++ writtenTree t) post rest (g .2) (λ a. h refl ∙ simp append-assoc) (simp length-append (omega arith)) (drop-past i (size t) (rowsShown doc text ws n) (flat p i at t) (flats p (i + size t) (at + length (writtenTree t)) f ++ rest) (length-flat p i at t) (r ∙ append-assoc (flat p i at t) (flats p (i + size t) (at + length (writtenTree t)) f) rest)),
     )
 
 -- the rows of a tree give the tree

@@ -28,7 +28,11 @@ use Rattle.trees.specs.Written.{Element, elementAt, treeAt}
 use Rattle.trees.specs.Writing.{isOpenNode, first, tooDeep, tooDeeps}
 use Rattle.trees_read.proofs.Good.{Good, Goods, Fit, Fitting, Documented, kindIn, ofKinds, anyTree, keyedIn, complete, openIn}
 use Rattle.trees_read.proofs.Regrown.{joined-bare, map-grouped}
-use Rattle.trees_read.proofs.Depth.{open-map}
+
+-- whether an element is an open node does not depend on what the trees in it hold
+open-map : (e : ℕ → Element) (x : Element) (f : Forest ℕ) → isOpenNode x (mapForest e f) ≡ isOpenNode x f
+open-map e x bare = refl
+open-map e x (more t f) = refl
 
 -- ---- kinds
 

@@ -5,22 +5,23 @@ use mathlib.Core.Path.{_≡_, refl, sym, subst}
 use mathlib.Core.List.{List, [], _∷_, _++_, append-assoc}
 use mathlib.Core.Option.{Option, none, some}
 use mathlib.Core.Bool.{Bool, true, false}
-use borrow.Author.Tests.{eqb-true, eq-eqb, ltb-true}
+use borrow.Author.Tests.{eqb-true, eq-eqb}
 use lib.Dec.{eqb, ltb}
 use lib.ListN.{length}
 use Rattle.slices.specs.Bytes.{if, bytes, all}
 use Rattle.utf8.specs.WellFormed.{illFormed, wellFormed}
-use Rattle.utf8.proofs.Texts.{Whole, none-whole, whole, formed, whole-append, whole-char, ascii-char, ascii}
+use Rattle.utf8.proofs.Texts.{Whole, none-whole, whole, formed, whole-append, ascii}
 use Rattle.references.specs.Escape.{escape}
 use Rattle.references.proofs.Formed.{escape-formed}
 use Rattle.document.specs.Kinds as kinds
 use Rattle.document.specs.Elements.{among}
 use Rattle.items.specs.Sound.{Use}
-use Rattle.items.specs.Written.{Pair, pairs, ending, tag, closingTag, concat, element}
+use Rattle.items.specs.Written.{Pair, pairs, closingTag, concat}
+use Rattle.roundtrip.proofs.Texts.{first, whole-tag, whole-close, whole-element}
 use Rattle.trees.specs.Trees.{Tree, tree, Forest, bare, more}
 use Rattle.trees.specs.Written.{Element, tagOf, given, nameKey, valueKey, tpKey, wordPairs, attributes, docTag, docstrings, writtenTree, writtenForest}
 use Rattle.trees_read.proofs.Good.{Fitting, Documented, Fit, openIn, Good, Goods}
-use Rattle.trees_read.proofs.Trees.{concat-append}
+use Rattle.trees_read.proofs.Flat.{concat-append}
 
 either : {A : Type 0} (P : A → Type 0) (b : Bool) {x y : A} → P x → P y → P (if b x y)
 either P true h k = h
@@ -28,10 +29,6 @@ either P false h k = k
 
 formed-whole : (s : List ℕ) → wellFormed s ≡ true → Whole s
 formed-whole s h = whole s (eqb-true (illFormed s) (length s) h)
-
--- a byte below 128, then a text
-first : (b : ℕ) (l : List ℕ) → ltb b 128 ≡ true → Whole l → Whole (b ∷ l)
-first b l h w = whole-append (whole-char (ascii-char (ltb-true b 128 h))) w
 
 plain : (s : List ℕ) → all (λ b. ltb b 128) s ≡ true → wellFormed s ≡ true
 plain s h = eq-eqb (illFormed s) (length s) (formed (ascii s h))
@@ -78,22 +75,6 @@ whole-attributes e f =
     (joint (given tpKey (e .tp)) _ (whole-given tpKey (ascii _ refl) _ _ (e .tp) (f .tp)) (whole-word k (e .word))))
 
 -- ---- tags
-
-whole-ending : (self : Bool) → Whole (ending self)
-whole-ending true = ascii _ refl
-whole-ending false = ascii _ refl
-
-whole-tag : (n : List ℕ) (ps : List Pair) (self : Bool) → Whole n → Whole (pairs ps) → Whole (tag n ps self)
-unfolding tag
-whole-tag n ps self h k = first 60 _ refl (whole-append h (whole-append k (whole-ending self)))
-
-whole-close : (n : List ℕ) → Whole n → Whole (closingTag n)
-unfolding closingTag
-whole-close n h = first 60 _ refl (first 47 _ refl (whole-append h (ascii _ refl)))
-
-whole-element : (n : List ℕ) (ps : List Pair) (cs : List (List ℕ)) → Whole n → Whole (pairs ps) → Whole (concat cs) → Whole (element n ps cs)
-whole-element n ps [] h k w = whole-tag n ps true h k
-whole-element n ps (c ∷ cs) h k w = whole-append (whole-tag n ps false h k) (whole-append w (whole-close n h))
 
 whole-tagOf : (k : ℕ) → Whole (tagOf k)
 unfolding tagOf

@@ -21,22 +21,18 @@ use Rattle.items.specs.Content as content
 use Rattle.items.specs.Written.{Pair, tag, closingTag, concat, element}
 use Rattle.roundtrip.proofs.Tags.{Name, TagName, Keys, tagAt}
 use Rattle.roundtrip.proofs.Held.{keeps, Row, State, marked, table, inside}
-use Rattle.roundtrip.proofs.Elements.{nameFrom}
+use Rattle.roundtrip.proofs.Elements.{nameFrom, tag-name}
 use Rattle.trees.specs.Trees.{Tree, tree, Forest, bare, more, size, sizes}
 use Rattle.trees.specs.Written.{Element, tagOf, attributes, docstrings, writtenTree, writtenForest}
 use Rattle.trees.specs.Writing.{isOpen, isOpenNode}
 use Rattle.trees_read.proofs.Good.{Fit, Documented, kindIn, openIn, Good, Goods}
-use Rattle.trees_read.proofs.Flat.{contentAt, docAt, rowFor, flat, flats}
+use Rattle.trees_read.proofs.Flat.{contentAt, docAt, rowFor, flat, flats, concat-append, length-flat, length-flats}
 use Rattle.trees_read.proofs.Runs.{after, tag-run, close-run, written, documented-last, docstring-run}
 use Rattle.trees_read.proofs.Shapes.{Known, held-known, node-in-node}
 use Rattle.trees_read.proofs.Entering.{bareFor, framed, noParts, startAt, Enters, enters, tag-names}
 use Rattle.trees_read.proofs.Frames.{plusIf, elementIn, partsAfter, parts-good, close-framed, docstring-start, own, start-self, start-open, root-self, root-open}
 
 -- ---- an element around its content
-
-tag-name : (n : List ℕ) → TagName n → Name n
-tag-name [] h = h
-tag-name (c ∷ n) h = h .0
 
 module _ (doc : List ℕ) (at : ℕ) (n : List ℕ) (ps : List Pair) (r : List ℕ) (h : TagName n) (k : Keys [] ps) (l : length ps ≤ 256) (s s0 s1 s2 : State) where
   abbrev body : ℕ
@@ -81,21 +77,6 @@ doc-run doc at r (some (b ∷ s)) e h d n a q fs rs p =
     ∙ ap (λ x. run keeps doc (at + length x) (inside (f ∷ fs) (rs ++ marked (withDocAt p at (some (b ∷ s)) e) ∷ []) [])) (sym z)
 
 -- ---- its content
-
-pub concat-append : (xs ys : List (List ℕ)) → concat (xs ++ ys) ≡ concat xs ++ concat ys
-concat-append [] ys = refl
-concat-append (x ∷ xs) ys = ap (_++_ x) (concat-append xs ys) ∙ sym (append-assoc x (concat xs) (concat ys))
-
-mutual
-  pub length-flat : (p i at : ℕ) (t : Tree Element) → length (flat p i at t) ≡ size t
-  length-flat p i at (tree e f) = ap suc (length-flats (suc i) (suc i) (contentAt at e + length (concat (docstrings (e .doc)))) f)
-
-  pub length-flats : (p i at : ℕ) (f : Forest Element) → length (flats p i at f) ≡ sizes f
-  length-flats p i at bare = refl
-  length-flats p i at (more t f) =
-      let k = i + size t in
-      let b = at + length (writtenTree t) in
-      omega (arith, length-append (flat p i at t) (flats p k b f), length-flat p i at t, length-flats p k b f)
 
 -- nothing is written in an element
 nothing-said : (k : ℕ) (o : Option (List ℕ)) (f : Forest Element) → Documented k o → docstrings o ++ writtenForest f ≡ [] → (o ≡ none) × (f ≡ bare)

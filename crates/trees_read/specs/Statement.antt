@@ -76,3 +76,7 @@ SoundTrees =
     (lent : Room) →
     Fits (treeAt document text ws n 0) lent →
     ReadsBack (treeAt document text ws n 0) lent
+
+-- a tree has at most as many elements as there are rows, so room for the claimed rows is enough
+abbrev pub TreeRows : Type 0
+TreeRows = (document text ws : List ℕ) (n : ℕ) → 0 < n → size (treeAt document text ws n 0) ≤ n

@@ -1,5 +1,5 @@
--- The statements from what is known of good trees: they are read, and their rows regrow them; the rows of a document that is accepted, and
--- sound rows with no docstring, give good trees; and a tree that reads back is written as the same bytes again.
+-- The theorems: good trees are read, and their rows regrow them; the rows of a document that is accepted, and sound rows with no docstring,
+-- give good trees; and a tree that reads back is written as the same bytes again.
 -- Assumes nothing.
 use Prim.Native.Nat.{ℕ, zero, suc, _≤_, _<_}
 use mathlib.Core.Path.{_≡_, refl, ap, sym, subst, _∙_}
@@ -18,7 +18,6 @@ use Rattle.items.specs.Words.{docstringBy, rowsShown}
 use Rattle.items.specs.View.{over}
 use Rattle.items.specs.Sound.{sound, soundness}
 use Rattle.bounds.proofs.Whole as bounds
-use Rattle.roundtrip.specs.Items.{referenced}
 use Rattle.roundtrip.proofs.Held.{keeps}
 use Rattle.accepted.proofs.Folding.{Accepts, meaning-accepts}
 use Rattle.accepted.proofs.Docstrings.{DocIn, DocsIn}
@@ -26,17 +25,22 @@ use Rattle.accepted.proofs.Triples.{docOf}
 use Rattle.accepted.proofs.States.{rowAt, accepts-holds}
 use Rattle.accepted.proofs.Accepted.{tables-sound, read-accepts}
 use Rattle.docstrings.specs.Passable.{PassableDoc, AllPassable, DocstringsPassable}
-use Rattle.trees.specs.Trees.{Tree, size}
-use Rattle.trees.specs.Shape.{shapeAt}
+use Rattle.docstrings.proofs.Whole.{docstrings-passable}
+use Rattle.trees.specs.Trees.{Tree}
 use Rattle.trees.specs.Written.{Element, docstring, elementAt, treeAt, writtenTree}
-use Rattle.trees.specs.Writing.{tooDeep, treeWriting}
-use Rattle.trees_read.specs.Statement.{values, Fits, treeOf, ReadsBack, ReaderTrees, NoDocstrings, SoundTrees}
+use Rattle.trees.specs.Writing.{treeWriting}
+use Rattle.trees_read.specs.Statement.{Fits, treeOf, ReadsBack, ReaderTrees, NoDocstrings, SoundTrees, TreeRows}
+use Rattle.trees_read.specs.Entries.{ReaderEntries, SoundEntries}
 use Rattle.trees_read.proofs.Good.{Documented, kindIn, Good}
 use Rattle.trees_read.proofs.Flat.{flat}
 use Rattle.trees_read.proofs.Depths.{docIn}
 use Rattle.trees_read.proofs.Shallow.{kind-is, doc-is, never-deep}
 use Rattle.trees_read.proofs.Rooted.{accepts-rooted}
-use Rattle.trees_read.proofs.Entries.{tree-written}
+use Rattle.trees_read.proofs.Regrown.{regrown}
+use Rattle.trees_read.proofs.SoundTrees.{sound-good}
+use Rattle.trees_read.proofs.Sizes.{tree-size}
+use Rattle.trees_read.proofs.Answers.{Answers, reads}
+use Rattle.trees_read.proofs.Entries.{tree-written, entries-of-reader, entries-of-sound}
 
 -- ---- written again
 
@@ -89,75 +93,56 @@ none-documented document x ws n h i l = rw (h i l) tt
 
 -- ---- the statements
 
--- a good tree whose root is a node is read, with room for it
-pub record Answered (t : Tree Element) (room : Room) : Type 0 where
-  pub tables : Tables Shown
-  pub accepts : read (writtenTree t) room ≡ accepted tables
-  pub silent : tables .warnings ≡ []
-  pub rows : length (tables .rows) ≡ size t
-  pub bytes : length (texts (tables .rows)) ≡ referenced (values t)
-  pub shows : rowsShown (writtenTree t) (texts (tables .rows)) (wordsFrom 0 (tables .rows)) (length (tables .rows)) ≡ flat 0 0 0 t
+pub reads-back : (t : Tree Element) (room : Room) → kindIn t ≡ kinds.node → Good 0 t → Fits t room → ReadsBack t room
+reads-back t room k g f = record {
+  tables = a .tables;
+  accepts = a .accepts;
+  silent = a .silent;
+  rows = a .rows;
+  bytes = a .bytes;
+  same = back;
+  again = again t room (a .tables) (a .accepts) back;
+}
+  where
+    a : Answers t room
+    a = reads t room k g f
 
-abbrev pub Answers : Type 0
-Answers = (t : Tree Element) (room : Room) → kindIn t ≡ kinds.node → Good 0 t → Fits t room → Answered t room
+    back : treeOf (writtenTree t) (a .tables) ≡ t
+    back =
+        subst (λ n. treeAt (writtenTree t) (texts (a .tables .rows)) (wordsFrom 0 (a .tables .rows)) n 0 ≡ t) (sym (a .rows))
+        (regrown (writtenTree t) (texts (a .tables .rows)) (wordsFrom 0 (a .tables .rows)) t 0 g refl
+        (subst (λ n. rowsShown (writtenTree t) (texts (a .tables .rows)) (wordsFrom 0 (a .tables .rows)) n ≡ flat 0 0 0 t) (a .rows) (a .shows)))
 
--- its rows regrow it
-abbrev pub Regrown : Type 0
-Regrown =
-    (doc text ws : List ℕ) (t : Tree Element) (d : ℕ) →
-    Good d t →
-    doc ≡ writtenTree t →
-    rowsShown doc text ws (size t) ≡ flat 0 0 0 t →
-    treeAt doc text ws (size t) 0 ≡ t
+pub sound-trees : SoundTrees
+sound-trees document x ws n s l d w lent f =
+    let g = sound-good document x ws n s l (none-documented document x ws n d) w in
+    reads-back (treeAt document x ws n 0) lent (g .1) (g .0) f
 
--- sound rows give good trees
-abbrev pub SoundGood : Type 0
-SoundGood =
-    (document text ws : List ℕ) (n : ℕ) →
-    soundness document text ws n ≡ sound →
-    0 < n →
-    ((i : ℕ) → i < n → Documented (elementAt document text ws i .kind) (elementAt document text ws i .doc)) →
-    tooDeep (elementAt document text ws) 0 (shapeAt ws n 0) ≡ none →
-    Good 0 (treeAt document text ws n 0) × (kindIn (treeAt document text ws n 0) ≡ kinds.node)
+pub reader-trees : ReaderTrees
+reader-trees doc room u e = (
+  never-deep doc room u e,
+  λ lent f. reads-back (treeOf doc u) lent (g .1) (g .0) f,
+)
+  where
+    m : meaning doc ≡ accepted u
+    m = read-accepts doc room u e
 
-module _ (answers : Answers) (regrown : Regrown) where
-  pub reads-back : (t : Tree Element) (room : Room) → kindIn t ≡ kinds.node → Good 0 t → Fits t room → ReadsBack t room
-  reads-back t room k g f = record {
-    tables = a .tables;
-    accepts = a .accepts;
-    silent = a .silent;
-    rows = a .rows;
-    bytes = a .bytes;
-    same = back;
-    again = again t room (a .tables) (a .accepts) back;
-  }
-    where
-      a : Answered t room
-      a = answers t room k g f
+    is-sound : soundness doc (texts (u .rows)) (wordsFrom 0 (u .rows)) (length (u .rows)) ≡ sound
+    is-sound = rw (append-nil (texts (u .rows)), append-nil (wordsFrom 0 (u .rows))) at (tables-sound doc u m [] [])
 
-      back : treeOf (writtenTree t) (a .tables) ≡ t
-      back =
-          subst (λ n. treeAt (writtenTree t) (texts (a .tables .rows)) (wordsFrom 0 (a .tables .rows)) n 0 ≡ t) (sym (a .rows))
-          (regrown (writtenTree t) (texts (a .tables .rows)) (wordsFrom 0 (a .tables .rows)) t 0 g refl
-          (subst (λ n. rowsShown (writtenTree t) (texts (a .tables .rows)) (wordsFrom 0 (a .tables .rows)) n ≡ flat 0 0 0 t) (a .rows) (a .shows)))
+    g : Good 0 (treeOf doc u) × (kindIn (treeOf doc u) ≡ kinds.node)
+    g =
+        sound-good doc (texts (u .rows)) (wordsFrom 0 (u .rows)) (length (u .rows)) is-sound (accepts-rooted doc (meaning-accepts doc u m))
+        (reader-documented (docstrings-passable keeps) doc room u e)
+        (never-deep doc room u e)
 
-  module _ (good : SoundGood) where
-    pub sound-trees : SoundTrees
-    sound-trees document x ws n s l d w lent f =
-        let g = good document x ws n s l (none-documented document x ws n d) w in
-        reads-back (treeAt document x ws n 0) lent (g .1) (g .0) f
+pub tree-rows : TreeRows
+tree-rows = tree-size
 
-    pub reader-trees : DocstringsPassable keeps → ReaderTrees
-    reader-trees p doc room u e = (
-      never-deep doc room u e,
-      λ lent f. reads-back (treeOf doc u) lent (g .1) (g .0) f,
-    )
-      where
-        m : meaning doc ≡ accepted u
-        m = read-accepts doc room u e
+-- ---- at the entries
 
-        is-sound : soundness doc (texts (u .rows)) (wordsFrom 0 (u .rows)) (length (u .rows)) ≡ sound
-        is-sound = rw (append-nil (texts (u .rows)), append-nil (wordsFrom 0 (u .rows))) at (tables-sound doc u m [] [])
+pub reader-entries : ReaderEntries
+reader-entries = entries-of-reader reader-trees
 
-        g : Good 0 (treeOf doc u) × (kindIn (treeOf doc u) ≡ kinds.node)
-        g = good doc (texts (u .rows)) (wordsFrom 0 (u .rows)) (length (u .rows)) is-sound (accepts-rooted doc (meaning-accepts doc u m)) (reader-documented p doc room u e) (never-deep doc room u e)
+pub sound-entries : SoundEntries
+sound-entries = entries-of-sound sound-trees
