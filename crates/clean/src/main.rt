@@ -92,15 +92,21 @@ fn put_tree<'a>(
     }
 }
 
-// What was read: what was decoded, or the file itself.
-fn read_of<'a>(file: &'a [u8], decoded: &'a [u8], n: usize) -> &'a [u8] {
-    if n == 0 {
-        return file;
+// The tree of a document that was read, or why it is refused.
+fn put_verdict<'a>(
+    document: &'a [u8],
+    text: &'a [u8],
+    rows: &[u32],
+    verdict: Verdict,
+    space: &mut [u8],
+) {
+    match verdict {
+        Verdict::Refused(refusal) => tell(document, told_of(refusal), space),
+        Verdict::Accepted(r, t, _) => { put_tree(document, output::front(text, t), rows, r, space) }
     }
-    output::front(decoded, n)
 }
 
-// Reads a document, and writes its tree or why it is refused.
+// Reads a document, and writes its tree or why it is refused; of a file in UTF-16 the document is what was decoded.
 fn put_clean(file: &[u8], space: &mut [u8]) {
     let mut rows = [0u32; 16384];
     let mut warnings = [0u32; 16384];
@@ -108,12 +114,11 @@ fn put_clean(file: &[u8], space: &mut [u8]) {
     let mut decoded = io::large_buffer();
     let reading = reader::read(file, &mut rows, &mut warnings, &mut text, &mut decoded);
     let verdict = reading.verdict;
-    let document = read_of(file, &decoded, reading.decoded);
-    match verdict {
-        Verdict::Refused(refusal) => tell(document, told_of(refusal), space),
-        Verdict::Accepted(r, t, _) => {
-            put_tree(document, output::front(&text, t), &rows, r, space)
-        }
+    let n = reading.decoded;
+    if n == 0 {
+        put_verdict(file, &text, &rows, verdict, space);
+    } else {
+        put_verdict(output::front(&decoded, n), &text, &rows, verdict, space);
     }
 }
 
