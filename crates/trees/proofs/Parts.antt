@@ -1,13 +1,13 @@
 -- Laws of the parts of texts that hold the names of tags, the keys of attributes and word 14.
 -- Assumes nothing.
-use Prim.Native.Nat.{ℕ, zero, suc, _+_, _-_, _≤_}
+use Prim.Native.Nat.{ℕ, _+_, _-_, _≤_}
 use native.Mathlib.Omega.{arith}
-use mathlib.Core.Path.{_≡_, refl, sym, _∙_}
-use mathlib.Core.List.{List, [], _∷_, _++_}
-use mathlib.Core.Bool.{Bool, true, false, _&&_}
+use mathlib.Core.Path.{_≡_, refl}
+use mathlib.Core.List.{List}
+use mathlib.Core.Bool.{true}
 use borrow.Author.Needs.{needs}
 use borrow.Author.Tests.{ne-eqb, ltb-true, leb-true}
-use lib.Dec.{eqb, leb, ltb}
+use lib.Dec.{leb, ltb}
 use lib.ListN.{length, take, drop}
 use Rattle.references.specs.Escape.{escape}
 use Rattle.document.specs.Kinds as kinds
@@ -15,7 +15,7 @@ use Rattle.items.specs.Sound.{validWord}
 use Rattle.items.specs.Written.{pairs}
 use Rattle.items.proofs.Rows.{both-true}
 use Rattle.trees.specs.Written.{tagOf, nameKey, valueKey, wordPairs}
-use Rattle.trees.specs.Steps.{PartIn, PartOf, tagTexts, keyTexts, wordTexts, keyed}
+use Rattle.trees.specs.Steps.{PartOf, tagTexts, keyTexts, wordTexts, keyed}
 
 -- a part by its ends
 part-by : {texts s : List ℕ} (a b : ℕ) → a ≤ b → b ≤ length texts → b ≤ a + 20 → take (b - a) (drop a texts) ≡ s → PartOf texts s (record { from = a; to = b })

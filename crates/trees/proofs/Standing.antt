@@ -2,11 +2,11 @@
 -- Assumes nothing.
 use Prim.Native.Nat.{ℕ, zero, suc, _+_, _-_, _*_, _≤_, _<_}
 use native.Mathlib.Omega.{arith}
-use mathlib.Core.Path.{_≡_, refl, ap, sym, subst, _∙_}
-use mathlib.Core.List.{List, [], _∷_}
+use mathlib.Core.Path.{_≡_, refl, ap, sym, _∙_}
+use mathlib.Core.List.{List}
 use mathlib.Core.Bool.{Bool, true, false, not, _&&_, and-false}
 use borrow.Author.Needs.{needs}
-use borrow.Author.Tests.{eq-eqb, ne-eqb, eqb-true, eqb-false, ltb-true, leb-true, leb-false, not-true, not-false}
+use borrow.Author.Tests.{eq-eqb, ne-eqb, eqb-true, eqb-false, ltb-true, leb-true, leb-false, not-false}
 use lib.Dec.{eqb, leb, ltb}
 use lib.ListN.{length}
 use Rattle.utf8.proofs.Sequences.{below}
@@ -14,12 +14,10 @@ use Rattle.document.specs.Kinds as kinds
 use Rattle.document.specs.Elements.{among}
 use Rattle.document.proofs.Tests.{never, among-each}
 use Rattle.items.specs.Words.{wordAt, Word}
-use Rattle.items.specs.Order.{parentAt, DocumentOrder}
+use Rattle.items.specs.Order.{parentAt}
 use Rattle.items.proofs.Order.{follow-falls, run-ends}
-use Rattle.soundness.specs.Outcome.{Orders}
 use Rattle.trees.specs.Shape.{types, args, members, annotations, nodes}
-use Rattle.trees.specs.Steps.{groupKinds, groupOf, Held, NodesLast, Stands, childIn, Sought, Next, HasChild, RowsHeld, RowKept, Late, LastNode, NodesStand, Asked, Child, Past, RunPast, GroupPast}
-use Rattle.trees.specs.declared.children.Found.{Found}
+use Rattle.trees.specs.Steps.{groupKinds, groupOf, NodesLast, Stands, childIn, Sought, Next, HasChild, RowsHeld, RowKept, Late, LastNode, NodesStand, Asked, Child, Past, RunPast, GroupPast}
 use Rattle.trees.specs.declared.children.Found.the-variants.{At, Nothing}
 use Rattle.trees.specs.declared.children.Standing.{Standing}
 
@@ -51,14 +49,6 @@ node-not (suc (suc (suc (suc g)))) l = absurd (omega (arith, l))
 
 -- ---- nodes stand last
 
-pub rows-held : {d x ws : List ℕ} {n : ℕ} → Held d x ws n → RowsHeld ws n
-rows-held h = record { few = h .few; held = h .held; parents = h .parents }
-
-pub stand-is : {ws : List ℕ} {n : ℕ} {a b : Bool} → Orders ws n a → NodesStand ws n b → Stands ws n (record { ordered = a; last = b })
-stand-is o l = record { ordered = o .is; last = l .last }
-
-pub ruleset standing = (rows-held, stand-is, needs)
-
 pub late-self : {ws : List ℕ} {k node a : ℕ} → Word ws k 0 a → a ≡ kinds.node → Late ws k node false
 late-self w h = record { not = λ e f g. absurd (f (sym (w .is) ∙ h)) }
 
@@ -71,20 +61,13 @@ module _ {ws : List ℕ} {k node p a : ℕ} (w : Word ws k 1 p) (v : Word ws (p 
     not = λ e g f. omega (arith, w .is, h .above, eqb-true (p - 1) node (not-false (eqb (p - 1) node) e));
   }
 
-module _ {ws : List ℕ} {k node a : ℕ} (w : Word ws k 0 a) where
-  pub node-here : a ≡ kinds.node → LastNode ws k node k
-  node-here h = record { here = λ _. refl; before = λ f. absurd (f (sym (w .is) ∙ h)) }
-
-  pub node-before : (a ≡ kinds.node → ⊥) → LastNode ws k node node
-  node-before h = record { here = λ f. absurd (h (w .is ∙ f)); before = λ _. refl }
-
 pub late-above : {ws : List ℕ} {k p : ℕ} → RowKept ws k → Word ws k 1 p → 1 ≤ p
 late-above h w = omega (arith, h .above, w .is)
 
 pub late-held : {ws : List ℕ} {k p : ℕ} → RowKept ws k → Word ws k 1 p → (p - 1) * 16 + 16 ≤ length ws
 late-held h w = omega (arith, h .above, h .before, h .held, w .is)
 
-pub ruleset lates = (node-here, node-before, late-self, late-other, late-node, late-above, late-held, needs)
+pub ruleset lates = (late-self, late-other, late-node, late-above, late-held, needs)
 
 -- a loop over the rows from row 1 on: node is the last node up to here, or 0
 pub record Lasting (ws : List ℕ) (node k : ℕ) : Type 0 where

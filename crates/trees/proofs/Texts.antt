@@ -7,7 +7,7 @@ use mathlib.Core.List.{List, [], _∷_, _++_, append-assoc, append-nil}
 use mathlib.Core.Option.{Option, none, some}
 use mathlib.Core.Bool.{Bool, true, false, not, _&&_, _||_}
 use borrow.Author.Needs.{needs}
-use borrow.Author.Tests.{eq-eqb, ne-eqb, eqb-true, eqb-false, leb-true}
+use borrow.Author.Tests.{ne-eqb, eqb-true, leb-true}
 use lib.Dec.{eqb, leb}
 use lib.ListN.{length, take, drop, getD, length-append, length-drop}
 use lib.Seq.{length-take-le}
@@ -21,14 +21,14 @@ use Rattle.answers.proofs.Putting.{puts-none, puts-then}
 use Rattle.references.specs.Escape.{escape}
 use Rattle.references.proofs.Escapes.{escape-most}
 use Rattle.document.proofs.Tests.{never}
-use Rattle.items.specs.Words.{tripleAt, shownBy, docstringBy, absent, wordAt, Word, TripleIs}
+use Rattle.items.specs.Words.{tripleAt, docstringBy, absent, wordAt, Word, TripleIs}
 use Rattle.items.specs.View.{over}
 use Rattle.items.specs.Sound.{Use, goodTriple, docUse, anyText, inDocument, validWord}
 use Rattle.items.specs.Written.{Pair, pair, pairs, tag, closingTag, concat}
 use Rattle.items.proofs.Rows.{row-word}
 use Rattle.items.proofs.Words.{word-in}
-use Rattle.trees.specs.Written.{docstring, elementAt, tagOf, given, nameKey, valueKey, tpKey, wordPairs, attributes, docTag, docstrings}
-use Rattle.trees.specs.Steps.{Held, Puttable, StartPut, DocstringPut, ClosePut, PartIn, PartOf, tagTexts, keyTexts, wordTexts, keyed, CountFits, PartPut, NamePut, RowHeld, GivenHeld, GivenPut, shownAt, AttributePut, NamedPut, AttributesPut, TaggedPut, WordHeld, WordPut}
+use Rattle.trees.specs.Written.{docstring, tagOf, given, nameKey, valueKey, tpKey, wordPairs, attributes, docstrings}
+use Rattle.trees.specs.Steps.{Puttable, StartPut, DocstringPut, ClosePut, PartIn, PartOf, tagTexts, keyTexts, wordTexts, keyed, CountFits, PartPut, NamePut, RowHeld, GivenHeld, GivenPut, shownAt, AttributePut, NamedPut, AttributesPut, TaggedPut, WordHeld, WordPut}
 use Rattle.trees.specs.declared.elements.Part.{Part}
 
 -- the same bytes in other words
