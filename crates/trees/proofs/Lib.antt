@@ -1,5 +1,8 @@
--- The laws of trees of rows, their bytes, and the walk that writes them.
+-- The laws of the rows in a row, of the bytes of one element, and of the walk that writes a tree.
 -- Assumes nothing.
+pub mod Parts
+pub mod Standing
+pub mod Texts
 pub mod Zipper
 pub mod Counted
 pub mod Opening

@@ -33,7 +33,7 @@ use Rattle.trees.specs.Steps.{Held, Stands, Sought, HasChild, Puttable, 
 use Rattle.trees.specs.declared.children.Standing.{Standing}
 use Rattle.trees.specs.declared.walk.Start.{Start}
 use Rattle.trees.specs.declared.walk.Start.the-variants.{Closed, Opened, TooDeep}
-use Rattle.trees.specs.Walk.{bytesOf, bytesIn, insideOf, OpenIs, IsDeep, AmongOpen, IsAround, Resumes, Beginning, ClosedPut, OpenPut, DeepAt, Begins}
+use Rattle.trees.specs.Walk.{bytesOf, bytesIn, insideOf, OpenIs, IsDeep, AmongOpen, IsAround, Resumes, Openable, OpenedPut, DeepNode, Opens, Beginning, ClosedPut, OpenPut, DeepAt, Begins}
 use Rattle.trees.proofs.Zipper.{some-tree, under-none, under-some}
 
 -- ---- docstrings
@@ -280,6 +280,31 @@ module _ (d x ws : List ℕ) (k : ℕ) (f : Forest ℕ) where
 puts-as : {a b t t′ : List ℕ} {n r : ℕ} → a ≡ b → Puts a n t t′ r → Puts b n t t′ r
 puts-as {t = t} {t′} {n} {r} e p = subst (λ l. Puts l n t t′ r) e p
 
+module _ {d x ws cl : List ℕ} {n i put : ℕ} (h : Openable d x ws n i cl put) where
+  pub open-row : i * 16 + 16 ≤ length ws
+  open-row = omega (arith, h .within, h .held .held)
+
+  pub open-ends : put + length (bytes ">") < 2 ^ 62
+  open-ends = omega (arith, h .room)
+
+  pub open-docstring : {t t₁ : List ℕ} {u : ℕ} → Puts (bytes ">") put t t₁ u → Puttable d x ws n i cl u
+  open-docstring p = record { held = h .held; within = h .within; classes = h .classes; room = omega (arith, h .room, p .counts) }
+
+module _ {d x ws : List ℕ} {i put a k : ℕ} {c : Bool} (w : Word ws i 0 k) (g : IsDeep k a c) where
+  pub opens-deep : {t t₁ : List ℕ} → c ≡ true → Opens d x ws i a put t t₁ TooDeep
+  opens-deep f = record { is = record { node = sym (w .is) ∙ g .deep f .0; deep = g .deep f .1 } }
+
+  pub opens-put : {t t₁ t₂ : List ℕ} {u r : ℕ} → c ≡ false → Puts (bytes ">") put t t₁ u → DocstringPut d x ws i u t₁ t₂ r → Opens d x ws i a put t t₂ (Opened r)
+  opens-put f p z = record {
+    is = record {
+      shallow = λ v. g .shallow f (w .is ∙ v);
+      puts = puts-then p (z .puts);
+      most = omega (arith, p .counts, z .most);
+    };
+  }
+
+pub ruleset openings = (open-row, open-ends, open-docstring, opens-deep, opens-put, needs)
+
 module _ {d x ws cl : List ℕ} {n i put : ℕ} {s : Standing} (h : Beginning d x ws n i s cl put) where
   pub begin-puts : Puttable d x ws n i cl put
   begin-puts = record { held = h .held; within = h .within; classes = h .classes; room = omega (arith, h .room) }
@@ -295,21 +320,15 @@ module _ {d x ws cl : List ℕ} {n i put : ℕ} {s : Standing} (h : Beginning d 
     stands = h .stand;
   }
 
-  pub begin-held : i * 16 + 16 ≤ length ws
-  begin-held = omega (arith, h .within, h .held .held)
-
   module _ {t t₁ : List ℕ} {m : ℕ} (q : StartPut d x ws i put t t₁ m) where
     pub begin-ends : m + length (bytes "/>") < 2 ^ 62
     begin-ends = omega (arith, h .room, q .most)
 
-    pub begin-opens : m + length (bytes ">") < 2 ^ 62
-    begin-opens = omega (arith, h .room, q .most)
+    pub begin-opens : Openable d x ws n i cl m
+    begin-opens = record { held = h .held; within = h .within; classes = h .classes; room = omega (arith, h .room, q .most) }
 
-    pub begin-docstring : {t₂ : List ℕ} {u : ℕ} → Puts (bytes ">") m t₁ t₂ u → Puttable d x ws n i cl u
-    begin-docstring p = record { held = h .held; within = h .within; classes = h .classes; room = omega (arith, h .room, q .most, p .counts) }
-
-    module _ {b : Bool} (o : OpenIs ws n i b) where
-      pub begins-closed : {a : ℕ} {t₂ : List ℕ} {r : ℕ} → not b ≡ true → Puts (bytes "/>") m t₁ t₂ r → Begins d x ws n i a put t t₂ (Closed r)
+    module _ {b : Bool} (o : OpenIs ws n i b) {a : ℕ} {t₂ : List ℕ} where
+      pub begins-closed : {r : ℕ} → not b ≡ true → Puts (bytes "/>") m t₁ t₂ r → Begins d x ws n i a put t t₂ (Closed r)
       begins-closed e p =
           let c = sym (o .is d x (h .held)) ∙ not-true b e in
           record {
@@ -320,21 +339,24 @@ module _ {d x ws cl : List ℕ} {n i put : ℕ} {s : Standing} (h : Beginning d 
             };
           }
 
-      module _ {a k : ℕ} {c : Bool} (e : not b ≡ false) (w : Word ws i 0 k) (g : IsDeep k a c) where
-        pub begins-deep : {t₂ : List ℕ} → c ≡ true → Begins d x ws n i a put t t₂ TooDeep
-        begins-deep f = record { is = record { opens = sym (o .is d x (h .held)) ∙ not-false b e; node = sym (w .is) ∙ g .deep f .0; deep = g .deep f .1 } }
+      pub begins-open : {r : Start} → not b ≡ false → Opens d x ws i a m t₁ t₂ r → Begins d x ws n i a put t t₂ r
+      begins-open {r} e p = go r p
+        where
+          c : isOpen (elementAt d x ws i) (under i (linksOf n ws)) ≡ true
+          c = sym (o .is d x (h .held)) ∙ not-false b e
 
-        module _ {t₂ : List ℕ} {u : ℕ} (p : Puts (bytes ">") m t₁ t₂ u) where
-          pub begins-open : {t₃ : List ℕ} {r : ℕ} → c ≡ false → DocstringPut d x ws i u t₂ t₃ r → Begins d x ws n i a put t t₃ (Opened r)
-          begins-open f z = record {
+          go : (r : Start) → Opens d x ws i a m t₁ t₂ r → Begins d x ws n i a put t t₂ r
+          go (Closed r) p = absurd (p .is)
+          go (Opened r) p = record {
             is = record {
-              opens = sym (o .is d x (h .held)) ∙ not-false b e;
-              shallow = λ v. g .shallow f (w .is ∙ v);
+              opens = c;
+              shallow = p .is .shallow;
               begun = (60 ∷ tagOf (wordAt ws i 0) ++ pairs (attributes (elementAt d x ws i))) ++ (bytes ">" ++ concat (docstrings (elementAt d x ws i .doc)));
-              puts = puts-then (q .puts) (puts-then p (z .puts));
-              is = open-bytes d x ws i (under i (linksOf n ws)) (sym (o .is d x (h .held)) ∙ not-false b e);
-              most = omega (arith, q .most, p .counts, z .most);
+              puts = puts-then (q .puts) (p .is .puts);
+              is = open-bytes d x ws i (under i (linksOf n ws)) c;
+              most = omega (arith, q .most, p .is .most);
             };
           }
+          go TooDeep p = record { is = record { opens = c; node = p .is .node; deep = p .is .deep } }
 
-pub ruleset beginning = (begin-puts, begin-sought, begin-held, begin-ends, begin-opens, begins-closed, begins-deep, begin-docstring, begins-open, needs)
+pub ruleset beginning = (begin-puts, begin-sought, begin-ends, begin-opens, begins-closed, begins-open, needs)

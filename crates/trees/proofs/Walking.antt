@@ -37,7 +37,7 @@ use Rattle.trees.specs.declared.walk.Turn.{Turn}
 use Rattle.trees.specs.declared.walk.Turn.the-variants.{On, End}
 use Rattle.trees.specs.declared.walk.Start.{Start}
 use Rattle.trees.specs.declared.walk.Start.the-variants.{Closed, Opened, TooDeep}
-use Rattle.trees.specs.Walk.{rest, bytesOf, bytesIn, insideOf, AmongOpen, IsAround, Resumes, Beginning, ClosedPut, OpenPut, DeepAt, Begins, Above, at-top, up, Walking, AllPut, DeepRow, Walks, Goes, Turns}
+use Rattle.trees.specs.Walk.{rest, bytesOf, bytesIn, insideOf, AmongOpen, IsAround, Resumes, Beginning, ClosedPut, OpenPut, DeepAt, Begins, Above, at-top, up, Walking, TopOpen, AllPut, DeepRow, Walks, Goes, Turns}
 use Rattle.trees.proofs.Zipper.{rest-all-on, rest-next, rest-next-on, rest-later, rest-none, rest-pass}
 use Rattle.trees.proofs.Counted.{only, under-most}
 use Rattle.trees.proofs.Opening.{closed-shallow, open-deep, open-shallow}
@@ -95,6 +95,9 @@ module _ {d x ws : List ℕ} {n top : ℕ} {s : Standing} where
   above-parent (at-top e _ _ _) z = absurd (z e)
   above-parent (up _ e _ _ _ _ _ _ _) z = omega (arith, e)
 
+begins-as : {d x ws : List ℕ} {n i o put : ℕ} {t t′ : List ℕ} {a b : Start} → Begins d x ws n i o put t t′ a → a ≡ b → Begins d x ws n i o put t t′ b
+begins-as {d} {x} {ws} {n} {i} {o} {put} {t} {t′} h e = subst (λ z. Begins d x ws n i o put t t′ z) e h
+
 -- ---- a turn
 
 module _ {d x ws : List ℕ} {n top : ℕ} {s : Standing} {w : Walk} {out : List ℕ} (h : Walking d x ws n top s w out) where
@@ -148,19 +151,19 @@ module _ {d x ws : List ℕ} {n top : ℕ} {s : Standing} {w : Walk} {out : List
             let p : wordAt ws m 1 ≡ suc (w .row) = ap (λ j. wordAt ws j 1) e ∙ parent-is in
             omega (arith, p)
 
-    pub enter-deep : {t : List ℕ} → Begins d x ws n k (w .nodes) (w .put) out t TooDeep → Turns d x ws n top s w t (End (Deep k))
-    enter-deep b = record {
+    pub enter-deep : {t : List ℕ} {z : Start} → Begins d x ws n k (w .nodes) (w .put) out t z → z ≡ TooDeep → Turns d x ws n top s w t (End (Deep k))
+    enter-deep b₀ y = let b = begins-as b₀ y in record {
       is = record {
         is = record {
           is = h .deep
-          ∙ ap (λ f. first (tooDeeps (elementAt d x ws) (w .nodes) f) (h .next)) (rest-next ws n q)
-          ∙ ap (λ p. first (first p (tooDeeps (elementAt d x ws) (w .nodes) (rest (linksOf n ws) (w .group) (w .row) (suc k)))) (h .next)) (open-deep d x ws k (under k (linksOf n ws)) (w .nodes) (b .is .opens) (b .is .node) (b .is .deep));
+              ∙ ap (λ f. first (tooDeeps (elementAt d x ws) (w .nodes) f) (h .next)) (rest-next ws n q)
+              ∙ ap (λ p. first (first p (tooDeeps (elementAt d x ws) (w .nodes) (rest (linksOf n ws) (w .group) (w .row) (suc k)))) (h .next)) (open-deep d x ws k (under k (linksOf n ws)) (w .nodes) (b .is .opens) (b .is .node) (b .is .deep));
         };
       };
     }
 
-    pub enter-closed : {t : List ℕ} {put : ℕ} → Begins d x ws n k (w .nodes) (w .put) out t (Closed put) → Turns d x ws n top s w t (On record { row = w .row; group = w .group; from = k + 1; nodes = w .nodes; put = put; left = w .left - 1 })
-    enter-closed {t} {put} b = record {
+    pub enter-closed : {t : List ℕ} {z : Start} {put : ℕ} → Begins d x ws n k (w .nodes) (w .put) out t z → z ≡ Closed put → Turns d x ws n top s w t (On record { row = w .row; group = w .group; from = k + 1; nodes = w .nodes; put = put; left = w .left - 1 })
+    enter-closed b₀ y = let b = begins-as b₀ y in record {
       is = record {
         fewer = omega (arith, walk-left);
         walks = record {
@@ -179,11 +182,11 @@ module _ {d x ws : List ℕ} {n top : ℕ} {s : Standing} {w : Walk} {out : List
           done = h .done ++ bytesOf d x ws (tree k (under k (linksOf n ws)));
           stands = b .is .puts .stands (h .done) (h .stands);
           whole = h .whole
-          ∙ ap (λ f. h .done ++ (bytesIn d x ws f ++ (closingTag (tagOf (wordAt ws (w .row) 0)) ++ h .tail))) (rest-next-on ws n q)
-          ∙ closed-on (h .done) (bytesOf d x ws (tree k (under k (linksOf n ws)))) (bytesIn d x ws (rest (linksOf n ws) (w .group) (w .row) (k + 1))) (closingTag (tagOf (wordAt ws (w .row) 0)) ++ h .tail);
+              ∙ ap (λ f. h .done ++ (bytesIn d x ws f ++ (closingTag (tagOf (wordAt ws (w .row) 0)) ++ h .tail))) (rest-next-on ws n q)
+              ∙ closed-on (h .done) (bytesOf d x ws (tree k (under k (linksOf n ws)))) (bytesIn d x ws (rest (linksOf n ws) (w .group) (w .row) (k + 1))) (closingTag (tagOf (wordAt ws (w .row) 0)) ++ h .tail);
           deep = h .deep
-          ∙ ap (λ f. first (tooDeeps (elementAt d x ws) (w .nodes) f) (h .next)) (rest-next-on ws n q)
-          ∙ ap (λ p. first (first p (tooDeeps (elementAt d x ws) (w .nodes) (rest (linksOf n ws) (w .group) (w .row) (k + 1)))) (h .next)) (closed-shallow d x ws k (under k (linksOf n ws)) (w .nodes) (b .is .closed));
+              ∙ ap (λ f. first (tooDeeps (elementAt d x ws) (w .nodes) f) (h .next)) (rest-next-on ws n q)
+              ∙ ap (λ p. first (first p (tooDeeps (elementAt d x ws) (w .nodes) (rest (linksOf n ws) (w .group) (w .row) (k + 1)))) (h .next)) (closed-shallow d x ws k (under k (linksOf n ws)) (w .nodes) (b .is .closed));
           enough = omega (arith, h .enough, ap sizes (rest-next-on ws n q));
           room = omega (arith, h .room, b .is .most, walk-left);
         };
@@ -197,8 +200,9 @@ module _ {d x ws : List ℕ} {n top : ℕ} {s : Standing} {w : Walk} {out : List
         go true e = omega (arith, l (eqb-true (wordAt ws k 0) 1 e))
         go false e = h .few
 
-    pub enter-open : {t : List ℕ} {put kind o : ℕ} → Begins d x ws n k (w .nodes) (w .put) out t (Opened put) → Word ws k 0 kind → o ≡ insideOf kind (w .nodes) → Turns d x ws n top s w t (On record { row = k; group = 0; from = k + 1; nodes = o; put = put; left = w .left - 1 })
-    enter-open {t} {put} {kind} {o} b v e =
+    pub enter-open : {t : List ℕ} {z : Start} {put kind o : ℕ} → Begins d x ws n k (w .nodes) (w .put) out t z → z ≡ Opened put → Word ws k 0 kind → o ≡ insideOf kind (w .nodes) → Turns d x ws n top s w t (On record { row = k; group = 0; from = k + 1; nodes = o; put = put; left = w .left - 1 })
+    enter-open {put = put} {kind} {o} b₀ y v e =
+        let b = begins-as b₀ y in
         let g = groupOf (wordAt ws k 0) in
         let r = rest (linksOf n ws) g (w .row) (suc k) in
         let u = under k (linksOf n ws) in
@@ -225,16 +229,16 @@ module _ {d x ws : List ℕ} {n top : ℕ} {s : Standing} {w : Walk} {out : List
               done = h .done ++ b .is .begun;
               stands = b .is .puts .stands (h .done) (h .stands);
               whole = h .whole
-              ∙ ap (λ f. h .done ++ (bytesIn d x ws f ++ (closingTag (tagOf (wordAt ws (w .row) 0)) ++ h .tail))) next-is
-              ∙ ap (λ l. h .done ++ ((l ++ bytesIn d x ws r) ++ (closingTag (tagOf (wordAt ws (w .row) 0)) ++ h .tail))) (b .is .is)
-              ∙ open-on (h .done) (b .is .begun) (bytesIn d x ws u) (closingTag (tagOf (wordAt ws k 0))) (bytesIn d x ws r) (closingTag (tagOf (wordAt ws (w .row) 0)) ++ h .tail)
-              ∙ ap (λ f. (h .done ++ b .is .begun) ++ (bytesIn d x ws f ++ (closingTag (tagOf (wordAt ws k 0)) ++ (bytesIn d x ws r ++ (closingTag (tagOf (wordAt ws (w .row) 0)) ++ h .tail))))) (sym (rest-all-on ws n k));
+                  ∙ ap (λ f. h .done ++ (bytesIn d x ws f ++ (closingTag (tagOf (wordAt ws (w .row) 0)) ++ h .tail))) next-is
+                  ∙ ap (λ l. h .done ++ ((l ++ bytesIn d x ws r) ++ (closingTag (tagOf (wordAt ws (w .row) 0)) ++ h .tail))) (b .is .is)
+                  ∙ open-on (h .done) (b .is .begun) (bytesIn d x ws u) (closingTag (tagOf (wordAt ws k 0))) (bytesIn d x ws r) (closingTag (tagOf (wordAt ws (w .row) 0)) ++ h .tail)
+                  ∙ ap (λ f. (h .done ++ b .is .begun) ++ (bytesIn d x ws f ++ (closingTag (tagOf (wordAt ws k 0)) ++ (bytesIn d x ws r ++ (closingTag (tagOf (wordAt ws (w .row) 0)) ++ h .tail))))) (sym (rest-all-on ws n k));
               deep = h .deep
-              ∙ ap (λ f. first (tooDeeps (elementAt d x ws) (w .nodes) f) (h .next)) next-is
-              ∙ ap (λ p. first (first p (tooDeeps (elementAt d x ws) (w .nodes) r)) (h .next)) (open-shallow d x ws k u (w .nodes) (b .is .opens) (b .is .shallow))
-              ∙ first-both (tooDeeps (elementAt d x ws) (insideOf (wordAt ws k 0) (w .nodes)) u) (tooDeeps (elementAt d x ws) (w .nodes) r) (h .next)
-              ∙ ap (λ z. first (tooDeeps (elementAt d x ws) z u) (first (tooDeeps (elementAt d x ws) (w .nodes) r) (h .next))) (sym i)
-              ∙ ap (λ f. first (tooDeeps (elementAt d x ws) o f) (first (tooDeeps (elementAt d x ws) (w .nodes) r) (h .next))) (sym (rest-all-on ws n k));
+                  ∙ ap (λ f. first (tooDeeps (elementAt d x ws) (w .nodes) f) (h .next)) next-is
+                  ∙ ap (λ p. first (first p (tooDeeps (elementAt d x ws) (w .nodes) r)) (h .next)) (open-shallow d x ws k u (w .nodes) (b .is .opens) (b .is .shallow))
+                  ∙ first-both (tooDeeps (elementAt d x ws) (insideOf (wordAt ws k 0) (w .nodes)) u) (tooDeeps (elementAt d x ws) (w .nodes) r) (h .next)
+                  ∙ ap (λ z. first (tooDeeps (elementAt d x ws) z u) (first (tooDeeps (elementAt d x ws) (w .nodes) r) (h .next))) (sym i)
+                  ∙ ap (λ f. first (tooDeeps (elementAt d x ws) o f) (first (tooDeeps (elementAt d x ws) (w .nodes) r) (h .next))) (sym (rest-all-on ws n k));
               enough = omega (arith, h .enough, ap sizes next-is, ap sizes (rest-all-on ws n k), group-known);
               room = omega (arith, h .room, b .is .most, walk-left);
             };
@@ -361,9 +365,9 @@ module _ {d x ws : List ℕ} {n top : ℕ} {s : Standing} {w : Walk} {out : List
                   done = h .done ++ c₀;
                   stands = stands-closed;
                   whole = whole-left
-                  ∙ ap (λ l. h .done ++ (c₀ ++ l)) (sym f1 ∙ j)
-                  ∙ sym (append-assoc (h .done) c₀ (bytesIn d x ws (rest (linksOf n ws) g p (suc (w .row))) ++ c₁))
-                  ∙ ap (λ k. (h .done ++ c₀) ++ (bytesIn d x ws k ++ c₁)) same;
+                      ∙ ap (λ l. h .done ++ (c₀ ++ l)) (sym f1 ∙ j)
+                      ∙ sym (append-assoc (h .done) c₀ (bytesIn d x ws (rest (linksOf n ws) g p (suc (w .row))) ++ c₁))
+                      ∙ ap (λ k. (h .done ++ c₀) ++ (bytesIn d x ws k ++ c₁)) same;
                   deep = deep-left ∙ sym f2 ∙ m ∙ ap (λ k. first (tooDeeps (elementAt d x ws) b k) next) same;
                   enough = omega (arith, enough, ap sizes same, h .enough, four, h .group);
                   room = omega (arith, h .room, c .most, walk-left);
@@ -378,64 +382,76 @@ module _ {d x ws : List ℕ} {n top : ℕ} (h : Held d x ws n) (l : top < n) whe
     pub top-begins : {cl : List ℕ} → Classes cl → Beginning d x ws n top s cl 0
     top-begins c = record { held = h; stand = g; within = l; classes = c; room = omega arith }
 
-    pub top-walks : {t t′ : List ℕ} {put kind o : ℕ} → Begins d x ws n top 0 0 t t′ (Opened put) → Word ws top 0 kind → o ≡ insideOf kind 0 → Walking d x ws n top s (record { row = top; group = 0; from = top + 1; nodes = o; put = put; left = 6 * n }) t′
-    unfolding shapeAt
-    top-walks {t} {t′} {put} {kind} {o} b v e =
-        let u = under top (linksOf n ws) in
-        let i : o ≡ insideOf (wordAt ws top 0) 0 = e ∙ ap (λ z. insideOf z 0) (v .is) in
+    pub top-opens : {t t′ : List ℕ} {z : Start} {put : ℕ} → Begins d x ws n top 0 0 t t′ z → z ≡ Opened put → TopOpen d x ws n top s put t′
+    top-opens {t} b₀ y =
+        let b = begins-as b₀ y in
         record {
           held = h;
           stand = g;
           within = l;
-          after = omega arith;
-          onward = omega (arith, l);
-          group = omega arith;
-          few = subst (λ z. z ≤ 1024) (sym i) (inside-one (eqb (wordAt ws top 0) 1));
-          tail = [];
-          next = none;
-          turns = 0;
-          above = at-top refl i refl refl;
-          passed = λ _ m a c. absurd (omega (arith, a, c));
-          done = b .is .begun;
+          opens = b .is .opens;
+          begun = b .is .begun;
           stands = b .is .puts .stands [] (empty-stands 1 t);
-          whole = b .is .is
-          ∙ ap (λ f. b .is .begun ++ (bytesIn d x ws f ++ closingTag (tagOf (wordAt ws top 0)))) (sym (rest-all-on ws n top))
-          ∙ ap (λ z. b .is .begun ++ (bytesIn d x ws (rest (linksOf n ws) 0 top (top + 1)) ++ z)) (sym (append-nil (closingTag (tagOf (wordAt ws top 0)))));
-          deep = open-shallow d x ws top u 0 (b .is .opens) (b .is .shallow)
-          ∙ ap (λ z. tooDeeps (elementAt d x ws) z u) (sym i)
-          ∙ ap (tooDeeps (elementAt d x ws) o) (sym (rest-all-on ws n top))
-          ∙ first-none (tooDeeps (elementAt d x ws) o (rest (linksOf n ws) 0 top (top + 1)));
-          enough = omega (arith, under-most ws n top l, ap sizes (rest-all-on ws n top), l);
-          room = omega (arith, b .is .most, h .few);
+          is = b .is .is;
+          most = omega (arith, b .is .most);
         }
-      where
-        inside-one : (b : Bool) → if b 1 0 ≤ 1024
-        inside-one true = omega arith
-        inside-one false = omega arith
-
-        first-none : (a : Option ℕ) → a ≡ first a none
-        first-none none = refl
-        first-none (some p) = refl
-
-  pub top-held : top * 16 + 16 ≤ length ws
-  top-held = omega (arith, l, h .held)
-
-  pub top-few : top < 262144
-  top-few = omega (arith, l, h .few)
 
   module _ {t t′ : List ℕ} where
-    pub top-deep : Begins d x ws n top 0 0 t t′ TooDeep → Walks d x ws n top t′ (Deep top)
+    pub top-deep : {z : Start} → Begins d x ws n top 0 0 t t′ z → z ≡ TooDeep → Walks d x ws n top t′ (Deep top)
     unfolding shapeAt
-    top-deep b = record { is = record { is = open-deep d x ws top (under top (linksOf n ws)) 0 (b .is .opens) (b .is .node) (b .is .deep) } }
+    top-deep b₀ y = let b = begins-as b₀ y in record { is = record { is = open-deep d x ws top (under top (linksOf n ws)) 0 (b .is .opens) (b .is .node) (b .is .deep) } }
 
-    pub top-closed : {put : ℕ} → Begins d x ws n top 0 0 t t′ (Closed put) → Walks d x ws n top t′ (Put put)
+    pub top-closed : {z : Start} {put : ℕ} → Begins d x ws n top 0 0 t t′ z → z ≡ Closed put → Walks d x ws n top t′ (Put put)
     unfolding shapeAt
-    top-closed b = record {
+    top-closed b₀ y = let b = begins-as b₀ y in record {
       is = record {
         stands = b .is .puts .stands [] (empty-stands 1 t);
         shallow = closed-shallow d x ws top (under top (linksOf n ws)) 0 (b .is .closed);
       };
     }
+
+module _ {d x ws : List ℕ} {n top put : ℕ} {s : Standing} {out : List ℕ} (h : TopOpen d x ws n top s put out) where
+  pub top-walks : {kind o : ℕ} → Word ws top 0 kind → o ≡ insideOf kind 0 → Walking d x ws n top s (record { row = top; group = 0; from = top + 1; nodes = o; put = put; left = 6 * n }) out
+  unfolding shapeAt
+  top-walks {kind} {o} v e =
+      let u = under top (linksOf n ws) in
+      let i : o ≡ insideOf (wordAt ws top 0) 0 = e ∙ ap (λ z. insideOf z 0) (v .is) in
+      record {
+        held = h .held;
+        stand = h .stand;
+        within = h .within;
+        after = omega arith;
+        onward = omega (arith, h .within);
+        group = omega arith;
+        few = subst (λ z. z ≤ 1024) (sym i) (inside-one (eqb (wordAt ws top 0) 1));
+        tail = [];
+        next = none;
+        turns = 0;
+        above = at-top refl i refl refl;
+        passed = λ _ m a c. absurd (omega (arith, a, c));
+        done = h .begun;
+        stands = h .stands;
+        whole = h .is
+            ∙ ap (λ f. h .begun ++ (bytesIn d x ws f ++ closingTag (tagOf (wordAt ws top 0)))) (sym (rest-all-on ws n top))
+            ∙ ap (λ z. h .begun ++ (bytesIn d x ws (rest (linksOf n ws) 0 top (top + 1)) ++ z)) (sym (append-nil (closingTag (tagOf (wordAt ws top 0)))));
+        deep = open-shallow d x ws top u 0 (h .opens) (λ _. omega arith)
+            ∙ ap (λ z. tooDeeps (elementAt d x ws) z u) (sym i)
+            ∙ ap (tooDeeps (elementAt d x ws) o) (sym (rest-all-on ws n top))
+            ∙ first-none (tooDeeps (elementAt d x ws) o (rest (linksOf n ws) 0 top (top + 1)));
+        enough = omega (arith, under-most ws n top (h .within), ap sizes (rest-all-on ws n top), h .within);
+        room = omega (arith, h .most, h .held .few);
+      }
+    where
+      inside-one : (b : Bool) → if b 1 0 ≤ 1024
+      inside-one true = omega arith
+      inside-one false = omega arith
+
+      first-none : (a : Option ℕ) → a ≡ first a none
+      first-none none = refl
+      first-none (some p) = refl
+
+  pub top-held : top * 16 + 16 ≤ length ws
+  top-held = omega (arith, h .within, h .held .held)
 
 -- ---- one turn, and all
 
@@ -445,22 +461,42 @@ turn-at {ws} {n} {i} {g} {from} {s = s} q e = subst (λ r. Next ws n i g from s 
 pub turn-none : {ws : List ℕ} {n i g from k : ℕ} {s : Standing} {r : Found} → Next ws n i g from s r → r ≡ Nothing k → NoNext ws n i g from s k
 turn-none {ws} {n} {i} {g} {from} {s = s} q e = subst (λ r. Next ws n i g from s r) e q .is
 
+-- the loop: the walk goes on in a buffer as long as the one lent
+pub record Looping (d x ws : List ℕ) (n top : ℕ) (s : Standing) (out : List ℕ) (w : Walk) (t : List ℕ) : Type 0 where
+  pub walks : Walking d x ws n top s w t
+  pub same : length t ≡ length out
+
 module _ {d x ws : List ℕ} {n top : ℕ} {s : Standing} {w : Walk} where
-  pub goes-on : {t : List ℕ} {r : Turn} {w′ : Walk} → Turns d x ws n top s w t r → r ≡ On w′ → Walking d x ws n top s w′ t
-  goes-on {t} q e = subst (λ r. Turns d x ws n top s w t r) e q .is .walks
+  pub loop-begins : {out : List ℕ} → Walking d x ws n top s w out → Looping d x ws n top s out w out
+  loop-begins h = record { walks = h; same = refl }
 
-  pub goes-less : {t : List ℕ} {r : Turn} {w′ : Walk} → Turns d x ws n top s w t r → r ≡ On w′ → w′ .left < w .left
-  goes-less {t} q e = subst (λ r. Turns d x ws n top s w t r) e q .is .fewer
+  module _ {out t : List ℕ} (g : Looping d x ws n top s out w t) where
+    pub loop-walks : Walking d x ws n top s w t
+    loop-walks = g .walks
 
-  pub goes-end : {t : List ℕ} {r : Turn} {z : Walked} → Turns d x ws n top s w t r → r ≡ End z → Walks d x ws n top t z
-  goes-end {t} q e = subst (λ r. Turns d x ws n top s w t r) e q .is
+    module _ {t′ : List ℕ} {r : Turn} (q : Turns d x ws n top s w t′ r) where
+      pub loop-again : {w′ : Walk} → r ≡ On w′ → length t′ ≡ length t → Looping d x ws n top s out w′ t′
+      loop-again e f = record { walks = subst (λ r. Turns d x ws n top s w t′ r) e q .is .walks; same = f ∙ g .same }
 
-  pub never-ends : {t : List ℕ} {z : Walked} → Walking d x ws n top s w t → w .left ≤ 0 → Walks d x ws n top t z
-  never-ends h l = absurd (omega (arith, walk-left h, l))
+      pub loop-less : {w′ : Walk} → r ≡ On w′ → w′ .left < w .left
+      loop-less e = subst (λ r. Turns d x ws n top s w t′ r) e q .is .fewer
+
+      pub loop-ends : {z : Walked} → r ≡ End z → Walks d x ws n top t′ z
+      loop-ends e = subst (λ r. Turns d x ws n top s w t′ r) e q .is
+
+    pub loop-never : {z : Walked} → w .left ≤ 0 → Walks d x ws n top t z
+    loop-never l = absurd (omega (arith, walk-left (g .walks), l))
 
 pub ruleset turning = (walk-sought, turn-at, turn-none, needs)
-pub ruleset looping = (goes-on, goes-less, goes-end, never-ends, needs)
-pub ruleset topping = (top-begins, top-walks, top-held, top-few, top-deep, top-closed, needs)
+
+pub ruleset looping = (loop-begins, loop-walks, loop-again, loop-less, loop-ends, loop-never, needs)
+
+pub ruleset topping = (top-begins, top-opens, top-deep, top-closed, needs)
+
+pub ruleset tops = (top-walks, top-held, needs)
+
 pub ruleset entering = (enter-begins, enter-held, enter-few, enter-deep, enter-closed, enter-open, walk-left, walk-few, needs)
+
 pub ruleset leaving = (leave-group, walk-left, needs)
+
 pub ruleset closing = (walk-left, walk-held, walk-room, close-top, around-needs, parent-some, close-up, needs)

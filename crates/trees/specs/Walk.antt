@@ -77,6 +77,30 @@ pub record Resumes (s : Standing) (i end r : ℕ) : Type 0 where
   pub ordered : s .ordered ≡ true → r ≡ end
   pub other : s .ordered ≡ false → r ≡ suc i
 
+-- what putting row i from the end of its start tag needs, and what it is
+pub record Openable (d x ws : List ℕ) (n i : ℕ) (cl : List ℕ) (put : ℕ) : Type 0 where
+  pub held : Held d x ws n
+  pub within : i < n
+  pub classes : Classes cl
+  pub room : put + 33554440 < 2 ^ 62
+
+pub record OpenedPut (d x ws : List ℕ) (i o put : ℕ) (t t′ : List ℕ) (r : ℕ) : Type 0 where
+  pub shallow : wordAt ws i 0 ≡ kinds.node → o < 1024
+  pub puts : Puts (bytes ">" ++ concat (docstrings (elementAt d x ws i .doc))) put t t′ r
+  pub most : r ≤ put + 1048641
+
+pub record DeepNode (ws : List ℕ) (i o : ℕ) : Type 0 where
+  pub node : wordAt ws i 0 ≡ kinds.node
+  pub deep : 1024 ≤ o
+
+abbrev pub OpensIs : List ℕ → List ℕ → List ℕ → ℕ → ℕ → ℕ → List ℕ → List ℕ → Start → Type 0
+OpensIs d x ws i o put t t′ (Closed r) = ⊥
+OpensIs d x ws i o put t t′ (Opened r) = OpenedPut d x ws i o put t t′ r
+OpensIs d x ws i o put t t′ TooDeep = DeepNode ws i o
+
+pub record Opens (d x ws : List ℕ) (i o put : ℕ) (t t′ : List ℕ) (r : Start) : Type 0 where
+  pub is : OpensIs d x ws i o put t t′ r
+
 -- what putting row i needs
 pub record Beginning (d x ws : List ℕ) (n i : ℕ) (s : Standing) (cl : List ℕ) (put : ℕ) : Type 0 where
   pub held : Held d x ws n
@@ -156,6 +180,17 @@ pub record Walking (d x ws : List ℕ) (n top : ℕ) (s : Standing) (w : Walk) (
       ≡ first (tooDeeps (elementAt d x ws) (w .nodes) (rest (linksOf n ws) (w .group) (w .row) (w .from))) next
   pub enough : 6 * sizes (rest (linksOf n ws) (w .group) (w .row) (w .from)) + (5 - w .group) + turns ≤ w .left
   pub room : w .put + w .left * 33554432 ≤ 2 ^ 60
+
+-- row `top` is open, and nothing is around it
+pub record TopOpen (d x ws : List ℕ) (n top : ℕ) (s : Standing) (put : ℕ) (out : List ℕ) : Type 0 where
+  pub held : Held d x ws n
+  pub stand : Stands ws n s
+  pub within : top < n
+  pub opens : isOpen (elementAt d x ws top) (under top (linksOf n ws)) ≡ true
+  pub begun : List ℕ
+  pub stands : Rep 1 out put begun
+  pub is : bytesOf d x ws (tree top (under top (linksOf n ws))) ≡ begun ++ (bytesIn d x ws (under top (linksOf n ws)) ++ closingTag (tagOf (wordAt ws top 0)))
+  pub most : put ≤ 33554432
 
 -- the walk has come to its end
 pub record AllPut (d x ws : List ℕ) (n top : ℕ) (out : List ℕ) (r : ℕ) : Type 0 where

@@ -4,7 +4,7 @@ ghost use Prim.Native.Nat.{_+_, _≤_, _<_, _^_};
 ghost use Rattle.scan.specs.Classes.{Classes};
 ghost use mathlib.Core.Path.{_≡_};
 ghost use Rattle.trees.specs.Steps.{Held, Sought, NextAt, NoNext};
-ghost use Rattle.trees.specs.Walk.{insideOf, OpenIs, IsDeep, AmongOpen, IsAround, Resumes, Beginning, Begins, Walking, Turns, Walks};
+ghost use Rattle.trees.specs.Walk.{insideOf, OpenIs, IsDeep, AmongOpen, IsAround, Resumes, Openable, Opens, Beginning, Begins, Walking, Turns, TopOpen, Walks};
 use crate::children;
 use crate::children::Found;
 use crate::children::Standing;
@@ -83,6 +83,28 @@ fn around(kind: u32, nodes: usize) -> usize
     nodes
 }
 
+// Row i, of which something follows the attributes, from the end of its start tag up to its first child.
+fn put_open<'a>(
+    document: &'a [u8],
+    text: &'a [u8],
+    rows: &[u32],
+    n: usize,
+    i: usize,
+    classes: &[u8; 256],
+    nodes: usize,
+    out: &mut [u8],
+    put: usize,
+) -> Start
+    requires { ⌜ Openable (now document) (now text) (now rows) n i (now classes) put ⌝ }
+    ensures { λ r. ⌜ Opens (now (document .entry)) (now (text .entry)) (now (rows .entry)) i nodes put (now (out .entry)) (now (out .exit)) r ⌝ }
+{
+    if is_deep(items::word(rows, i, 0), nodes) {
+        return Start::TooDeep;
+    }
+    let opened = writer::put_text(out, put, b">");
+    Start::Opened(elements::put_docstring(document, text, rows, n, i, classes, out, opened))
+}
+
 // Row i up to its first child.
 fn put_begin<'a>(
     document: &'a [u8],
@@ -103,11 +125,7 @@ fn put_begin<'a>(
     if !is_open(rows, n, i, s) {
         return Start::Closed(writer::put_text(out, tagged, b"/>"));
     }
-    if is_deep(items::word(rows, i, 0), nodes) {
-        return Start::TooDeep;
-    }
-    let opened = writer::put_text(out, tagged, b">");
-    Start::Opened(elements::put_docstring(document, text, rows, n, i, classes, out, opened))
+    put_open(document, text, rows, n, i, classes, nodes, out, tagged)
 }
 
 // Child k of the row that is open.
@@ -267,6 +285,33 @@ fn walk_on<'a>(
     Walked::Put(w.put)
 }
 
+// The tree of row `top`, from its first child on.
+fn walk_top<'a>(
+    document: &'a [u8],
+    text: &'a [u8],
+    rows: &[u32],
+    n: usize,
+    top: usize,
+    s: Standing,
+    classes: &[u8; 256],
+    out: &mut [u8],
+    put: usize,
+) -> Walked
+    requires { ⌜ TopOpen (now document) (now text) (now rows) n top s put (now out) ⌝ ∗ ⌜ Classes (now classes) ⌝ }
+    ensures { λ r. ⌜ Walks (now (document .entry)) (now (text .entry)) (now (rows .entry)) n top (now (out .exit)) r ⌝ }
+{
+    let nodes = inside(items::word(rows, top, 0), 0);
+    let w = Walk {
+        row: top,
+        group: 0,
+        from: top + 1,
+        nodes,
+        put,
+        left: 6 * n,
+    };
+    walk_on(document, text, rows, n, top, s, classes, w, out)
+}
+
 // The tree of row `top`.
 pub fn put_tree<'a>(
     document: &'a [u8],
@@ -284,16 +329,6 @@ pub fn put_tree<'a>(
     match put_begin(document, text, rows, n, top, s, &classes, 0, out, 0) {
         Start::TooDeep => Walked::Deep(top),
         Start::Closed(put) => Walked::Put(put),
-        Start::Opened(put) => {
-            let w = Walk {
-                row: top,
-                group: 0,
-                from: top + 1,
-                nodes: inside(items::word(rows, top, 0), 0),
-                put,
-                left: 6 * n,
-            };
-            walk_on(document, text, rows, n, top, s, &classes, w, out)
-        }
+        Start::Opened(put) => walk_top(document, text, rows, n, top, s, &classes, out, put),
     }
 }

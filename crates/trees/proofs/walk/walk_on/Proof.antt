@@ -1,12 +1,11 @@
 -- `trees::walk::walk_on` meets its contract: each turn leaves fewer turns.
 -- Assumes nothing.
-use Rattle.trees.specs.Walk.{Walking}
-use Rattle.trees.proofs.Walking.{looping}
+use Rattle.trees.proofs.Walking.{Looping, looping}
 use Rattle.trees.proofs.walk.walk_on.Statement.{statement}
 use Rattle.trees.proofs.walk.walk_on.Tie as tie
 
 abbrev Inv-loop : tie.InvT-loop
-Inv-loop document text rows n top s classes out₀ w₀ out w = Walking document text rows n top s w out
+Inv-loop document text rows n top s classes out₀ w₀ out w = Looping document text rows n top s out₀ w out
 
 abbrev μ-loop : tie.MeasureT-loop
 μ-loop document text rows n top s classes out₀ w₀ out w = w .left
