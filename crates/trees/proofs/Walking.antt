@@ -377,18 +377,21 @@ module _ {d x ws : List ℕ} {n top : ℕ} {s : Standing} {w : Walk} {out : List
 
 -- ---- the beginning
 
-module _ {d x ws : List ℕ} {n top : ℕ} (h : Held d x ws n) (l : top < n) where
-  module _ {s : Standing} (g : Stands ws n s) where
-    pub top-begins : {cl : List ℕ} → Classes cl → Beginning d x ws n top s cl 0
-    top-begins c = record { held = h; stand = g; within = l; classes = c; room = omega arith }
+module _ {d x ws : List ℕ} {n top : ℕ} where
+  pub top-begins : {s : Standing} {cl : List ℕ} → Held d x ws n → top < n → Stands ws n s → Classes cl → Beginning d x ws n top s cl 0
+  top-begins h l g c = record { held = h; stand = g; within = l; classes = c; room = omega arith }
+
+  module _ {s : Standing} {cl : List ℕ} (h : Beginning d x ws n top s cl 0) where
+    pub top-classes : Classes cl
+    top-classes = h .classes
 
     pub top-opens : {t t′ : List ℕ} {z : Start} {put : ℕ} → Begins d x ws n top 0 0 t t′ z → z ≡ Opened put → TopOpen d x ws n top s put t′
     top-opens {t} b₀ y =
         let b = begins-as b₀ y in
         record {
-          held = h;
-          stand = g;
-          within = l;
+          held = h .held;
+          stand = h .stand;
+          within = h .within;
           opens = b .is .opens;
           begun = b .is .begun;
           stands = b .is .puts .stands [] (empty-stands 1 t);
@@ -491,7 +494,9 @@ pub ruleset turning = (walk-sought, turn-at, turn-none, needs)
 
 pub ruleset looping = (loop-begins, loop-walks, loop-again, loop-less, loop-ends, loop-never, needs)
 
-pub ruleset topping = (top-begins, top-opens, top-deep, top-closed, needs)
+pub ruleset topping = (top-classes, top-opens, top-deep, top-closed, needs)
+
+pub ruleset treeing = (top-begins, needs)
 
 pub ruleset tops = (top-walks, top-held, needs)
 

@@ -312,6 +312,27 @@ fn walk_top<'a>(
     walk_on(document, text, rows, n, top, s, classes, w, out)
 }
 
+// The tree of row `top`, where it is known how the rows stand.
+fn put_from<'a>(
+    document: &'a [u8],
+    text: &'a [u8],
+    rows: &[u32],
+    n: usize,
+    top: usize,
+    s: Standing,
+    classes: &[u8; 256],
+    out: &mut [u8],
+) -> Walked
+    requires { ⌜ Beginning (now document) (now text) (now rows) n top s (now classes) 0 ⌝ }
+    ensures { λ r. ⌜ Walks (now (document .entry)) (now (text .entry)) (now (rows .entry)) n top (now (out .exit)) r ⌝ }
+{
+    match put_begin(document, text, rows, n, top, s, classes, 0, out, 0) {
+        Start::TooDeep => Walked::Deep(top),
+        Start::Closed(put) => Walked::Put(put),
+        Start::Opened(put) => walk_top(document, text, rows, n, top, s, classes, out, put),
+    }
+}
+
 // The tree of row `top`.
 pub fn put_tree<'a>(
     document: &'a [u8],
@@ -326,9 +347,5 @@ pub fn put_tree<'a>(
 {
     let classes = scan::classes();
     let s = children::rows_stand(document, text, rows, n);
-    match put_begin(document, text, rows, n, top, s, &classes, 0, out, 0) {
-        Start::TooDeep => Walked::Deep(top),
-        Start::Closed(put) => Walked::Put(put),
-        Start::Opened(put) => walk_top(document, text, rows, n, top, s, &classes, out, put),
-    }
+    put_from(document, text, rows, n, top, s, &classes, out)
 }
