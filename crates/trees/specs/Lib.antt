@@ -5,4 +5,5 @@ pub mod Shape
 pub mod Written
 pub mod Writing
 pub mod Steps
+pub mod Walk
 pub mod Cases

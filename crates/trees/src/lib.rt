@@ -1,6 +1,8 @@
 // The whole tree of a row: the element of the row with all under it, written in groups (docs/FORMAT.md, Trees).
 ghost use lib.ListN.{length};
 ghost use Rattle.trees.specs.Writing.{WritesTree};
+ghost use Rattle.trees.specs.Steps.{Held};
+ghost use Rattle.trees.specs.Walk.{Writable, WritesSound};
 use answers::TextAnswer;
 use document::kinds;
 use soundness::Soundness;
@@ -10,7 +12,9 @@ mod elements;
 mod walk;
 
 // Whether rows of a kind are written by themselves: all but the parts of a definition.
-fn is_writable(kind: u32) -> bool {
+fn is_writable(kind: u32) -> bool
+    ensures { λ r. ⌜ Writable kind r ⌝ }
+{
     match kind {
         kinds::ENUMVALUE => false,
         kinds::MEMBER => false,
@@ -26,7 +30,10 @@ fn write_sound<'a>(
     claimed: usize,
     row: usize,
     out: &mut [u8],
-) -> TextAnswer {
+) -> TextAnswer
+    requires { ⌜ Held (now document) (now text) (now rows) claimed ⌝ }
+    ensures { λ r. ⌜ WritesSound (now (document .entry)) (now (text .entry)) (now (rows .entry)) claimed row (now (out .entry)) (now (out .exit)) r ⌝ }
+{
     if claimed <= row {
         return answers::refuse(out, 20, row);
     }
