@@ -268,8 +268,7 @@ void introspection_unescape(const uint8_t *value, size_t value_length, uint8_t *
  *
  * Each call checks every row claimed, in time in proportion to them where they stand in the order that
  * introspection_read leaves, else up to the structs and mappings times the rows. So whoever writes many items of a
- * large table hands over, for each item, a table of a node, an interface and the item's own rows, with the parents'
- * numbers moved.
+ * large table uses introspection_write_items.
  *
  * answer: number, place, bytes written. Refusals: 2, 19, 20, 21. To learn the size, call with output_length 0: the
  * number is then 21 and the place the bytes needed.
@@ -363,6 +362,25 @@ void introspection_rows(const uint32_t *columns, size_t columns_length, uint64_t
 void introspection_order(const uint8_t *document, size_t document_length, const uint8_t *text, size_t text_length,
                          const uint32_t *rows, size_t rows_length, uint64_t rows_claimed, uint32_t *work,
                          size_t work_length, uint32_t *order, size_t order_length, uint64_t answer[4]);
+
+/*
+ * Writes the items of several rows, one after the other, after one check: the rows asked for are items_length words, in
+ * any order, also more than once. Each item's bytes are those of introspection_write. ends[k] is where the k-th item ends in
+ * output; it begins where the one before it ends, the first at 0. The words of ends past the items are zero, as are the
+ * bytes of output past the last; after a refusal all of both are. document, text, rows and rows_claimed are as for
+ * introspection_write.
+ *
+ * Where rows stand in the order that introspection_read leaves, an item costs what its own rows and bytes are; else a
+ * pass over all rows for each item.
+ *
+ * answer: number, place, bytes written. Refusals: 2, 19, 20 at the first row that is asked for and is not writable, 18 at
+ * items_length if ends has fewer words, 21 at the bytes needed; 4,294,967,296 stands for that and every larger number of
+ * bytes, which no word of ends could hold.
+ */
+void introspection_write_items(const uint8_t *document, size_t document_length, const uint8_t *text, size_t text_length,
+                               const uint32_t *rows, size_t rows_length, uint64_t rows_claimed, const uint32_t *items,
+                               size_t items_length, uint8_t *output, size_t output_length, uint32_t *ends,
+                               size_t ends_length, uint64_t answer[3]);
 
 #ifdef __cplusplus
 }

@@ -887,6 +887,71 @@ static void deep_trees(void)
     deep_tree(1025, INTROSPECTION_KIND_NODE, 1025, INTROSPECTION_OUTPUT_SHORT, last, __LINE__);
 }
 
+/* ---- several items */
+
+static void write_rows(const struct reading *r, uint64_t claimed, const uint32_t *items, size_t count, size_t room,
+                       size_t slots, uint64_t number, uint64_t place, const char *expected, const uint32_t *expected_ends,
+                       int line)
+{
+    size_t m = strlen(expected), k;
+    uint8_t *out = lend(room);
+    uint32_t *ends = lend(slots * sizeof(uint32_t));
+    uint64_t a[3] = {9, 9, 9};
+    introspection_write_items(r->document, r->document_length, r->text, r->text_length, r->rows, r->rows_length, claimed,
+                              items, count, out, room, ends, slots, a);
+    check(a[0] == number && a[1] == place && a[2] == m, "number, place and bytes written", line);
+    check(m <= room && same(out, m, expected) && all_zero(out, m, room), "output", line);
+    for (k = 0; k < slots; k++)
+        check(ends[k] == (number == 0 && k < count ? expected_ends[k] : 0), "ends", line);
+    free(out);
+    free(ends);
+}
+
+#define WRITES_ALL(claimed, count, room, slots, number, place, expected) \
+    write_rows(&r, (claimed), items, (count), (room), (slots), (number), (place), (expected), ends, __LINE__)
+
+#define WRITTEN_SIGNAL "<signal name=\"Moved\"><arg type=\"(dd)\"/></signal>"
+#define WRITTEN_ARG "<arg name=\"degrees\" type=\"d\" direction=\"in\"/>"
+
+static void writing_several(void)
+{
+    struct reading r = read_all(hinge);
+    const size_t method = strlen(WRITTEN_METHOD), signal = strlen(WRITTEN_SIGNAL), arg = strlen(WRITTEN_ARG);
+    const size_t whole = 2 * method + signal + arg;
+    uint32_t items[4] = {10, 4, 5, 4};
+    uint32_t ends[4];
+    ends[0] = (uint32_t)signal;
+    ends[1] = (uint32_t)(signal + method);
+    ends[2] = (uint32_t)(signal + method + arg);
+    ends[3] = (uint32_t)whole;
+    WRITES_ALL(12, 4, whole, 4, 0, 0, WRITTEN_SIGNAL WRITTEN_METHOD WRITTEN_ARG WRITTEN_METHOD);
+    WRITES_ALL(12, 4, whole + 7, 6, 0, 0, WRITTEN_SIGNAL WRITTEN_METHOD WRITTEN_ARG WRITTEN_METHOD);
+    WRITES_ALL(12, 0, 3, 2, 0, 0, "");
+    WRITES_ALL(12, 4, whole - 1, 4, INTROSPECTION_OUTPUT_SHORT, whole, "");
+    WRITES_ALL(12, 4, 0, 4, INTROSPECTION_OUTPUT_SHORT, whole, "");
+    WRITES_ALL(12, 4, 0, 3, INTROSPECTION_NO_ROOM, 4, "");
+    items[2] = 3;
+    WRITES_ALL(12, 4, 0, 3, INTROSPECTION_NOT_WRITABLE, 3, "");
+    items[0] = 0xffffffff;
+    WRITES_ALL(12, 4, whole, 4, INTROSPECTION_NOT_WRITABLE, 0xffffffff, "");
+    WRITES_ALL(13, 4, 99, 4, INTROSPECTION_UNSOUND_ROWS, 12, "");
+    WRITES_ALL(UINT64_MAX, 4, 99, 4, INTROSPECTION_UNSOUND_ROWS, INTROSPECTION_MAX_ROWS, "");
+    end_reading(&r);
+}
+
+/* Rows in another order: an arg of the method after the signal. */
+static void writing_several_in_any_order(void)
+{
+    struct reading r = read_all("<node><interface name=\"a.b\"><method name=\"M\"><arg type=\"s\"/></method>"
+                                "<signal name=\"S\"/></interface></node>");
+    uint32_t items[2] = {2, 3}, ends[2] = {41, 59}, arg[16];
+    memcpy(arg, r.rows + 3 * 16, sizeof arg);
+    memcpy(r.rows + 3 * 16, r.rows + 4 * 16, sizeof arg);
+    memcpy(r.rows + 4 * 16, arg, sizeof arg);
+    WRITES_ALL(5, 2, 80, 2, 0, 0, "<method name=\"M\"><arg type=\"s\"/></method><signal name=\"S\"/>");
+    end_reading(&r);
+}
+
 /* ---- columns */
 
 typedef void turn(const uint32_t *, size_t, uint64_t, uint32_t *, size_t, uint64_t *);
@@ -1094,6 +1159,8 @@ int main(void)
     writing_trees();
     trees_read_back();
     deep_trees();
+    writing_several();
+    writing_several_in_any_order();
     columns_and_back();
     columns_refused(introspection_columns);
     columns_refused(introspection_rows);

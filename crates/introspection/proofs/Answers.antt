@@ -25,6 +25,7 @@ use Rattle.document.specs.declared.Verdict.the-variants as verdict
 use Rattle.files.specs.Files as files
 use Rattle.files.specs.declared.Reading.{Reading}
 use Rattle.strict.specs.Strict as strict
+use Rattle.items.specs.Several.{severalWriting, severalEnds, WritesSeveral}
 use Rattle.items.specs.Writing.{writing, Writes}
 use Rattle.trees.specs.Writing.{treeWriting, WritesTree}
 use Rattle.introspection.specs.Words.{bit, verdictWords, answerWords, columnsWords, Reads, ReadsStrictly, textWords, outcomeWords, partWords, lookupWords, toldBy, messageBy, warningMessageBy, refusalWords, orderWords, orderingWords}
@@ -117,6 +118,17 @@ tree-words h w = h ∙ ap answerWords (w .says .answer)
 pub tree-left : {document x ws out : List ℕ} {n i room : ℕ} {a : TextAnswer} → WritesTree document x ws n i room out a → out ≡ leftOf room (treeWriting document x ws n i room)
 tree-left w = w .says .left
 
+-- of several rows
+module _ {document x ws is out ends : List ℕ} {n room slots : ℕ} {a : TextAnswer} (w : WritesSeveral document x ws n is room slots out ends a) where
+  pub several-words : {rs : List ℕ} → rs ≡ answerWords a → rs ≡ textWords (severalWriting document x ws n is room slots)
+  several-words h = h ∙ ap answerWords (w .says .answer)
+
+  pub several-left : out ≡ leftOf room (severalWriting document x ws n is room slots)
+  several-left = w .says .left
+
+  pub several-ends : ends ≡ severalEnds document x ws n is room slots
+  several-ends = w .ends-left
+
 -- of a message
 module _ (document ws : List ℕ) (room : ℕ) {out : List ℕ} {a : TextAnswer} where
   pub message-words : {rs : List ℕ} → rs ≡ answerWords a → Says (messageOf document (toldBy ws) room) room out a → rs ≡ textWords (messageBy document ws room)
@@ -137,4 +149,4 @@ module _ (document ws : List ℕ) (room : ℕ) {out : List ℕ} {a : TextAnswer}
 
 pub ruleset words = (refusal-words, verdict-refused, verdict-accepted, answer-refused, answer-done, columns-refused, columns-done, order-refused, order-done, needs)
 
-pub ruleset entries = (reads, reads-strictly, text-words, outcome-words, write-words, write-left, tree-words, tree-left, lookup-words, message-words, message-left, warning-words, warning-left, ordered-words, ordered-left, ordered-idle, needs)
+pub ruleset entries = (reads, reads-strictly, text-words, outcome-words, write-words, write-left, tree-words, tree-left, several-words, several-left, several-ends, lookup-words, message-words, message-left, warning-words, warning-left, ordered-words, ordered-left, ordered-idle, needs)

@@ -14,6 +14,7 @@ ghost use Rattle.columns.specs.Entries.{toColumns, toRows, wordsLeft};
 ghost use Rattle.answers.specs.Text.{leftOf};
 ghost use Rattle.references.specs.Entries.{escaping, unescaping};
 ghost use Rattle.document.specs.Whole.{roomOf};
+ghost use Rattle.items.specs.Several.{severalWriting, severalEnds};
 ghost use Rattle.items.specs.Writing.{writing};
 ghost use Rattle.trees.specs.Writing.{treeWriting};
 ghost use Rattle.introspection.specs.Words.{verdictWords, answerWords, columnsWords, partWords, bit, Reads, ReadsStrictly, textWords, outcomeWords, lookupWords, messageBy, warningMessageBy, refusalWords, orderWords, orderingWords};
@@ -340,4 +341,29 @@ pub extern "C" fn introspection_order<'a>(
 {
     let a = order::order_types(document, text, rows, claimed as usize, work, output);
     *answer = order_words(a);
+}
+
+// Writes the items of several rows after one check.
+#[no_mangle]
+pub extern "C" fn introspection_write_items<'a>(
+    document: &'a [u8],
+    text: &'a [u8],
+    rows: &[u32],
+    claimed: u64,
+    asked: &[u32],
+    output: &mut [u8],
+    ends: &mut [u32],
+    answer: &mut [u64; 3],
+)
+    ensures answer { λ _. ⌜ now (answer .exit) ≡ textWords
+        (severalWriting (now (document .entry)) (now (text .entry)) (now (rows .entry)) claimed (now (asked .entry))
+        (length (now (output .entry))) (length (now (ends .entry)))) ⌝ }
+    ensures output { λ _. ⌜ now (output .exit) ≡ leftOf (length (now (output .entry)))
+        (severalWriting (now (document .entry)) (now (text .entry)) (now (rows .entry)) claimed (now (asked .entry))
+        (length (now (output .entry))) (length (now (ends .entry)))) ⌝ }
+    ensures ends { λ _. ⌜ now (ends .exit) ≡ severalEnds (now (document .entry)) (now (text .entry))
+        (now (rows .entry)) claimed (now (asked .entry)) (length (now (output .entry))) (length (now (ends .entry))) ⌝ }
+{
+    let a = writers::write_items(document, text, rows, claimed as usize, asked, output, ends);
+    *answer = answer_words(a);
 }

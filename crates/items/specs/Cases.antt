@@ -16,15 +16,19 @@ use Rattle.items.specs.Sound.{goodTriple, soundRow, Soundness, sound, un
 use Rattle.items.specs.Written.{tag, closingTag}
 use Rattle.items.specs.Content.{content}
 use Rattle.items.specs.Writing.{writing}
+use Rattle.items.specs.Several.{severalWriting, severalEnds}
 
--- n rows of a table are checked, or row i of them is asked for with some room: the text, the words, n, i, room
+-- n rows of a table are checked, or row i of them is asked for with some room, or several with room for bytes and words: the text,
+-- the words, n, i or the rows, room
 pub data Asked : Type 0 where
   checks : List ℕ → List ℕ → ℕ → Asked
   writes : List ℕ → List ℕ → ℕ → ℕ → ℕ → Asked
+  writes-all : List ℕ → List ℕ → ℕ → List ℕ → ℕ → ℕ → Asked
 
 pub data Result : Type 0 where
   said : Soundness → Result
   answered : Text → Result
+  ended : Text → List ℕ → Result
 
 abbrev pub document : List ℕ
 document = bytes "<node><interface name=\"a.b\"><method name=\"M\"/><x/></interface></node>"
@@ -32,6 +36,7 @@ document = bytes "<node><interface name=\"a.b\"><method name=\"M\"/><x/></interf
 abbrev pub resultFor : Asked → Result
 resultFor (checks x ws n) = said (soundness document x ws n)
 resultFor (writes x ws n i room) = answered (writing document x ws n i room)
+resultFor (writes-all x ws n is room slots) = ended (severalWriting document x ws n is room slots) (severalEnds document x ws n is room slots)
 
 -- a node and an interface in it; then its method
 abbrev pub front : List ℕ
@@ -107,8 +112,14 @@ cases =
     ∷ (writes [] rows 262145 2 18, answered (wrong 19 262144))
     ∷ (writes special (arg 3) 4 2 64, answered (text (bytes "<method name=\"M\"><arg type=\"s\" direction=\"out\"/></method>")))
     ∷ (writes special annotation 3 2 64, answered (text (bytes "<annotation name=\"a.b\" value=\"&lt;&quot;&amp;\"/>")))
+    ∷ (writes-all special (arg 3) 4 (3 ∷ 2 ∷ 3 ∷ []) 120 4, ended (text (bytes "<arg type=\"s\" direction=\"out\"/><method name=\"M\"><arg type=\"s\" direction=\"out\"/></method><arg type=\"s\" direction=\"out\"/>")) (31 ∷ 88 ∷ 119 ∷ 0 ∷ []))
+    ∷ (writes-all special (arg 3) 4 (3 ∷ 2 ∷ 3 ∷ []) 118 3, ended (wrong 21 119) (0 ∷ 0 ∷ 0 ∷ []))
+    ∷ (writes-all special (arg 3) 4 (3 ∷ 2 ∷ 3 ∷ []) 118 2, ended (wrong 18 3) (0 ∷ 0 ∷ []))
+    ∷ (writes-all special (arg 3) 4 (3 ∷ 1 ∷ 4 ∷ []) 118 2, ended (wrong 20 1) (0 ∷ 0 ∷ []))
+    ∷ (writes-all special (arg 3) 4 [] 0 1, ended (text []) (0 ∷ []))
+    ∷ (writes-all [] rows 4 (3 ∷ []) 0 0, ended (wrong 19 3) [])
     ∷ []
 
 pub worked : map (λ c. resultFor (c .0)) cases ≡ map (λ c. c .1) cases
-unfolding soundness soundRow goodRow counted goodTriple shown mayHold illFormed sequence interfaceName memberName signature writing content tag closingTag escape
+unfolding soundness soundRow goodRow counted goodTriple shown mayHold illFormed sequence interfaceName memberName signature writing severalWriting severalEnds content tag closingTag escape
 worked = refl

@@ -7,4 +7,5 @@ pub mod Sound
 pub mod Written
 pub mod Content
 pub mod Writing
+pub mod Several
 pub mod Cases

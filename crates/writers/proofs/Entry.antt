@@ -61,11 +61,11 @@ drop-map f zero l = refl
 drop-map f (suc i) [] = refl
 drop-map f (suc i) (a ∷ l) = drop-map f i l
 
-content-is : (d x ws : List ℕ) (m i : ℕ) → i < m → contentAt d x ws m i ≡ itemOf (rowsShown d x ws m) i (rowAt d x ws i)
+pub content-is : (d x ws : List ℕ) (m i : ℕ) → i < m → contentAt d x ws m i ≡ itemOf (rowsShown d x ws m) i (rowAt d x ws i)
 unfolding content
 content-is d x ws m i h = ap (firstItem (rowsShown d x ws m) i) (drop-map (viewed d x) i (rowsOf m ws) ∙ ap (map (viewed d x)) (row-at m i ws h))
 
-content-past : (d x ws : List ℕ) (m i : ℕ) → m ≤ i → contentAt d x ws m i ≡ none
+pub content-past : (d x ws : List ℕ) (m i : ℕ) → m ≤ i → contentAt d x ws m i ≡ none
 unfolding content
 content-past d x ws m i h =
     let l : length (rowsOf m ws) ≤ i = omega (arith, h, length-rowsOf m ws) in
@@ -99,8 +99,8 @@ module _ {d x ws cl : List ℕ} {m i k : ℕ} (h : MemberScannable d x ws m i cl
   kind-is : {n : ℕ} → k ≡ n → rowAt d x ws i .kind ≡ n
   kind-is e = getD-drop (i * 16) ws 0 0 ∙ sym (w .is) ∙ e
 
-  module _ {t t′ : List ℕ} {r : ℕ} where
-    pub item-annotation : k ≡ 6 → AnnotationPut d x ws i 0 t t′ r → ItemPut d x ws m i t t′ r
+  module _ {t t′ : List ℕ} {n r : ℕ} where
+    pub item-annotation : k ≡ 6 → AnnotationPut d x ws i n t t′ r → ItemPut d x ws m i n t t′ r
     unfolding annotationAt
     item-annotation e q = record {
       item = annotated (annotationOf (rowAt d x ws i));
@@ -108,14 +108,14 @@ module _ {d x ws cl : List ℕ} {m i k : ℕ} (h : MemberScannable d x ws m i cl
       puts = q .puts;
     }
 
-    pub item-arg : k ≡ 7 → ArgPut d x ws i m 0 t t′ r → ItemPut d x ws m i t t′ r
+    pub item-arg : k ≡ 7 → ArgPut d x ws i m n t t′ r → ItemPut d x ws m i n t t′ r
     item-arg e q = record {
       item = argument (argOf (rowsShown d x ws m) i (rowAt d x ws i));
       is = content-is d x ws m i (h .within) ∙ item-seven (rowsShown d x ws m) i (rowAt d x ws i) (kind-is e);
       puts = q .puts m (h .held) (last-all (h .within));
     }
 
-    pub item-member : Writable k true → (k ≡ 6 → ⊥) → (k ≡ 7 → ⊥) → MemberPut d x ws m i k t t′ r → ItemPut d x ws m i t t′ r
+    pub item-member : Writable k true → (k ≡ 6 → ⊥) → (k ≡ 7 → ⊥) → MemberPut d x ws m i k n t t′ r → ItemPut d x ws m i n t t′ r
     item-member y a b q = go (eqb k 3) refl
       where
         five : eqb k 3 ≡ false → k ≡ 5
@@ -125,7 +125,7 @@ module _ {d x ws cl : List ℕ} {m i k : ℕ} (h : MemberScannable d x ws m i cl
             only true e = refl
             only false e = sym e
 
-        go : (z : Bool) → eqb k 3 ≡ z → ItemPut d x ws m i t t′ r
+        go : (z : Bool) → eqb k 3 ≡ z → ItemPut d x ws m i n t t′ r
         go true e = record {
           item = method (memberOf (rowsShown d x ws m) i (rowAt d x ws i));
           is = content-is d x ws m i (h .within) ∙ item-three (rowsShown d x ws m) i (rowAt d x ws i) (kind-is (eqb-true k 3 e));
@@ -137,28 +137,31 @@ module _ {d x ws cl : List ℕ} {m i k : ℕ} (h : MemberScannable d x ws m i cl
           puts = puts-as (ap (λ n. writtenMember n (memberOf (rowsShown d x ws m) i (rowAt d x ws i))) (ap (λ z. if z (bytes "method") (bytes "signal")) e)) (q .puts);
         }
 
-pub item-scans : {d x ws cl : List ℕ} {m i : ℕ} → MemberScannable d x ws m i cl → Scannable d x ws i m cl 0
-item-scans h = record {
+pub item-scans : {d x ws cl : List ℕ} {m i n : ℕ} → n < 4294967296 → MemberScannable d x ws m i cl → Scannable d x ws i m cl n
+item-scans s h = record {
   document = h .document;
   text = h .text;
   onward = omega (arith, h .within);
   few = h .held .few;
   held = h .held .held;
   classes = h .classes;
-  room = omega (arith, h .held .few);
+  room = omega (arith, s, h .held .few);
 }
 
-pub zero-room : 0 + 16777216 < 2 ^ 62
+pub item-room : (n : ℕ) → n < 4294967296 → n + 16777216 < 2 ^ 62
+item-room n s = omega (arith, s)
+
+pub zero-room : 0 < 4294967296
 zero-room = omega arith
 
-pub ruleset items = (item-annotation, item-arg, item-member, item-scans, zero-room, member-row, member-classes, member-within, needs)
+pub ruleset items = (item-annotation, item-arg, item-member, item-scans, item-room, member-row, member-classes, member-within, needs)
 
 pub writable-true : {k : ℕ} {b : Bool} → Writable k b → b ≡ true → Writable k true
 writable-true y e = record { is = sym e ∙ y .is }
 
 -- sound rows are held
 module _ {d x ws : List ℕ} {n : ℕ} (h : Admitted d x ws n) where
-  admitted-rows : Held ws n
+  pub admitted-rows : Held ws n
   admitted-rows = record { few = sound-claimed d x ws n (h .rows); held = sound-held d x ws n (h .rows); parents = λ k l. sound-parent d x ws n (h .rows) k l }
 
   module _ {i : ℕ} (l : i < n) where
@@ -183,14 +186,14 @@ module _ {d x ws t t′ : List ℕ} {n i : ℕ} {r : TextAnswer} where
         says = subst (λ o. Says (itemWritten i (length t) o) (length t) t′ r) (sym (content-is d x ws n i h ∙ item-none (rowsShown d x ws n) i (rowAt d x ws i) g)) s;
       }
 
-  pub row-written : {t₁ : List ℕ} {m : ℕ} → ItemPut d x ws n i t t₁ m → length t₁ ≡ length t → Finishes m 21 m t₁ t′ r → WritesSound d x ws n i t t′ r
+  pub row-written : {t₁ : List ℕ} {m : ℕ} → ItemPut d x ws n i 0 t t₁ m → length t₁ ≡ length t → Finishes m 21 m t₁ t′ r → WritesSound d x ws n i t t′ r
   row-written {t₁} {m} q l f =
       let c = q .item in
       let s = f .says (written c) (q .puts .stands [] (empty-stands 1 t)) in
       let k : m ≡ length (written c) = q .puts .counts ∙ omega arith in
       record { says = subst (λ o. Says (itemWritten i (length t) o) (length t) t′ r) (sym (q .is)) (rw (l, k) at s) }
 
-pub ruleset rows = (writable-true, admitted-scans, admitted-few, admitted-held, no-row, no-kind, row-written, needs)
+pub ruleset rows = (zero-room, writable-true, admitted-scans, admitted-few, admitted-held, no-row, no-kind, row-written, needs)
 
 -- the answers
 module _ {d x ws t′ : List ℕ} {n i room : ℕ} {r : TextAnswer} where

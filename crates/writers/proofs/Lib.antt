@@ -5,3 +5,4 @@ pub mod Texts
 pub mod Args
 pub mod Members
 pub mod Entry
+pub mod Several

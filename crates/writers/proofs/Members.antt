@@ -155,11 +155,11 @@ module _ {d x ws t₀ t : List ℕ} {m p n k l : ℕ} (g : Arguing d x ws m p n 
 pub ruleset argues = (argue-begins, argue-ends, argue-more, argue-turn, needs)
 
 -- the start and closing tags
-module _ {d x ws t t′ : List ℕ} {i kind r : ℕ} where
-  pub tag-method : kind ≡ 3 → ShownPut d x ws i 2 (bytes "<method name=\"") 0 t t′ r → MemberTagPut d x ws i kind t t′ r
+module _ {d x ws t t′ : List ℕ} {i kind n r : ℕ} where
+  pub tag-method : kind ≡ 3 → ShownPut d x ws i 2 (bytes "<method name=\"") n t t′ r → MemberTagPut d x ws i kind n t t′ r
   tag-method e p = record { puts = rw (eq-eqb kind 3 e) (p .puts); most = omega (arith, p .most) }
 
-  pub tag-signal : (kind ≡ 3 → ⊥) → ShownPut d x ws i 2 (bytes "<signal name=\"") 0 t t′ r → MemberTagPut d x ws i kind t t′ r
+  pub tag-signal : (kind ≡ 3 → ⊥) → ShownPut d x ws i 2 (bytes "<signal name=\"") n t t′ r → MemberTagPut d x ws i kind n t t′ r
   tag-signal e p = record { puts = rw (ne-eqb kind 3 e) (p .puts); most = omega (arith, p .most) }
 
 module _ {t t′ : List ℕ} {kind n r : ℕ} where
@@ -171,12 +171,12 @@ module _ {t t′ : List ℕ} {kind n r : ℕ} where
   unfolding closingTag
   end-signal e p = record { puts = rw (ne-eqb kind 3 e) p }
 
-module _ {d x ws cl : List ℕ} {i : ℕ} (h : RowHeld d x ws i) (c : Classes cl) where
-  pub method-name : Puttable d x ws i 2 cl (bytes "<method name=\"") 0
-  method-name = record { held = h; word = omega arith; classes = c; room = omega arith }
+module _ {d x ws cl : List ℕ} {i n : ℕ} (h : RowHeld d x ws i) (c : Classes cl) (s : n < 4294967296) where
+  pub method-name : Puttable d x ws i 2 cl (bytes "<method name=\"") n
+  method-name = record { held = h; word = omega arith; classes = c; room = omega (arith, s) }
 
-  pub signal-name : Puttable d x ws i 2 cl (bytes "<signal name=\"") 0
-  signal-name = record { held = h; word = omega arith; classes = c; room = omega arith }
+  pub signal-name : Puttable d x ws i 2 cl (bytes "<signal name=\"") n
+  signal-name = record { held = h; word = omega arith; classes = c; room = omega (arith, s) }
 
 pub end-room : (n : ℕ) → n + 16 < 2 ^ 62 → n + length (bytes "</method>") < 2 ^ 62
 end-room n h = omega (arith, h)
@@ -209,11 +209,11 @@ module _ {d x ws cl : List ℕ} {m i p : ℕ} (h : MemberScannable d x ws m i cl
         most = omega (arith, q .most, w .most);
       }
 
-pub first-inside : {n : ℕ} → n < 6291500 → CountFits n 2305843009213693952
-first-inside s = record { fits = omega (arith, s) }
+pub first-inside : {n : ℕ} → CountFits n 3458764513820540928 → CountFits n 2305843009213693952
+first-inside s = record { fits = omega (arith, s .fits) }
 
-pub next-inside : {b t t₁ : List ℕ} {n l : ℕ} → n < 6291500 → KindPut b n t t₁ l → CountFits l 2305843009213693952
-next-inside s q = record { fits = omega (arith, s, q .most) }
+pub next-inside : {b t t₁ : List ℕ} {n l : ℕ} → CountFits n 3458764513820540928 → KindPut b n t t₁ l → CountFits l 2305843009213693952
+next-inside s q = record { fits = omega (arith, s .fits, q .most) }
 
 module _ {d x ws cl : List ℕ} {m p n : ℕ} (h : NotesScannable d x ws m p cl) where
   pub notes-scan : CountFits n 2305843009213693952 → Scannable d x ws p m cl n
@@ -241,17 +241,17 @@ member-within h = h .within
 pub ruleset inner = (member-args, member-notes, children-put, first-inside, next-inside, member-held, member-within, needs)
 
 -- the args of row i are those among the rows after it
-clear-args : (d x ws : List ℕ) (t : List Row) (p i a : ℕ) → Clear ws p i a → args t p i (rowsIn d x ws i a) ≡ []
+pub clear-args : (d x ws : List ℕ) (t : List Row) (p i a : ℕ) → Clear ws p i a → args t p i (rowsIn d x ws i a) ≡ []
 clear-args d x ws t p i zero h = refl
 clear-args d x ws t p i (suc a) h =
     ap (args t p i) (shown-one d x ws i a)
     ∙ ap (λ b. if b (argOf t i (rowAt d x ws i) ∷ args t p (suc i) (rowsIn d x ws (suc i) a)) (args t p (suc i) (rowsIn d x ws (suc i) a))) (no-child d x ws 7 p i h)
     ∙ clear-args d x ws t p (suc i) a (later-clear h)
 
-length-rows : (d x ws : List ℕ) (i a : ℕ) → length (rowsIn d x ws i a) ≡ a
+pub length-rows : (d x ws : List ℕ) (i a : ℕ) → length (rowsIn d x ws i a) ≡ a
 length-rows d x ws i a = length-map (wordsIn ws i a) (viewed d x) ∙ length-rowsOf a (drop (i * 16) ws)
 
-own-args : (d x ws : List ℕ) (m i : ℕ) → Held ws m → i < m → args (rowsShown d x ws m) (suc i) 0 (rowsShown d x ws m) ≡ args (rowsShown d x ws m) (suc i) (suc i) (rowsIn d x ws (suc i) (m - suc i))
+pub own-args : (d x ws : List ℕ) (m i : ℕ) → Held ws m → i < m → args (rowsShown d x ws m) (suc i) 0 (rowsShown d x ws m) ≡ args (rowsShown d x ws m) (suc i) (suc i) (rowsIn d x ws (suc i) (m - suc i))
 own-args d x ws m i h l =
     let table = rowsShown d x ws m in
     let a = m - suc i in
@@ -269,7 +269,7 @@ any-arg d x t p i (r ∷ rs) = go (isChild kinds.arg p (r .kind) (r .parent)) (a
     go true e = refl
     go false e = e
 
-concat-append : (l r : List (List ℕ)) → concat (l ++ r) ≡ concat l ++ concat r
+pub concat-append : (l r : List (List ℕ)) → concat (l ++ r) ≡ concat l ++ concat r
 concat-append [] r = refl
 concat-append (c ∷ l) r = ap (_++_ c) (concat-append l r) ∙ sym (append-assoc c (concat l) (concat r))
 
@@ -332,13 +332,13 @@ module _ (d x ws : List ℕ) (m i kind : ℕ) (h : Held ws m) (o : i < m) where
       ∙ sym (element-full (tagOf kind) (named (nameOf d x ws i) ∷ []) (childrenOf d x ws m i) f)
       ∙ ap (writtenMember (tagOf kind)) (sym member-is)
 
-module _ {d x ws cl t t₁ : List ℕ} {m i kind l : ℕ} (h : MemberScannable d x ws m i cl) (q : MemberTagPut d x ws i kind t t₁ l) {b : Bool} (c : SomeChildren ws (i + 1) m b) where
-  pub member-bare : {t₂ : List ℕ} {r : ℕ} → b ≡ false → Puts (bytes "\"/>") l t₁ t₂ r → MemberPut d x ws m i kind t t₂ r
+module _ {d x ws cl t t₁ : List ℕ} {m i kind n l : ℕ} (h : MemberScannable d x ws m i cl) (q : MemberTagPut d x ws i kind n t t₁ l) {b : Bool} (c : SomeChildren ws (i + 1) m b) where
+  pub member-bare : {t₂ : List ℕ} {r : ℕ} → b ≡ false → Puts (bytes "\"/>") l t₁ t₂ r → MemberPut d x ws m i kind n t t₂ r
   member-bare f s = record {
     puts = puts-as (member-bare-bytes d x ws m i kind (h .held) (h .within) (sym (some-inside d x ws m i kind (h .held) (h .within) refl c) ∙ f)) (puts-then (q .puts) s);
   }
 
-  pub member-full : {t₂ t₃ t₄ : List ℕ} {u v r : ℕ} → b ≡ true → Puts (bytes "\">") l t₁ t₂ u → ChildrenPut d x ws m i u t₂ t₃ v → MemberEndPut kind v t₃ t₄ r → MemberPut d x ws m i kind t t₄ r
+  pub member-full : {t₂ t₃ t₄ : List ℕ} {u v r : ℕ} → b ≡ true → Puts (bytes "\">") l t₁ t₂ u → ChildrenPut d x ws m i u t₂ t₃ v → MemberEndPut kind v t₃ t₄ r → MemberPut d x ws m i kind n t t₄ r
   member-full f s w z = record {
     puts = puts-as (member-full-bytes d x ws m i kind (h .held) (h .within) (sym (some-inside d x ws m i kind (h .held) (h .within) refl c) ∙ f)) (puts-then (q .puts) (puts-then s (puts-then (w .puts) (z .puts))));
   }
@@ -357,18 +357,18 @@ module _ {d x ws cl : List ℕ} {m i : ℕ} (h : MemberScannable d x ws m i cl) 
   pub member-rows : m * 16 ≤ length ws
   member-rows = h .held .held
 
-  module _ {t t₁ : List ℕ} {kind l : ℕ} (q : MemberTagPut d x ws i kind t t₁ l) where
+  module _ {t t₁ : List ℕ} {kind n l : ℕ} (o : n < 4294967296) (q : MemberTagPut d x ws i kind n t t₁ l) where
     pub member-ends : l + length (bytes "\"/>") < 2 ^ 62
-    member-ends = omega (arith, q .most)
+    member-ends = omega (arith, q .most, o)
 
     pub member-opens : l + length (bytes "\">") < 2 ^ 62
-    member-opens = omega (arith, q .most)
+    member-opens = omega (arith, q .most, o)
 
     module _ {t₂ : List ℕ} {u : ℕ} (s : Puts (bytes "\">") l t₁ t₂ u) where
-      pub member-small : u < 6291500
-      member-small = omega (arith, q .most, s .counts)
+      pub member-small : CountFits u 3458764513820540928
+      member-small = record { fits = omega (arith, q .most, o, s .counts) }
 
       pub member-closes : {t₃ : List ℕ} {v : ℕ} → ChildrenPut d x ws m i u t₂ t₃ v → v + 16 < 2 ^ 62
-      member-closes w = omega (arith, q .most, s .counts, w .most)
+      member-closes w = omega (arith, q .most, o, s .counts, w .most)
 
 pub ruleset members = (member-bare, member-full, member-row, member-classes, member-few, member-rows, member-within, member-ends, member-opens, member-small, member-closes, needs)

@@ -3,3 +3,4 @@
 pub mod Rows
 pub mod Writes
 pub mod Entry
+pub mod Several

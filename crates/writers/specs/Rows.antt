@@ -87,3 +87,15 @@ strays ws p last q = ltb p q && eqb (wordAt ws (q - 1) 1) p && not (eqb q (suc l
 
 pub record Stray (ws : List ℕ) (p last q : ℕ) (r : Bool) : Type 0 where
   pub is : r ≡ strays ws p last q
+
+-- r is the first row after row i whose parent is not after row i, or n
+pub record RunEnd (ws : List ℕ) (n i r : ℕ) : Type 0 where
+  pub onward : i < r
+  pub within : r ≤ n
+  pub is : r < n → wordAt ws r 1 ≤ i
+
+-- no row from row r on stands in row i, or in a row between them
+pub record Reach (ws : List ℕ) (n i r : ℕ) : Type 0 where
+  pub onward : i < r
+  pub within : r ≤ n
+  pub none : (j k : ℕ) → i ≤ j → j < r → r ≤ k → k < n → wordAt ws k 1 ≡ suc j → ⊥

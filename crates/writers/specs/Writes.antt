@@ -154,9 +154,9 @@ pub record KindPut (b : List ℕ) (n : ℕ) (t t′ : List ℕ) (r : ℕ) : Type
 abbrev pub tagOf : ℕ → List ℕ
 tagOf kind = if (eqb kind kinds.method) (bytes "method") (bytes "signal")
 
-pub record MemberTagPut (d x ws : List ℕ) (i kind : ℕ) (t t′ : List ℕ) (r : ℕ) : Type 0 where
-  pub puts : Puts (60 ∷ tagOf kind ++ (bytes " name=\"" ++ escape (shown d x (tripleAt 2 (drop (i * 16) ws))))) 0 t t′ r
-  pub most : r ≤ 6291480
+pub record MemberTagPut (d x ws : List ℕ) (i kind n : ℕ) (t t′ : List ℕ) (r : ℕ) : Type 0 where
+  pub puts : Puts (60 ∷ tagOf kind ++ (bytes " name=\"" ++ escape (shown d x (tripleAt 2 (drop (i * 16) ws))))) n t t′ r
+  pub most : r ≤ n + 6291480
 
 pub record MemberEndPut (kind n : ℕ) (t t′ : List ℕ) (r : ℕ) : Type 0 where
   pub puts : Puts (closingTag (tagOf kind)) n t t′ r
@@ -173,15 +173,15 @@ pub record ChildrenPut (d x ws : List ℕ) (m i n : ℕ) (t t′ : List ℕ) (r 
   pub puts : Puts (argsIn d x ws m (suc i) (suc i) ++ annotationsIn d x ws (suc i) (suc i) m) n t t′ r
   pub most : r ≤ n + 2305843009213693952
 
-pub record MemberPut (d x ws : List ℕ) (m i kind : ℕ) (t t′ : List ℕ) (r : ℕ) : Type 0 where
-  pub puts : Puts (writtenMember (tagOf kind) (memberOf (rowsShown d x ws m) i (rowAt d x ws i))) 0 t t′ r
+pub record MemberPut (d x ws : List ℕ) (m i kind n : ℕ) (t t′ : List ℕ) (r : ℕ) : Type 0 where
+  pub puts : Puts (writtenMember (tagOf kind) (memberOf (rowsShown d x ws m) i (rowAt d x ws i))) n t t′ r
 
 -- whether rows of a kind are written
 pub record Writable (kind : ℕ) (r : Bool) : Type 0 where
   pub is : r ≡ among kind kinds.written
 
 -- row i of the first m rows
-pub record ItemPut (d x ws : List ℕ) (m i : ℕ) (t t′ : List ℕ) (r : ℕ) : Type 0 where
+pub record ItemPut (d x ws : List ℕ) (m i n : ℕ) (t t′ : List ℕ) (r : ℕ) : Type 0 where
   pub item : Item
   pub is : contentAt d x ws m i ≡ some item
-  pub puts : Puts (written item) 0 t t′ r
+  pub puts : Puts (written item) n t t′ r

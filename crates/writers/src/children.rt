@@ -4,7 +4,8 @@ ghost use mathlib.Core.Path.{_≡_};
 ghost use Prim.Native.Nat.{_*_, _+_, _≤_, _<_};
 ghost use lib.ListN.{length};
 ghost use Rattle.items.specs.Words.{Word};
-ghost use Rattle.writers.specs.Rows.{Child, SomeChild, SomeChildren, NextChild, Stray, Held, Ordered, ChildOf, Last};
+ghost use Rattle.writers.specs.Rows.{Child, SomeChild, SomeChildren, NextChild, Stray, Held, Ordered, ChildOf, Last, RunEnd, Reach};
+ghost use Rattle.soundness.specs.Outcome as outcome;
 
 // The parent's row of row i, plus one.
 fn parent_at(rows: &[u32], i: usize) -> usize
@@ -110,6 +111,32 @@ pub fn last_child(rows: &[u32], n: usize, j: usize, p: usize, ordered: bool) -> 
 {
     if ordered {
         return next_child(rows, j + 1, n, p);
+    }
+    n
+}
+
+// The first row after row i whose parent is not after row i, or n: where what stands in row i ends, in document order.
+fn run_end(rows: &[u32], n: usize, i: usize) -> usize
+    requires { ⌜ Held (now rows) n ⌝ ∗ ⌜ i < n ⌝ }
+    ensures { λ r. ⌜ RunEnd (now (rows .entry)) n i r ⌝ }
+{
+    let mut k = i + 1;
+    while k < n {
+        if parent_at(rows, k) <= i {
+            return k;
+        }
+        k += 1;
+    }
+    k
+}
+
+// A row from which on none stands in row i, nor in what stands in row i: near in document order, else n.
+pub fn reach(rows: &[u32], n: usize, i: usize, ordered: bool) -> usize
+    requires { ⌜ Held (now rows) n ⌝ ∗ ⌜ i < n ⌝ ∗ ⌜ outcome.Orders (now rows) n ordered ⌝ }
+    ensures { λ r. ⌜ Reach (now (rows .entry)) n i r ⌝ }
+{
+    if ordered {
+        return run_end(rows, n, i);
     }
     n
 }

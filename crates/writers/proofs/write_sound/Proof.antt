@@ -14,7 +14,7 @@ write-sound-spec =
     (λ c κs. search rows)
     (λ c κs. search rows)
     (λ c κs. search rows)
-    (λ c κs. (search rows, (search rows, search rows)))
+    (λ c κs. (search rows, (search rows, (search rows, search rows))))
     (λ c κs. search rows)
     (λ c. search rows)
     (λ c. search rows)
