@@ -1,18 +1,20 @@
 -- What the steps of the entries say.
 -- Assumes nothing.
-use Prim.Native.Nat.{ℕ, _+_, _≤_, _<_}
+use Prim.Native.Nat.{ℕ, _+_, _-_, _≤_, _<_}
 use mathlib.Core.Path.{_≡_}
 use mathlib.Core.List.{List, [], _∷_, _++_}
-use lib.ListN.{length}
-use Rattle.slices.specs.Bytes.{bytes}
+use lib.Dec.{eqb}
+use lib.ListN.{length, take, drop}
+use Rattle.slices.specs.Bytes.{if, bytes}
 use Rattle.answers.specs.Text.{text, roomy, Says}
 use Rattle.answers.specs.Puts.{Puts}
 use Rattle.references.specs.Unescape.{unescape}
 use Rattle.answers.specs.declared.TextAnswer.{TextAnswer}
-use Rattle.messages.specs.Texts.{refusals, warnings, piecesOf}
+use Rattle.messages.specs.Texts.{Piece, words, refusals, warnings, piecesOf}
 use Rattle.messages.specs.Message.{excerpt, excerptOf, joined, messageBy}
 use Rattle.messages.specs.declared.Wide.{Wide}
 use Rattle.messages.specs.declared.Told.{Told}
+use Rattle.messages.specs.declared.Part.{Part}
 
 -- words of a message
 abbrev pub Short : List ℕ → List ℕ → Type 0
@@ -40,6 +42,19 @@ pub record Unescaped (before value after buf buf′ : List ℕ) (r : ℕ) : Type
 -- two texts with words before, between and after them
 pub record Parted (before a between b after : List ℕ) (room : ℕ) (out : List ℕ) (r : TextAnswer) : Type 0 where
   pub says : Says (roomy room (text (before ++ (a ++ (between ++ (b ++ after)))))) room out r
+
+-- the texts of the numbers that show nothing, and the pieces that a part of them is: none if it is empty
+abbrev pub plainTexts : List ℕ
+plainTexts = bytes "not UTF-8over-longmissing root elementmalformed markupmaximum element nesting depth exceededunterminated entity referencebad namebad signaturetoo many attributesno room in a lent tableunsound rowsnot writableoutput shortodd number of byteslone surrogatecircular typesprofile breachtoo many rows"
+
+abbrev pub partPieces : Part → List Piece
+partPieces p = if (eqb (p .from) (p .to)) [] (words (take (p .to - p .from) (drop (p .from) plainTexts)) ∷ [])
+
+-- where the text of such a number stands
+pub record PlainAt (number : ℕ) (p : Part) : Type 0 where
+  pub is : NoneOf number (5 ∷ 6 ∷ 8 ∷ 10 ∷ 11 ∷ 12 ∷ 15 ∷ 16 ∷ []) → piecesOf refusals number ≡ partPieces p
+  pub ordered : p .from ≤ p .to
+  pub inside : p .to ≤ 294
 
 -- the message of a number that shows nothing, whatever is told with it
 pub record Plainly (number room : ℕ) (out : List ℕ) (r : TextAnswer) : Type 0 where

@@ -22,6 +22,12 @@ pub struct Told {
     pub second: Wide,
 }
 
+// A part of some bytes: where it begins and where it ends.
+pub struct Part {
+    pub from: usize,
+    pub to: usize,
+}
+
 // The message of a refusal. A document of more than 1,048,576 bytes is refused with 2, unless that is the number told; what has no message
 // with 19, and one that has no room with 21 and the bytes needed.
 pub fn message(document: &[u8], told: Told, out: &mut [u8]) -> TextAnswer

@@ -1,44 +1,70 @@
 // The texts of messages: which words stand around what is shown.
+use crate::Part;
 use crate::Told;
 use crate::Wide;
 use crate::shown;
 use answers::TextAnswer;
-ghost use Prim.Native.Nat.{_≤_, _<_};
-ghost use lib.ListN.{length};
-ghost use Rattle.answers.specs.Text.{Says, roomy};
+ghost use Prim.Native.Nat.{_-_, _≤_, _<_};
+ghost use lib.ListN.{length, take, drop};
+ghost use Rattle.answers.specs.Text.{Says, text, roomy};
 ghost use Rattle.slices.specs.Bytes.{bytes};
 ghost use Rattle.messages.specs.Message.{excerptOf, framed};
-ghost use Rattle.messages.specs.Steps.{Plainly, Lacking, Turned, Warned};
+ghost use Rattle.messages.specs.Steps.{PlainAt, Plainly, Lacking, Turned, Warned};
+
+// Where the text of a number that shows nothing stands in the texts of all of them; an empty part if it has none.
+fn plain_at(number: u64) -> Part
+    ensures { λ r. ⌜ PlainAt number r ⌝ }
+{
+    match number {
+        1 => Part { from: 0, to: 9 },
+        2 => Part { from: 9, to: 18 },
+        3 => Part { from: 18, to: 38 },
+        4 => Part { from: 38, to: 54 },
+        7 => Part { from: 54, to: 92 },
+        9 => Part { from: 92, to: 121 },
+        13 => Part { from: 121, to: 129 },
+        14 => Part { from: 129, to: 142 },
+        17 => Part { from: 142, to: 161 },
+        18 => Part { from: 161, to: 184 },
+        19 => Part { from: 184, to: 196 },
+        20 => Part { from: 196, to: 208 },
+        21 => Part { from: 208, to: 220 },
+        22 => Part { from: 38, to: 54 },
+        23 => Part { from: 38, to: 54 },
+        24 => Part { from: 38, to: 54 },
+        25 => Part { from: 38, to: 54 },
+        26 => Part { from: 220, to: 239 },
+        27 => Part { from: 239, to: 253 },
+        28 => Part { from: 253, to: 267 },
+        29 => Part { from: 267, to: 281 },
+        30 => Part { from: 281, to: 294 },
+        _ => Part { from: 0, to: 0 },
+    }
+}
+
+// A part of some texts.
+fn cut(texts: &[u8], from: usize, to: usize, out: &mut [u8]) -> TextAnswer
+    requires { ⌜ from ≤ to ⌝ ∗ ⌜ to ≤ length (now texts) ⌝ ∗ ⌜ length (now texts) < 1024 ⌝ }
+    ensures { λ r. ⌜ Says (roomy (length (now (out .entry))) (text (take (to - from) (drop from (now (texts .entry))))))
+        (length (now (out .entry))) (now (out .exit)) r ⌝ }
+{
+    shown::plain(&texts[from..to], out)
+}
 
 // Numbers that show nothing.
 pub fn plainly(number: u64, out: &mut [u8]) -> TextAnswer
     ensures { λ r. ⌜ Plainly number (length (now (out .entry))) (now (out .exit)) r ⌝ }
 {
-    match number {
-        1 => shown::plain(b"not UTF-8", out),
-        2 => shown::plain(b"over-long", out),
-        3 => shown::plain(b"missing root element", out),
-        4 => shown::plain(b"malformed markup", out),
-        7 => shown::plain(b"maximum element nesting depth exceeded", out),
-        9 => shown::plain(b"unterminated entity reference", out),
-        13 => shown::plain(b"bad name", out),
-        14 => shown::plain(b"bad signature", out),
-        17 => shown::plain(b"too many attributes", out),
-        18 => shown::plain(b"no room in a lent table", out),
-        19 => shown::plain(b"unsound rows", out),
-        20 => shown::plain(b"not writable", out),
-        21 => shown::plain(b"output short", out),
-        22 => shown::plain(b"malformed markup", out),
-        23 => shown::plain(b"malformed markup", out),
-        24 => shown::plain(b"malformed markup", out),
-        25 => shown::plain(b"malformed markup", out),
-        26 => shown::plain(b"odd number of bytes", out),
-        27 => shown::plain(b"lone surrogate", out),
-        28 => shown::plain(b"circular types", out),
-        29 => shown::plain(b"profile breach", out),
-        30 => shown::plain(b"too many rows", out),
-        _ => answers::refuse(out, 19, 0),
+    let part = plain_at(number);
+    if part.from == part.to {
+        return answers::refuse(out, 19, 0);
     }
+    cut(
+        b"not UTF-8over-longmissing root elementmalformed markupmaximum element nesting depth exceededunterminated entity referencebad namebad signaturetoo many attributesno room in a lent tableunsound rowsnot writableoutput shortodd number of byteslone surrogatecircular typesprofile breachtoo many rows",
+        part.from,
+        part.to,
+        out,
+    )
 }
 
 // 12: the key that is missing, and the element's name.
