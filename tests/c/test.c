@@ -616,6 +616,10 @@ static void nothing_lent(void)
     CHECK(b[0] == INTROSPECTION_NOT_WRITABLE && b[1] == 0 && b[2] == 0);
     introspection_write(NULL, 0, NULL, 0, NULL, 0, 1, 0, NULL, 0, b);
     CHECK(b[0] == INTROSPECTION_UNSOUND_ROWS && b[1] == 0 && b[2] == 0);
+    introspection_write_tree(NULL, 0, NULL, 0, NULL, 0, 0, 0, NULL, 0, b);
+    CHECK(b[0] == INTROSPECTION_NOT_WRITABLE && b[1] == 0 && b[2] == 0);
+    introspection_write_tree(NULL, 0, NULL, 0, NULL, 0, 1, 0, NULL, 0, b);
+    CHECK(b[0] == INTROSPECTION_UNSOUND_ROWS && b[1] == 0 && b[2] == 0);
 }
 
 /* ---- escaping */
@@ -692,21 +696,23 @@ static void parts(void)
 
 /* ---- writing */
 
-static void write_row(const struct reading *r, uint64_t claimed, uint64_t row, size_t room, uint64_t number,
+typedef void writes(const uint8_t *, size_t, const uint8_t *, size_t, const uint32_t *, size_t, uint64_t, uint64_t, uint8_t *,
+                    size_t, uint64_t *);
+
+static void write_row(writes *f, const struct reading *r, uint64_t claimed, uint64_t row, size_t room, uint64_t number,
                       uint64_t place, const char *expected, int line)
 {
     size_t m = strlen(expected);
     uint8_t *out = lend(room);
     uint64_t a[3] = {9, 9, 9};
-    introspection_write(r->document, r->document_length, r->text, r->text_length, r->rows, r->rows_length, claimed, row,
-                        out, room, a);
+    f(r->document, r->document_length, r->text, r->text_length, r->rows, r->rows_length, claimed, row, out, room, a);
     check(a[0] == number && a[1] == place && a[2] == m, "number, place and bytes written", line);
     check(m <= room && same(out, m, expected) && all_zero(out, m, room), "output", line);
     free(out);
 }
 
 #define WRITES(claimed, row, room, number, place, expected) \
-    write_row(&r, (claimed), (row), (room), (number), (place), (expected), __LINE__)
+    write_row(introspection_write, &r, (claimed), (row), (room), (number), (place), (expected), __LINE__)
 
 #define WRITTEN_METHOD \
     "<method name=\"SetAngle\"><arg name=\"degrees\" type=\"d\" direction=\"in\"/>" \
@@ -740,18 +746,145 @@ static void writing(void)
     end_reading(&r);
 }
 
-static void writing_too_long(void)
+static void writing_too_long(writes *f)
 {
     char *spaces = repeated(" ", INTROSPECTION_MAX_BYTES + 1);
     uint64_t a[3] = {9, 9, 9};
     uint8_t out[3] = {7, 7, 7};
-    introspection_write((uint8_t *)spaces, INTROSPECTION_MAX_BYTES + 1, NULL, 0, NULL, 0, 0, 0, out, 3, a);
+    f((uint8_t *)spaces, INTROSPECTION_MAX_BYTES + 1, NULL, 0, NULL, 0, 0, 0, out, 3, a);
     CHECK(a[0] == INTROSPECTION_TOO_LONG && a[1] == INTROSPECTION_MAX_BYTES && a[2] == 0 && all_zero(out, 0, 3));
     a[0] = 9;
     out[0] = 7;
-    introspection_write(NULL, 0, (uint8_t *)spaces, INTROSPECTION_MAX_BYTES + 1, NULL, 0, 0, 0, out, 3, a);
+    f(NULL, 0, (uint8_t *)spaces, INTROSPECTION_MAX_BYTES + 1, NULL, 0, 0, 0, out, 3, a);
     CHECK(a[0] == INTROSPECTION_TOO_LONG && a[1] == INTROSPECTION_MAX_BYTES && a[2] == 0 && all_zero(out, 0, 3));
     free(spaces);
+}
+
+/* ---- trees */
+
+#define SIMPLE(name) "<tp:simple-type name=\"" name "\" type=\"u\"/>"
+#define STRUCT(name, tp) "<tp:struct name=\"" name "\"><tp:member name=\"m\" type=\"u\" tp:type=\"" tp "\"/></tp:struct>"
+
+#define WRITES_TREE(claimed, row, room, number, place, expected) \
+    write_row(introspection_write_tree, &r, (claimed), (row), (room), (number), (place), (expected), __LINE__)
+
+#define TREE_OF_METHOD \
+    "<method name=\"SetAngle\"><tp:docstring>Turns the hinge.</tp:docstring>" \
+    "<arg name=\"degrees\" type=\"d\" tp:type=\"Angle\" direction=\"in\"/>" \
+    "<arg type=\"a{sv}\" direction=\"out\"><annotation name=\"org.example.Note\" value=\"\"/></arg>" \
+    "<annotation name=\"org.example.Label\" value=\"turn &lt;now&gt;\"/></method>"
+#define TREE_OF_STRUCT "<tp:struct name=\"Range\"><tp:member name=\"Low\" type=\"d\"/></tp:struct>"
+#define TREE_OF_INTERFACE \
+    "<interface name=\"org.example.Hinge\">" TREE_OF_METHOD "<property name=\"State\" type=\"u\" access=\"read\"/>" \
+    "<signal name=\"Moved\"><arg type=\"(dd)\"/></signal></interface>"
+#define TREE_OF_HINGE "<node name=\"/hinge\">" TREE_OF_STRUCT TREE_OF_INTERFACE "</node>"
+
+static void writing_trees(void)
+{
+    struct reading r = read_all(hinge);
+    const size_t whole = strlen(TREE_OF_HINGE);
+    uint32_t *docstring = r.rows + INTROSPECTION_WORD_DOCSTRING;
+    WRITES_TREE(12, 0, whole, 0, 0, TREE_OF_HINGE);
+    WRITES_TREE(12, 0, whole + 9, 0, 0, TREE_OF_HINGE);
+    WRITES_TREE(12, 0, whole - 1, INTROSPECTION_OUTPUT_SHORT, whole, "");
+    WRITES_TREE(12, 0, 0, INTROSPECTION_OUTPUT_SHORT, whole, "");
+    WRITES_TREE(12, 1, 99, 0, 0, TREE_OF_STRUCT);
+    WRITES_TREE(12, 2, 99, INTROSPECTION_NOT_WRITABLE, 2, "");
+    WRITES_TREE(12, 3, whole, 0, 0, TREE_OF_INTERFACE);
+    WRITES_TREE(12, 4, whole, 0, 0, TREE_OF_METHOD);
+    WRITES_TREE(12, 5, 99, 0, 0, "<arg name=\"degrees\" type=\"d\" tp:type=\"Angle\" direction=\"in\"/>");
+    WRITES_TREE(12, 6, 99, 0, 0, "<annotation name=\"org.example.Label\" value=\"turn &lt;now&gt;\"/>");
+    WRITES_TREE(12, 9, 99, 0, 0, "<property name=\"State\" type=\"u\" access=\"read\"/>");
+    WRITES_TREE(12, 12, 99, INTROSPECTION_NOT_WRITABLE, 12, "");
+    WRITES_TREE(12, UINT64_MAX, 99, INTROSPECTION_NOT_WRITABLE, UINT64_MAX, "");
+    WRITES_TREE(13, 0, 99, INTROSPECTION_UNSOUND_ROWS, 12, "");
+    WRITES_TREE(UINT64_MAX, 0, 99, INTROSPECTION_UNSOUND_ROWS, INTROSPECTION_MAX_ROWS, "");
+    /* a docstring that the caller puts in is written as it is: this one is empty, and then the whole struct */
+    docstring[0] = INTROSPECTION_SOURCE_DOCUMENT;
+    WRITES_TREE(1, 0, 99, 0, 0, "<node name=\"/hinge\"/>");
+    docstring[1] = (uint32_t)place_of(hinge, "<tp:struct ");
+    docstring[2] = (uint32_t)strlen(TREE_OF_STRUCT);
+    WRITES_TREE(1, 0, 200, 0, 0, "<node name=\"/hinge\"><tp:docstring>" TREE_OF_STRUCT "</tp:docstring></node>");
+    end_reading(&r);
+    /* annotations after members, types before, nodes last */
+    r = read_all("<a>" "<node/>" "<interface name=\"a.b\"><annotation name=\"n\" value=\"\"/><signal name=\"S\"/><method name=\"M\"/>"
+                 SIMPLE("T") "</interface>" STRUCT("A", "T") "</a>");
+    CHECK(answers(&r, INTROSPECTION_ACCEPTED, 0) && r.answer[INTROSPECTION_ANSWER_ROWS] == 9);
+    WRITES_TREE(9, 0, 400, 0, 0, "<node>" STRUCT("A", "T") "<interface name=\"a.b\">" SIMPLE("T")
+                "<signal name=\"S\"/><method name=\"M\"/><annotation name=\"n\" value=\"\"/></interface><node/></node>");
+    end_reading(&r);
+}
+
+/* What is written of row 0 is read back, and written again as the same bytes. */
+static void reads_back(const char *document, int line)
+{
+    struct reading r = read_all(document), s;
+    uint64_t a[3];
+    uint8_t *out, *again;
+    size_t n;
+    introspection_write_tree(r.document, r.document_length, r.text, r.text_length, r.rows, r.rows_length, r.answer[2], 0, NULL, 0, a);
+    check(a[0] == INTROSPECTION_OUTPUT_SHORT, "bytes needed", line);
+    n = (size_t)a[1];
+    out = lend(n);
+    introspection_write_tree(r.document, r.document_length, r.text, r.text_length, r.rows, r.rows_length, r.answer[2], 0, out, n, a);
+    check(a[0] == 0 && a[2] == n, "written", line);
+    s = read_with((const char *)out, n, n / 4 * INTROSPECTION_ROW_WORDS, n / 4 * INTROSPECTION_WARNING_WORDS, n);
+    check(answers(&s, INTROSPECTION_ACCEPTED, 0) && s.answer[2] == r.answer[2] && s.answer[4] == 0, "read back", line);
+    again = lend(n);
+    introspection_write_tree(s.document, s.document_length, s.text, s.text_length, s.rows, s.rows_length, s.answer[2], 0, again, n, a);
+    check(a[0] == 0 && a[2] == n && memcmp(out, again, n) == 0, "the same bytes again", line);
+    free(out);
+    free(again);
+    end_reading(&r);
+    end_reading(&s);
+}
+
+static void trees_read_back(void)
+{
+    reads_back(hinge, __LINE__);
+    reads_back("<x/>", __LINE__);
+    reads_back("<node name='&#9;&amp;\"'><tp:docstring>a<!-- </tp:docstring> --><b/></tp:docstring></node>", __LINE__);
+}
+
+/* So many nodes one in the other, and one more row in the innermost. */
+static uint32_t *chain_of(size_t nodes, uint32_t kind)
+{
+    uint32_t *rows = calloc((nodes + 1) * INTROSPECTION_ROW_WORDS, 4);
+    size_t i;
+    if (rows == NULL)
+        exit(2);
+    for (i = 0; i <= nodes; i++) {
+        uint32_t *row = rows + i * INTROSPECTION_ROW_WORDS;
+        row[INTROSPECTION_WORD_KIND] = i < nodes ? INTROSPECTION_KIND_NODE : kind;
+        row[INTROSPECTION_WORD_PARENT] = (uint32_t)i;
+    }
+    rows[nodes * INTROSPECTION_ROW_WORDS + INTROSPECTION_WORD_NAME] = INTROSPECTION_SOURCE_DOCUMENT;
+    rows[nodes * INTROSPECTION_ROW_WORDS + INTROSPECTION_WORD_NAME + 2] = 3;
+    return rows;
+}
+
+/* The tree of a row of a chain, in which the innermost nodes are row nodes - 1 and, of kind 1, row nodes. */
+static void deep_tree(size_t nodes, uint32_t kind, uint64_t row, uint64_t number, uint64_t place, int line)
+{
+    uint32_t *rows = chain_of(nodes, kind);
+    uint64_t a[3];
+    introspection_write_tree((const uint8_t *)"a.b", 3, NULL, 0, rows, (nodes + 1) * INTROSPECTION_ROW_WORDS, nodes + 1, row, NULL, 0, a);
+    check(a[0] == number && a[1] == place, "number and place of a deep tree", line);
+    free(rows);
+}
+
+static void deep_trees(void)
+{
+    const size_t open = strlen("<node></node>"), last = strlen("<node name=\"a.b\"/>"), interface = strlen("<interface name=\"a.b\"/>");
+    /* 1,024 are open, and a node in them is closed at once; an interface is no node */
+    deep_tree(1024, INTROSPECTION_KIND_NODE, 0, INTROSPECTION_OUTPUT_SHORT, 1024 * open + last, __LINE__);
+    deep_tree(1024, INTROSPECTION_KIND_INTERFACE, 0, INTROSPECTION_OUTPUT_SHORT, 1024 * open + interface, __LINE__);
+    /* 1,025 would be, the last in row 1,024; from row 1 on they are 1,024; from row 1,025 on there is one */
+    deep_tree(1025, INTROSPECTION_KIND_NODE, 0, INTROSPECTION_TOO_DEEP, 1024, __LINE__);
+    deep_tree(1025, INTROSPECTION_KIND_INTERFACE, 0, INTROSPECTION_TOO_DEEP, 1024, __LINE__);
+    deep_tree(1025, INTROSPECTION_KIND_NODE, 1, INTROSPECTION_OUTPUT_SHORT, 1024 * open + last, __LINE__);
+    deep_tree(1026, INTROSPECTION_KIND_NODE, 1, INTROSPECTION_TOO_DEEP, 1025, __LINE__);
+    deep_tree(1025, INTROSPECTION_KIND_NODE, 1025, INTROSPECTION_OUTPUT_SHORT, last, __LINE__);
 }
 
 /* ---- several items */
@@ -950,9 +1083,6 @@ static void not_ordered(const struct reading *r, uint64_t claimed, size_t work, 
     free(o.order);
 }
 
-#define SIMPLE(name) "<tp:simple-type name=\"" name "\" type=\"u\"/>"
-#define STRUCT(name, tp) "<tp:struct name=\"" name "\"><tp:member name=\"m\" type=\"u\" tp:type=\"" tp "\"/></tp:struct>"
-
 static void ordered(void)
 {
     /* rows 1, 3 and 4 are the definitions; a member bears a name of no row */
@@ -1024,7 +1154,11 @@ int main(void)
     messages();
     parts();
     writing();
-    writing_too_long();
+    writing_too_long(introspection_write);
+    writing_too_long(introspection_write_tree);
+    writing_trees();
+    trees_read_back();
+    deep_trees();
     writing_several();
     writing_several_in_any_order();
     columns_and_back();

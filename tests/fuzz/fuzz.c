@@ -346,6 +346,45 @@ static void check_columns(const struct tables *t)
     let_go(&back);
 }
 
+/* ---- trees */
+
+/* The whole tree, first with no room at all, then with just enough. */
+static struct guarded written_tree(const struct tables *t)
+{
+    struct guarded output = guarded(0);
+    uint64_t *a = small_answer(3), rows = t->a[INTROSPECTION_ANSWER_ROWS];
+    int round;
+    for (round = 0; round < 2; round++) {
+        introspection_write_tree(t->document.buffer, t->document.used, t->text.buffer,
+                                 (size_t)t->a[INTROSPECTION_ANSWER_TEXT_BYTES], (uint32_t *)t->rows.buffer,
+                                 (size_t)rows * 16, rows, 0, output.buffer, output.used, a);
+        REQUIRE(a[0] == (round == 0 ? (uint64_t)INTROSPECTION_OUTPUT_SHORT : 0));
+        if (round == 0) {
+            let_go(&output);
+            output = guarded((size_t)a[1]);
+        }
+    }
+    REQUIRE(a[2] == output.used);
+    return output;
+}
+
+/* The tree of what was read is read back, without a warning, and is written as the same bytes again. */
+static void check_tree(const struct tables *t)
+{
+    struct guarded tree = written_tree(t);
+    if (tree.used <= INTROSPECTION_MAX_BYTES) {
+        struct tables back = read_whole(tree.buffer, tree.used);
+        struct guarded again;
+        REQUIRE(back.a[0] == INTROSPECTION_ACCEPTED && back.a[INTROSPECTION_ANSWER_WARNINGS] == 0);
+        REQUIRE(back.a[INTROSPECTION_ANSWER_ROWS] == t->a[INTROSPECTION_ANSWER_ROWS]);
+        again = written_tree(&back);
+        REQUIRE(again.used == tree.used && memcmp(again.buffer, tree.buffer, tree.used) == 0);
+        let_go(&again);
+        let_tables_go(&back);
+    }
+    let_go(&tree);
+}
+
 /* ---- the parts of a run */
 
 static void try_document(const uint8_t *data, size_t size)
@@ -364,6 +403,7 @@ static void try_document(const uint8_t *data, size_t size)
         put_rows(&view, &t);
         put_warnings(&view, &t);
         check_columns(&t);
+        check_tree(&t);
     }
     compare(&view, other, other_length);
     let_tables_go(&t);
@@ -440,6 +480,11 @@ static void try_words(const uint8_t *data, size_t size)
     REQUIRE(a[0] != 19 || a[1] < claimed);
     REQUIRE(all_zero(output.buffer, a[2], output.used));
     see(6, a[0]);
+    introspection_write_tree(document.buffer, size, document.buffer, size, (uint32_t *)rows.buffer, rows.used / 4, claimed,
+                             row, output.buffer, output.used, a);
+    REQUIRE(a[0] == 0 || a[0] == 7 || (a[0] >= 19 && a[0] <= 21));
+    REQUIRE(a[0] != 19 || a[1] < claimed);
+    REQUIRE(all_zero(output.buffer, a[2], output.used));
     memcpy(refusal, data, size < sizeof refusal ? size : sizeof refusal);
     introspection_message(document.buffer, size, refusal, output.buffer, output.used, a);
     REQUIRE(a[0] == 0 || a[0] == 19 || a[0] == 21);

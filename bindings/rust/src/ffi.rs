@@ -87,6 +87,20 @@ extern "C" {
         answer: *mut u64,
     );
 
+    fn introspection_write_tree(
+        document: *const u8,
+        document_len: usize,
+        text: *const u8,
+        text_len: usize,
+        rows: *const u32,
+        rows_len: usize,
+        claimed: u64,
+        row: u64,
+        output: *mut u8,
+        output_len: usize,
+        answer: *mut u64,
+    );
+
     fn introspection_columns(
         rows: *const u32,
         rows_len: usize,
@@ -301,12 +315,49 @@ pub(crate) fn write(
     row: usize,
     output: &mut [u8],
 ) -> Result<usize, Error> {
+    put(introspection_write, document, text, rows, row, output)
+}
+
+/// The same with all under it.
+pub(crate) fn write_tree(
+    document: &[u8],
+    text: &[u8],
+    rows: &[[u32; 16]],
+    row: usize,
+    output: &mut [u8],
+) -> Result<usize, Error> {
+    put(introspection_write_tree, document, text, rows, row, output)
+}
+
+/// `introspection_write` or `introspection_write_tree`.
+type Put = unsafe extern "C" fn(
+    *const u8,
+    usize,
+    *const u8,
+    usize,
+    *const u32,
+    usize,
+    u64,
+    u64,
+    *mut u8,
+    usize,
+    *mut u64,
+);
+
+fn put(
+    put: Put,
+    document: &[u8],
+    text: &[u8],
+    rows: &[[u32; 16]],
+    row: usize,
+    output: &mut [u8],
+) -> Result<usize, Error> {
     let words = rows.as_flattened();
     let mut answer = [0; 3];
-    // SAFETY: the four slices are as the head of this file says, three of them only read; the two
-    // numbers may be any; `answer` has the 3 words that this function writes.
+    // SAFETY: `put` is one of the two functions; the four slices are as the head of this file says,
+    // three of them only read; the two numbers may be any; `answer` has the 3 words that both write.
     unsafe {
-        introspection_write(
+        put(
             document.as_ptr(),
             document.len(),
             text.as_ptr(),

@@ -44,6 +44,9 @@
 //! it can be kept. [`Error::line_column`], [`Warning::line_column`] and [`Lines`] tell a place by its
 //! line and column.
 //!
+//! [`Document::to_xml`] writes a cleaned document: all that was read, docstrings included. Nodes,
+//! interfaces, properties and type definitions are written so too.
+//!
 //! [`columns`](columns()) puts the rows of a table down as columns of differences, and [`rows`](rows()) puts
 //! them back.
 //!

@@ -53,7 +53,7 @@ impl<'d> TypeDef<'d> {
         }
     }
 
-    fn inner(&self) -> Row<'d> {
+    pub(crate) fn inner(&self) -> Row<'d> {
         match self {
             TypeDef::SimpleType(definition) => definition.0,
             TypeDef::Enum(definition) => definition.0,

@@ -119,6 +119,47 @@ fn an_item_alone_is_written_as_in_its_document() {
 }
 
 #[test]
+fn a_tree_alone_is_written_as_in_its_document() {
+    for input in [ANTENNA, HINGE] {
+        let document = Document::parse(input).unwrap();
+        let (input, text) = (document.input.as_bytes(), document.text.as_bytes());
+        let mut output = vec![0; 10_000];
+        for row in rows(&document) {
+            let answer = ffi::write_tree(input, text, &document.rows, row.index, &mut output);
+            match row.kind() {
+                kind::ENUMVALUE | kind::MEMBER => {
+                    let error = answer.unwrap_err();
+                    assert_eq!(error.kind(), ErrorKind::NotWritable);
+                    assert_eq!(error.position(), row.index);
+                }
+                _ => {
+                    let xml = &output[..answer.unwrap()];
+                    assert_eq!(text::tree_to_xml(row).as_bytes(), xml);
+                }
+            }
+        }
+    }
+}
+
+#[test]
+fn a_tree_is_not_deeper_than_it_may_be() {
+    let document = Document::parse(b"<node/>").unwrap();
+    let mut rows = vec![document.rows[0]; 1026];
+    for (index, row) in rows.iter_mut().enumerate() {
+        row[word::PARENT] = index as u32;
+    }
+    let input = document.input.as_bytes();
+    let mut output = vec![1; 20_000];
+    let error = ffi::write_tree(input, b"", &rows, 0, &mut output).unwrap_err();
+    assert_eq!(error.kind(), ErrorKind::TooDeep);
+    assert_eq!(error.position(), 1024);
+    assert!(output.iter().all(|&byte| byte == 0));
+    // 1,024 are open, and the last is closed at once
+    assert!(ffi::write_tree(input, b"", &rows[..1025], 0, &mut output).is_ok());
+    assert!(ffi::write_tree(input, b"", &rows, 1, &mut output).is_ok());
+}
+
+#[test]
 fn rows_that_are_not_sound_are_not_followed() {
     let document = Document::parse(HINGE).unwrap();
     let (input, text) = (document.input.as_bytes(), document.text.as_bytes());

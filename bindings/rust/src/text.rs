@@ -4,16 +4,18 @@ use std::io;
 
 use crate::answer::{Error, ErrorKind};
 use crate::ffi;
-use crate::item::{Annotation, Arg, Method, Signal};
+use crate::item::{Annotation, Arg, Interface, Method, Node, Property, Signal};
 use crate::row::{kind, word, Row};
-use crate::LIMIT;
+use crate::telepathy::{Enum, Mapping, SimpleType, Struct, TypeDef};
+use crate::{Document, LIMIT};
 
 /// The item and what stands in it, as a table of its own, and the row of the item.
 ///
 /// The writer looks at every row that is lent, so lending all rows of the document for each item
 /// would cost the square of their number. Before the item stand the rows that it is in, from the
-/// node down, so that the table is sound. Docstrings are not written, and not lent.
-fn table(item: Row<'_>) -> (Vec<[u32; 16]>, usize) {
+/// node down, so that the table is sound; a node stands by itself. Docstrings are not lent unless
+/// they are to be written.
+fn table(item: Row<'_>, docstrings: bool) -> (Vec<[u32; 16]>, usize) {
     let rows = &item.document.rows;
     let mut around = Vec::new();
     let mut at = item.index;
@@ -35,7 +37,9 @@ fn table(item: Row<'_>) -> (Vec<[u32; 16]>, usize) {
         } else {
             row[word::PARENT] = row[word::PARENT] - item.index as u32 + first as u32;
         }
-        row[word::DOCSTRING..word::DOCSTRING + 3].fill(0);
+        if !docstrings {
+            row[word::DOCSTRING..word::DOCSTRING + 3].fill(0);
+        }
     }
     (table, first)
 }
@@ -50,11 +54,37 @@ fn plain_len(rows: &[[u32; 16]]) -> usize {
 }
 
 pub(crate) fn to_xml(item: Row<'_>) -> String {
-    let (rows, row) = table(item);
+    let (rows, row) = table(item, false);
     let document = item.document.input.as_bytes();
     let text = item.document.text.as_bytes();
     filled(plain_len(&rows[row..]), |output| {
         ffi::write(document, text, &rows, row, output)
+    })
+    .expect("what the reader leaves can be written")
+}
+
+/// The same with docstrings and tp types: at most 67 bytes for the tags (those of a property) and 29
+/// for those of a docstring.
+fn tree_len(rows: &[[u32; 16]]) -> usize {
+    let lens = rows.iter().map(|row| {
+        let shown = word::TRIPLES.iter().map(|start| row[start + 2] as usize);
+        let tags = if row[word::DOCSTRING + 2] == 0 {
+            67
+        } else {
+            67 + 29
+        };
+        tags + shown.sum::<usize>()
+    });
+    lens.sum()
+}
+
+/// An item with all under it.
+pub(crate) fn tree_to_xml(item: Row<'_>) -> String {
+    let (rows, row) = table(item, true);
+    let document = item.document.input.as_bytes();
+    let text = item.document.text.as_bytes();
+    filled(tree_len(&rows[row..]), |output| {
+        ffi::write_tree(document, text, &rows, row, output)
     })
     .expect("what the reader leaves can be written")
 }
@@ -133,3 +163,97 @@ written!(Method);
 written!(Signal);
 written!(Annotation);
 written!(Arg);
+
+macro_rules! written_whole {
+    ($name:ident) => {
+        impl $name<'_> {
+            /// All of it as XML: with what stands in it, docstrings and `tp:type` included, in groups
+            /// (docs/FORMAT.md, Trees). No white space is put in, nor `xmlns:tp`.
+            ///
+            /// The cost is in proportion to what is written, however large the document is, where no
+            /// node stands before another child of its node; else it may be the levels of nodes times
+            /// that.
+            pub fn to_xml(&self) -> String {
+                tree_to_xml(self.0)
+            }
+
+            /// Writes [`to_xml`](Self::to_xml) to a writer.
+            pub fn to_writer<W: io::Write>(&self, mut writer: W) -> io::Result<()> {
+                writer.write_all(self.to_xml().as_bytes())
+            }
+        }
+    };
+}
+
+written_whole!(Node);
+written_whole!(Interface);
+written_whole!(Property);
+written_whole!(SimpleType);
+written_whole!(Enum);
+written_whole!(Struct);
+written_whole!(Mapping);
+
+impl TypeDef<'_> {
+    /// All of it as XML, as [`Node::to_xml`] writes it.
+    ///
+    /// ```
+    /// use introspection::Document;
+    ///
+    /// let document = Document::parse(
+    ///     b"<node>\n  <tp:struct name='S'>\n    <tp:member type='u' name='m'/>\n  </tp:struct>\n</node>",
+    /// )?;
+    /// let definition = document.root().telepathy_types().next().unwrap();
+    /// assert_eq!(
+    ///     definition.to_xml(),
+    ///     r#"<tp:struct name="S"><tp:member name="m" type="u"/></tp:struct>"#
+    /// );
+    /// # Ok::<(), introspection::Error>(())
+    /// ```
+    pub fn to_xml(&self) -> String {
+        tree_to_xml(self.inner())
+    }
+
+    /// Writes [`to_xml`](Self::to_xml) to a writer.
+    pub fn to_writer<W: io::Write>(&self, mut writer: W) -> io::Result<()> {
+        writer.write_all(self.to_xml().as_bytes())
+    }
+}
+
+impl Document<'_> {
+    /// The cleaned document: the root with all under it as XML, as [`Node::to_xml`] writes it. What was
+    /// left out is not in it, nor comments and white space between elements.
+    ///
+    /// What is written is read back without a warning, if it is within the [`LIMIT`], and has the same
+    /// content, the children of each item compared kind by kind. It is not always equal by `==`,
+    /// which compares the order of all children.
+    ///
+    /// ```
+    /// use introspection::Document;
+    ///
+    /// let document = Document::parse(
+    ///     br#"<x>
+    ///       <!-- a node first -->
+    ///       <node name="child"/><unheard-of/>
+    ///       <interface name="a.b"><tp:docstring> Says <b>much</b>. </tp:docstring></interface>
+    ///     </x>"#,
+    /// )?;
+    /// let xml = document.to_xml();
+    /// assert_eq!(
+    ///     xml,
+    ///     concat!(
+    ///         r#"<node><interface name="a.b"><tp:docstring>Says <b>much</b>.</tp:docstring></interface>"#,
+    ///         r#"<node name="child"/></node>"#
+    ///     )
+    /// );
+    /// assert_eq!(Document::parse(xml.as_bytes())?.to_xml(), xml);
+    /// # Ok::<(), introspection::Error>(())
+    /// ```
+    pub fn to_xml(&self) -> String {
+        self.root().to_xml()
+    }
+
+    /// Writes [`to_xml`](Self::to_xml) to a writer.
+    pub fn to_writer<W: io::Write>(&self, writer: W) -> io::Result<()> {
+        self.root().to_writer(writer)
+    }
+}

@@ -46,6 +46,27 @@ fn many_interfaces() {
 }
 
 #[test]
+fn deep_and_wide_documents_are_written() {
+    let interface = "<interface name=\"a.b\"><method name=\"M\"/></interface>";
+    let input = format!("<node>{interface}").repeat(1024) + &"</node>".repeat(1024);
+    let document = Document::try_from(input.as_str()).unwrap();
+    assert_eq!(document.to_xml(), input);
+    // one more, that is closed at once
+    let input = format!("<node>{interface}").repeat(1024) + "<node/>" + &"</node>".repeat(1024);
+    let document = Document::try_from(input.as_str()).unwrap();
+    assert_eq!(document.to_xml(), input);
+
+    let many = (LIMIT - 13) / interface.len();
+    let input = format!("<node>{}</node>", interface.repeat(many));
+    let document = Document::try_from(input.as_str()).unwrap();
+    assert_eq!(document.to_xml(), input);
+    // each written by itself: no more than in proportion to the whole
+    for written in document.root().interfaces().map(|i| i.to_xml()) {
+        assert_eq!(written, interface);
+    }
+}
+
+#[test]
 fn as_many_rows_as_room_allows() {
     // a root and elements of four bytes
     let many = (LIMIT - 7) / 4;

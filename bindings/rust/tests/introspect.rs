@@ -78,12 +78,17 @@ fn the_page_says_what_it_writes() {
             let arguments: Vec<_> = command.split(' ').collect();
             assert_eq!(arguments[0], "introspect");
             let (stdout, stderr, status) = run(&arguments[1..]);
-            assert_eq!(stderr + &stdout, wanted, "{command}");
+            let mut all = stderr + &stdout;
+            // a cleaned document ends without a line end
+            if !all.ends_with('\n') {
+                all.push('\n');
+            }
+            assert_eq!(all, wanted, "{command}");
             last = Some(status);
             commands += 1;
         }
     }
-    assert_eq!(commands, 7);
+    assert_eq!(commands, 8);
 }
 
 #[test]
@@ -381,6 +386,33 @@ fn odd_names_of_files() {
 }
 
 #[test]
+fn what_is_cleaned_is_clean() {
+    for name in ["antenna", "hinge", "loose", "part"] {
+        let (cleaned, _, status) = run(&["clean", &format!("examples/{name}.xml")]);
+        assert!(cleaned.starts_with("<node") && cleaned.ends_with('>'));
+        assert_eq!(status, 0);
+        // it is read without a warning, and cleaned once more it is the same
+        let (stdout, _, status) = fed(&["check"], cleaned.as_bytes());
+        assert_eq!(stdout, "1 file read, 0 refused, 0 warnings\n");
+        assert_eq!(status, 0);
+        assert_eq!(
+            fed(&["clean"], cleaned.as_bytes()),
+            (cleaned, String::new(), 0)
+        );
+    }
+}
+
+#[test]
+fn what_is_refused_is_not_cleaned() {
+    let (stdout, stderr, status) = run(&["clean", "examples/damaged.xml"]);
+    assert!(stderr.starts_with("examples/damaged.xml:8:63: error: unknown entity `&when;`\n"));
+    assert_eq!((stdout.as_str(), status), ("", 1));
+    let (stdout, stderr, status) = run(&["clean", "examples/hinge.xml", "examples/part.xml"]);
+    assert!(stderr.starts_with("introspect: clean takes one file"));
+    assert_eq!((stdout.as_str(), status), ("", 2));
+}
+
+#[test]
 fn no_colours_in_a_pipe() {
     let (stdout, stderr, _) = run(&["show", "examples/hinge.xml", "examples/damaged.xml"]);
     assert!(!stdout.contains('\u{1b}') && !stderr.contains('\u{1b}'));
@@ -425,7 +457,7 @@ fn a_file_in_utf16_is_as_its_text() {
         let text = fs::read_to_string(format!("{ROOT}/examples/{name}.xml")).unwrap();
         for order in ORDERS {
             let encoded = utf16(text.encode_utf16(), order);
-            for verb in ["show", "check", "list"] {
+            for verb in ["show", "check", "list", "clean"] {
                 assert_eq!(fed(&[verb], &encoded), fed(&[verb], text.as_bytes()));
             }
         }

@@ -3,6 +3,7 @@
 mod common;
 
 use common::{around, Seen, ANTENNA, HINGE};
+use introspection::telepathy::TypeDef;
 use introspection::{Annotation, Arg, Child, Document};
 
 #[test]
@@ -184,5 +185,128 @@ fn an_item_that_grows_by_escaping() {
     assert_eq!(
         annotation.to_xml(),
         format!("<annotation name=\"n\" value=\"{value}\"/>")
+    );
+}
+
+#[test]
+fn the_hinge_is_written_whole() {
+    let document = Document::parse(HINGE).unwrap();
+    let side = concat!(
+        r#"<tp:enum name="Side" type="y"><tp:enumvalue suffix="Port" value="0"/>"#,
+        r#"<tp:enumvalue suffix="Starboard" value="1"/></tp:enum>"#
+    );
+    let state = r#"<property name="State" type="u" tp:type="State" access="read"/>"#;
+    let interface = [
+        r#"<interface name="org.example.Hinge">"#,
+        side,
+        r#"<method name="Unfold"><arg name="side" type="y" tp:type="Side" direction="in"/></method>"#,
+        r#"<signal name="StateChanged"><arg name="state" type="u" tp:type="State"/></signal>"#,
+        state,
+        "</interface>",
+    ]
+    .concat();
+    let hinge = document.root().interfaces().next().unwrap();
+    assert_eq!(document.to_xml(), format!("<node>{interface}</node>"));
+    assert_eq!(document.root().to_xml(), document.to_xml());
+    assert_eq!(hinge.to_xml(), interface);
+    assert_eq!(hinge.properties().next().unwrap().to_xml(), state);
+    let definition = hinge.telepathy_types().next().unwrap();
+    assert_eq!(definition.to_xml(), side);
+    let TypeDef::Enum(inner) = definition else {
+        panic!("it is an enum")
+    };
+    assert_eq!(inner.to_xml(), side);
+    // the four old writers keep their bytes
+    let method = hinge.methods().next().unwrap();
+    assert_eq!(
+        method.to_xml(),
+        r#"<method name="Unfold"><arg name="side" type="y" direction="in"/></method>"#
+    );
+}
+
+#[test]
+fn whole_trees_to_a_writer() {
+    let document = Document::parse(ANTENNA).unwrap();
+    let mut all = Vec::new();
+    document.to_writer(&mut all).unwrap();
+    assert_eq!(all, document.to_xml().into_bytes());
+    for node in document.nodes() {
+        let mut bytes = Vec::new();
+        node.to_writer(&mut bytes).unwrap();
+        let xml = String::from_utf8(bytes).unwrap();
+        assert_eq!(xml, node.to_xml());
+        assert_eq!(Document::try_from(xml.as_str()).unwrap().to_xml(), xml);
+        for definition in node.telepathy_types() {
+            let mut bytes = Vec::new();
+            definition.to_writer(&mut bytes).unwrap();
+            let xml = String::from_utf8(bytes).unwrap();
+            assert!(node.to_xml().contains(&xml), "{xml}");
+            let inner = match definition {
+                TypeDef::SimpleType(inner) => inner.to_xml(),
+                TypeDef::Enum(inner) => inner.to_xml(),
+                TypeDef::Struct(inner) => inner.to_xml(),
+                TypeDef::Mapping(inner) => inner.to_xml(),
+            };
+            assert_eq!(inner, xml);
+        }
+        for interface in node.interfaces() {
+            let mut bytes = Vec::new();
+            interface.to_writer(&mut bytes).unwrap();
+            assert!(node.to_xml().as_bytes().ends_with(b"</node>"));
+            assert_eq!(String::from_utf8(bytes).unwrap(), interface.to_xml());
+            for property in interface.properties() {
+                let mut bytes = Vec::new();
+                property.to_writer(&mut bytes).unwrap();
+                assert_eq!(String::from_utf8(bytes).unwrap(), property.to_xml());
+                assert!(interface.to_xml().contains(&property.to_xml()));
+            }
+        }
+    }
+}
+
+#[test]
+fn whole_trees_read_back() {
+    let special = around(
+        "<tp:docstring>&amp; <!-- </tp:docstring> --> <tp:docstring>in</tp:docstring>\u{a0}</tp:docstring>\
+         <annotation name='&#9;' value='\"'/><signal name='S'/><method name='M'/>",
+    );
+    for input in [ANTENNA, HINGE, special.as_bytes(), b"<x/>"] {
+        let document = Document::parse(input).unwrap();
+        let xml = document.to_xml();
+        let again = Document::try_from(xml.as_str()).unwrap();
+        assert_eq!(again.warnings().len(), 0);
+        assert_eq!(again.to_xml(), xml);
+        let (one, two) = (Seen::of(&document), Seen::of(&again));
+        let sorted = |mut texts: Vec<String>| {
+            texts.sort_unstable();
+            texts
+        };
+        assert_eq!(sorted(one.written), sorted(two.written));
+        let left_out = document.warnings().map(|warning| warning.element());
+        let texts = |texts: Vec<&str>| sorted(texts.into_iter().map(str::to_string).collect());
+        assert_eq!(
+            texts(one.texts),
+            texts(two.texts.into_iter().chain(left_out).collect())
+        );
+    }
+}
+
+#[test]
+fn groups_are_put_in_order() {
+    let input = concat!(
+        "<node><node/><interface name='a.b'>",
+        "<annotation name='n' value=''/><signal name='S'><annotation name='n' value=''/><arg type='s'/></signal>",
+        "<method name='M'/><tp:simple-type name='T' type='u'/></interface>",
+        "<tp:mapping name='X'><tp:member type='s' name='k'/><tp:member tp:type='T' type='u' name='v'/></tp:mapping></node>"
+    );
+    let document = Document::try_from(input).unwrap();
+    assert_eq!(
+        document.to_xml(),
+        concat!(
+            r#"<node><tp:mapping name="X"><tp:member name="k" type="s"/><tp:member name="v" type="u" tp:type="T"/></tp:mapping>"#,
+            r#"<interface name="a.b"><tp:simple-type name="T" type="u"/>"#,
+            r#"<signal name="S"><arg type="s"/><annotation name="n" value=""/></signal><method name="M"/>"#,
+            r#"<annotation name="n" value=""/></interface><node/></node>"#
+        )
     );
 }

@@ -27,6 +27,7 @@ use Rattle.files.specs.declared.Reading.{Reading}
 use Rattle.strict.specs.Strict as strict
 use Rattle.items.specs.Several.{severalWriting, severalEnds, WritesSeveral}
 use Rattle.items.specs.Writing.{writing, Writes}
+use Rattle.trees.specs.Writing.{treeWriting, WritesTree}
 use Rattle.introspection.specs.Words.{bit, verdictWords, answerWords, columnsWords, Reads, ReadsStrictly, textWords, outcomeWords, partWords, lookupWords, toldBy, messageBy, warningMessageBy, refusalWords, orderWords, orderingWords}
 use Rattle.order.specs.Ordering as ordering
 use Rattle.order.specs.Steps.{Orders}
@@ -110,6 +111,13 @@ write-words h w = h ∙ ap answerWords (w .says .answer)
 pub write-left : {document x ws out : List ℕ} {n i room : ℕ} {a : TextAnswer} → Writes document x ws n i room out a → out ≡ leftOf room (writing document x ws n i room)
 write-left w = w .says .left
 
+-- of a tree that was written
+pub tree-words : {document x ws out : List ℕ} {n i room : ℕ} {a : TextAnswer} {rs : List ℕ} → rs ≡ answerWords a → WritesTree document x ws n i room out a → rs ≡ textWords (treeWriting document x ws n i room)
+tree-words h w = h ∙ ap answerWords (w .says .answer)
+
+pub tree-left : {document x ws out : List ℕ} {n i room : ℕ} {a : TextAnswer} → WritesTree document x ws n i room out a → out ≡ leftOf room (treeWriting document x ws n i room)
+tree-left w = w .says .left
+
 -- of several rows
 module _ {document x ws is out ends : List ℕ} {n room slots : ℕ} {a : TextAnswer} (w : WritesSeveral document x ws n is room slots out ends a) where
   pub several-words : {rs : List ℕ} → rs ≡ answerWords a → rs ≡ textWords (severalWriting document x ws n is room slots)
@@ -141,4 +149,4 @@ module _ (document ws : List ℕ) (room : ℕ) {out : List ℕ} {a : TextAnswer}
 
 pub ruleset words = (refusal-words, verdict-refused, verdict-accepted, answer-refused, answer-done, columns-refused, columns-done, order-refused, order-done, needs)
 
-pub ruleset entries = (reads, reads-strictly, text-words, outcome-words, write-words, write-left, lookup-words, message-words, message-left, warning-words, warning-left, ordered-words, ordered-left, ordered-idle, several-words, several-left, several-ends, needs)
+pub ruleset entries = (reads, reads-strictly, text-words, outcome-words, write-words, write-left, tree-words, tree-left, several-words, several-left, several-ends, lookup-words, message-words, message-left, warning-words, warning-left, ordered-words, ordered-left, ordered-idle, needs)

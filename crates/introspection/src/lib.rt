@@ -16,6 +16,7 @@ ghost use Rattle.references.specs.Entries.{escaping, unescaping};
 ghost use Rattle.document.specs.Whole.{roomOf};
 ghost use Rattle.items.specs.Several.{severalWriting, severalEnds};
 ghost use Rattle.items.specs.Writing.{writing};
+ghost use Rattle.trees.specs.Writing.{treeWriting};
 ghost use Rattle.introspection.specs.Words.{verdictWords, answerWords, columnsWords, partWords, bit, Reads, ReadsStrictly, textWords, outcomeWords, lookupWords, messageBy, warningMessageBy, refusalWords, orderWords, orderingWords};
 ghost use Rattle.order.specs.Ordering as order;
 
@@ -241,6 +242,28 @@ pub extern "C" fn introspection_write<'a>(
         ⌝ }
 {
     let a = writers::write(document, text, rows, claimed as usize, row as usize, output);
+    *answer = answer_words(a);
+}
+
+// Writes the element of a row with all under it.
+#[no_mangle]
+pub extern "C" fn introspection_write_tree<'a>(
+    document: &'a [u8],
+    text: &'a [u8],
+    rows: &[u32],
+    claimed: u64,
+    row: u64,
+    output: &mut [u8],
+    answer: &mut [u64; 3],
+)
+    ensures answer { λ _. ⌜ now (answer .exit) ≡ textWords
+        (treeWriting (now (document .entry)) (now (text .entry)) (now (rows .entry)) claimed row (length (now (output .entry))))
+        ⌝ }
+    ensures output { λ _. ⌜ now (output .exit) ≡ leftOf (length (now (output .entry)))
+        (treeWriting (now (document .entry)) (now (text .entry)) (now (rows .entry)) claimed row (length (now (output .entry))))
+        ⌝ }
+{
+    let a = trees::write_tree(document, text, rows, claimed as usize, row as usize, output);
     *answer = answer_words(a);
 }
 

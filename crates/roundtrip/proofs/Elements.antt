@@ -125,7 +125,7 @@ pub record Opens (k : ℕ) (n : List ℕ) (ps : List Pair) (s : State) (r : Row)
   pub few : length ps ≤ 256
   pub enters : (doc : List ℕ) (at : ℕ) (self : Bool) → step keeps doc s (start (tagAt at n ps self)) ≡ entered k n at self r fs rs ws
 
-tag-name : (n : List ℕ) → TagName n → Name n
+pub tag-name : (n : List ℕ) → TagName n → Name n
 tag-name [] h = h
 tag-name (c ∷ n) h = h .0
 

@@ -46,7 +46,7 @@ abbrev pub Placeless : List shown.Row → Type 0
 Placeless [] = Unit {0}
 Placeless (r ∷ rs) = (r .at ≡ 0) × Placeless rs
 
-both-placeless : (rs ss : List shown.Row) → Placeless rs → Placeless ss → Placeless (rs ++ ss)
+pub both-placeless : (rs ss : List shown.Row) → Placeless rs → Placeless ss → Placeless (rs ++ ss)
 both-placeless [] ss h i = i
 both-placeless (r ∷ rs) ss h i = (h .0, both-placeless rs ss (h .1) i)
 

@@ -88,7 +88,7 @@ measures-append : (rs ss : List shown.Row) → measures (rs ++ ss) ≡ measures 
 measures-append [] ss = omega arith
 measures-append (r ∷ rs) ss = omega (arith, measures-append rs ss)
 
-referenced-append : (vs us : List (List ℕ)) → referenced (vs ++ us) ≡ referenced vs + referenced us
+pub referenced-append : (vs us : List (List ℕ)) → referenced (vs ++ us) ≡ referenced vs + referenced us
 referenced-append [] us = omega arith
 referenced-append (v ∷ vs) us = omega (arith, referenced-append vs us)
 

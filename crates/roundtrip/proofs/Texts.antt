@@ -16,7 +16,7 @@ use Rattle.roundtrip.specs.Items.{noteValues, nameValues, argValues, arg
 use Rattle.roundtrip.proofs.SoundRows.{Formed, AllFormed}
 
 -- a byte below 128, then a text
-first : (b : ℕ) (l : List ℕ) → ltb b 128 ≡ true → Whole l → Whole (b ∷ l)
+pub first : (b : ℕ) (l : List ℕ) → ltb b 128 ≡ true → Whole l → Whole (b ∷ l)
 first b l h w = whole-append (whole-char (ascii-char (ltb-true b 128 h))) w
 
 abbrev AllWhole : List (List ℕ) → Type 0
@@ -48,21 +48,23 @@ whole-ending : (self : Bool) → Whole (ending self)
 whole-ending true = ascii _ refl
 whole-ending false = ascii _ refl
 
-module _ (n : List ℕ) (a : Whole n) (ps : List Pair) (h : Pairs ps) where
-  whole-tag : (self : Bool) → Whole (tag n ps self)
-  unfolding tag
-  whole-tag self = first 60 _ refl (whole-append a (whole-append (whole-pairs ps h) (whole-ending self)))
+pub whole-tag : (n : List ℕ) (ps : List Pair) (self : Bool) → Whole n → Whole (pairs ps) → Whole (tag n ps self)
+unfolding tag
+whole-tag n ps self a h = first 60 _ refl (whole-append a (whole-append h (whole-ending self)))
 
-  whole-close : Whole (closingTag n)
-  unfolding closingTag
-  whole-close = first 60 _ refl (first 47 _ refl (whole-append a (ascii _ refl)))
+pub whole-close : (n : List ℕ) → Whole n → Whole (closingTag n)
+unfolding closingTag
+whole-close n a = first 60 _ refl (first 47 _ refl (whole-append a (ascii _ refl)))
 
-  pub whole-element : (cs : List (List ℕ)) → AllWhole cs → Whole (element n ps cs)
-  whole-element [] k = whole-tag true
-  whole-element (c ∷ cs) k = whole-append (whole-tag false) (whole-append (whole-concat (c ∷ cs) k) whole-close)
+pub whole-element : (n : List ℕ) (ps : List Pair) (cs : List (List ℕ)) → Whole n → Whole (pairs ps) → Whole (concat cs) → Whole (element n ps cs)
+whole-element n ps [] a h k = whole-tag n ps true a h
+whole-element n ps (c ∷ cs) a h k = whole-append (whole-tag n ps false a h) (whole-append k (whole-close n a))
+
+whole-parts : (n : List ℕ) → Whole n → (ps : List Pair) → Pairs ps → (cs : List (List ℕ)) → AllWhole cs → Whole (element n ps cs)
+whole-parts n a ps h cs k = whole-element n ps cs a (whole-pairs ps h) (whole-concat cs k)
 
 whole-annotation : (a : Annotation) → Formed (a .name) → Formed (a .value) → Whole (writtenAnnotation a)
-whole-annotation a h k = whole-element (bytes "annotation") (ascii _ refl) _ (ascii _ refl, h, (ascii _ refl, k, tt)) [] tt
+whole-annotation a h k = whole-parts (bytes "annotation") (ascii _ refl) _ (ascii _ refl, h, (ascii _ refl, k, tt)) [] tt
 
 whole-annotations : (xs : List Annotation) → AllFormed (noteValues xs) → AllWhole (map writtenAnnotation xs)
 whole-annotations [] h = tt
@@ -84,7 +86,7 @@ whole-arg-pairs (some n) t d h k = (ascii _ refl, h .0, (ascii _ refl, k, whole-
 whole-arg : (a : Arg) → AllFormed (argValues a) → Whole (writtenArg a)
 whole-arg a h =
     let t = formed-split (nameValues (a .name)) (a .type ∷ noteValues (a .annotations)) h in
-    whole-element (bytes "arg") (ascii _ refl) (argPairs (a .name) (a .type) (a .direction)) (whole-arg-pairs (a .name) (a .type) (a .direction) (t .0) (t .1 .0)) (map writtenAnnotation (a .annotations)) (whole-annotations (a .annotations) (t .1 .1))
+    whole-parts (bytes "arg") (ascii _ refl) (argPairs (a .name) (a .type) (a .direction)) (whole-arg-pairs (a .name) (a .type) (a .direction) (t .0) (t .1 .0)) (map writtenAnnotation (a .annotations)) (whole-annotations (a .annotations) (t .1 .1))
 
 whole-args : (xs : List Arg) → AllFormed (argsValues xs) → AllWhole (map writtenArg xs)
 whole-args [] h = tt
@@ -93,7 +95,7 @@ whole-args (a ∷ xs) h = let t = formed-split (argValues a) (argsValues xs) h i
 whole-member : (n : List ℕ) → Whole n → (m : Member) → AllFormed (memberValues m) → Whole (writtenMember n m)
 whole-member n a m h =
     let t = formed-split (argsValues (m .args)) (noteValues (m .annotations)) (h .1) in
-    whole-element n a (named (m .name) ∷ []) (ascii _ refl, h .0, tt) (map writtenArg (m .args) ++ map writtenAnnotation (m .annotations))
+    whole-parts n a (named (m .name) ∷ []) (ascii _ refl, h .0, tt) (map writtenArg (m .args) ++ map writtenAnnotation (m .annotations))
     (append-whole (map writtenArg (m .args)) (map writtenAnnotation (m .annotations)) (whole-args (m .args) (t .0)) (whole-annotations (m .annotations) (t .1)))
 
 pub whole-written : (c : Item) → AllFormed (values c) → Whole (written c)

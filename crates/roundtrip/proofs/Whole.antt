@@ -109,7 +109,7 @@ module _ (n : List ℕ) (h : interfaceName n ≡ true) (c : Item) (i : mayHold 2
 
 -- ---- the reader that keeps all of an attribute
 
-accepted-view : (s : states.State Shown) (u : Tables Held) → view held s ≡ accepted u → (t : Tables Shown) × (s ≡ accepted t) × (viewTables held t ≡ u)
+pub accepted-view : (s : states.State Shown) (u : Tables Held) → view held s ≡ accepted u → (t : Tables Shown) × (s ≡ accepted t) × (viewTables held t ≡ u)
 accepted-view begun u e = let z : _≡_ {A = ℕ} 0 1 = cc in absurd (omega arith)
 accepted-view (states.reading fs t) u e = let z : _≡_ {A = ℕ} 0 1 = cc in absurd (omega arith)
 accepted-view (accepted t) u e = (t, refl, tablesOf e)
@@ -128,7 +128,7 @@ text-held : (o : Option Shown) → over textShown o ≡ over valueOf (over held 
 text-held none = refl
 text-held (some s) = refl
 
-shown-held : (rs : List (tables.Row Shown)) → map (viewRow textShown) rs ≡ map (viewRow valueOf) (map (viewRow held) rs)
+pub shown-held : (rs : List (tables.Row Shown)) → map (viewRow textShown) rs ≡ map (viewRow valueOf) (map (viewRow held) rs)
 shown-held [] = refl
 shown-held (r ∷ rs) =
     let a = text-held (r .name) in

@@ -5,11 +5,12 @@ use std::ffi::OsString;
 use crate::input::Input;
 
 pub const HELP: &str = "\
-Shows, checks and lists D-Bus introspection documents.
+Shows, checks, lists and cleans D-Bus introspection documents.
 
   introspect show [--places] [FILE..]   the tree, then what was left out
   introspect check [--strict] [FILE..]  the places of what is wrong, and sums
   introspect list [FILE]                the tables as numbers
+  introspect clean [FILE]               the document without what was left out
   introspect --help | --version
 
 Without a FILE, or for -, standard input is read. After -- all are FILEs.
@@ -33,6 +34,7 @@ pub enum Verb {
     Show { places: bool },
     Check { strict: bool },
     List,
+    Clean,
 }
 
 /// The request of some arguments, or what is wrong with them.
@@ -45,6 +47,7 @@ pub fn request(arguments: impl IntoIterator<Item = OsString>) -> Result<Request,
         Some("show") => Verb::Show { places: false },
         Some("check") => Verb::Check { strict: false },
         Some("list") => Verb::List,
+        Some("clean") => Verb::Clean,
         _ => return Err(format!("there is no command {}", quoted(&first))),
     };
     of_verb(verb, arguments)
@@ -75,10 +78,15 @@ fn of_verb(mut verb: Verb, arguments: impl Iterator<Item = OsString>) -> Result<
     if inputs.is_empty() {
         inputs.push(Input::Standard);
     }
-    if matches!(verb, Verb::List) && inputs.len() > 1 {
-        return Err("list takes one file".to_string());
+    let alone = match verb {
+        Verb::List => Some("list"),
+        Verb::Clean => Some("clean"),
+        _ => None,
+    };
+    match alone {
+        Some(command) if inputs.len() > 1 => Err(format!("{command} takes one file")),
+        _ => Ok(Request::Run(verb, inputs)),
     }
-    Ok(Request::Run(verb, inputs))
 }
 
 fn quoted(argument: &OsString) -> String {

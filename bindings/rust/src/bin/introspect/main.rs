@@ -1,10 +1,11 @@
-//! `introspect`: shows, checks and lists D-Bus introspection documents (docs/introspect.md).
+//! `introspect`: shows, checks, lists and cleans D-Bus introspection documents (docs/introspect.md).
 //!
 //! What was asked for goes to standard output. That a file cannot be read, or standard output cannot
 //! be written, is told on standard error.
 
 mod arguments;
 mod check;
+mod clean;
 mod excerpt;
 mod input;
 mod list;
@@ -65,6 +66,7 @@ fn run(verb: Verb, inputs: &[Input], output: &mut impl Write) -> io::Result<Stat
         Verb::Show { places } => show::run(inputs, places, paint, output),
         Verb::Check { strict } => check::run(inputs, strict, paint, output),
         Verb::List => list::run(inputs, output),
+        Verb::Clean => clean::run(inputs, output),
     }
 }
 

@@ -1,0 +1,37 @@
+-- `tree_cases::lines` meets its contract: what is left is the measure.
+-- Assumes nothing.
+use Prim.Native.Nat.{_≤_, _-_}
+use mathlib.Core.Path.{_≡_}
+use lib.ListN.{length}
+use borrow.Author.Needs.{needs}
+use Rattle.tree_cases.proofs.lines.Statement.{statement}
+use Rattle.tree_cases.proofs.lines.Tie as tie
+
+abbrev Inv-loop : tie.InvT-loop
+Inv-loop out₀ s first₀ second₀ n₀ at₀ out first second n at = (at ≤ length s) × (length out ≡ length out₀) × (length first ≡ length first₀) × (length second ≡ length second₀)
+
+abbrev μ-loop : tie.MeasureT-loop
+μ-loop out₀ s first₀ second₀ n₀ at₀ out first second n at = length s - at
+
+pub lines-spec : {M : Type 1} → statement M
+lines-spec =
+    tie.close
+    (tie.spec
+    Inv-loop
+    μ-loop
+    (λ c. search needs)
+    (λ c. search needs)
+    (λ c. search needs)
+    (λ c. search needs)
+    (λ c. search needs)
+    (λ c. search needs)
+    (λ c. search needs)
+    (λ c. search needs)
+    (λ c. search needs)
+    (λ c. search needs)
+    (λ c. search needs)
+    (λ c. search needs)
+    (λ c. search needs)
+    (λ c. search needs)
+    (λ c. search needs)
+    (λ c. search needs))

@@ -1,0 +1,20 @@
+-- Laws of written trees and of reading them.
+-- Assumes nothing.
+pub mod Good
+pub mod Flat
+pub mod Runs
+pub mod Shapes
+pub mod Entering
+pub mod Frames
+pub mod Trees
+pub mod Texts
+pub mod Answers
+pub mod Regrown
+pub mod SoundTrees
+pub mod Sizes
+pub mod Depths
+pub mod Shallow
+pub mod Rooted
+pub mod Left
+pub mod Entries
+pub mod Theorems
