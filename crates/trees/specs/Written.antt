@@ -97,7 +97,7 @@ abbrev pub attributes : Element → List Pair
 attributes e =
     given (nameKey (e .kind)) (e .name) ++ (given (valueKey (e .kind)) (e .value) ++ (given tpKey (e .tp) ++ wordPairs (e .kind) (e .word)))
 
--- the docstring as it is, unless it is empty
+-- the docstring as it is, unless it is empty: nothing in it is escaped, so that markup in it is markup to whoever reads the bytes
 abbrev pub docTag : List ℕ
 docTag = bytes "tp:docstring"
 
