@@ -189,9 +189,9 @@ enum introspection_reason {
  * A file that begins with FE FF or FF FE is UTF-16: it is decoded to UTF-8 in decoded, without the mark, and what was
  * decoded is read. Its length is word 12 of the answer. If that is not 0, the document of everything that follows is
  * the first so many bytes of decoded: source 1 of a triple, every place in rows, warnings and answer, and what is
- * handed to introspection_lookup, introspection_write, introspection_write_tree and the two functions for messages.
- * Decoded bytes are at most 3/2 of the file's; the room above is in terms of them. Of any other file decoded is not
- * used and may have no bytes; it is left zero.
+ * handed to introspection_lookup, introspection_write, introspection_write_tree, introspection_write_items,
+ * introspection_order and the two functions for messages. Decoded bytes are at most 3/2 of the file's; the room above
+ * is in terms of them. Of any other file decoded is not used and may have no bytes; it is left zero.
  *
  * answer: enum introspection_answer. Refusals: 2, 1, the first of 3 to 17 and 22 to 25 met in reading, then 18. Of UTF-16:
  * 2 for the file, 26, 27, 2 for what is decoded, 18 at the file's length if decoded is short, all of which leave zeros in
@@ -292,13 +292,13 @@ void introspection_write(const uint8_t *document, size_t document_length, const 
  * is within the limit, without a warning and with the same content, docstrings included. The same is so of sound rows
  * made by the caller where words 11 to 13 of every row are zeros. A docstring of rows made by the caller is written
  * as it is, without escaping: of it only UTF-8 is checked. Markup in it is markup to whoever reads the bytes: a
- * docstring that holds </tp:docstring><interface name="a.b"/> makes an interface, and one that holds a lone < makes a
- * document that is refused. So whoever makes docstrings out of text that is not markup escapes it first
- * (introspection_escape).
+ * docstring </tp:docstring><interface name="a.b"/><tp:docstring> makes an interface that no row has, and one that
+ * holds a lone < makes a document that is refused. So whoever makes docstrings out of text that is not markup escapes
+ * it first (introspection_escape).
  *
  * The rows are checked as for introspection_write. What comes on top is in proportion to the rows and the bytes
  * written where the rows stand in the order that introspection_read leaves and in no node another child follows a
- * node; measured to be 75 to 140 ns a row. If nodes stand before other children it may be the levels of nodes times
+ * node; measured to be 70 to 140 ns a row. If nodes stand before other children it may be the levels of nodes times
  * the rows, and in a hostile order the rows times the rows. Nothing is called for each level: 4 kB of the stack are
  * enough whatever the rows are.
  *
