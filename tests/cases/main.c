@@ -1,6 +1,6 @@
 /* Runs the cases of a group over the functions of include/introspection.h: cases on standard input, one to a line, a line of
  * standard output for each. The first lines of a file of cases say how they are written. Every buffer that is lent has just the
- * length that is told and ends where a page ends that cannot be touched; one that is written holds other bytes before. */
+ * length that is told and ends where a page begins that cannot be touched; one that is written holds other bytes before. */
 #define _DEFAULT_SOURCE
 #include "introspection.h"
 
@@ -33,7 +33,7 @@ struct words {
 #define PAGE ((size_t)4096)
 #define SLACK 0x55
 
-/* A lent buffer: its pages, of which the first and the last cannot be touched, and where it begins in them. */
+/* A lent buffer: its pages, of which the first and the last cannot be touched, where it begins in them, and their bytes. */
 static struct lent {
     uint8_t *pages, *at;
     size_t length;
