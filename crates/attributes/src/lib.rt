@@ -16,6 +16,8 @@ mod few;
 mod gathered;
 mod many;
 mod names;
+mod some;
+mod starts;
 
 // An attribute: places and lengths of its name and its raw value; kind 1 the value is shown as it stands, 2 changed; whether it is a tp type.
 pub struct Attribute {
