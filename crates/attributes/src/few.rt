@@ -1,4 +1,10 @@
 // The usual tag: each value goes straight into the slot of its name's class. A tag with two names of a class, or a value that is changed or not closed, is gathered by `some`.
+ghost use Prim.Native.Nat.{_≤_};
+ghost use lib.ListN.{length};
+ghost use Rattle.scan.specs.Classes.{Classes};
+ghost use Rattle.attributes.specs.Lookup.{KeyTable};
+ghost use Rattle.attributes.specs.Outcome.{Gathers};
+ghost use Rattle.attributes.specs.Slots.{Plain};
 use crate::Attrs;
 use crate::is_special;
 use crate::some;
@@ -13,7 +19,10 @@ const NO_VALUE: Value = Value {
 };
 
 // The end of a value that is shown as it stands, or the length where there is a special byte or no quote closes it.
-fn plain_end(doc: &[u8], from: usize, quote: u8) -> usize {
+fn plain_end(doc: &[u8], from: usize, quote: u8) -> usize
+    requires { ⌜ (from ≤ length (now doc)) × («quote» ≤ 39) ⌝ }
+    ensures { λ r. ⌜ Plain «quote» (now (doc .entry)) from r ⌝ }
+{
     let mut at = from;
     while at < doc.len() {
         let b = doc[at];
@@ -33,7 +42,10 @@ fn plain_end(doc: &[u8], from: usize, quote: u8) -> usize {
 }
 
 // The attributes from a place on.
-pub fn gather(doc: &[u8], classes: &[u8; 256], keys: &[u8], from: usize) -> Attrs {
+pub fn gather(doc: &[u8], classes: &[u8; 256], keys: &[u8], from: usize) -> Attrs
+    requires { ⌜ (from ≤ length (now doc)) × (length (now doc) ≤ 1048576) × Classes (now classes) × KeyTable (now keys) ⌝ }
+    ensures { λ r. ⌜ Gathers (now (doc .entry)) from r ⌝ }
+{
     let mut slots = [NO_VALUE; 8];
     let mut at = from;
     loop {

@@ -41,6 +41,19 @@ pub struct ValueEnd {
     pub kind: u32,
 }
 
+// A name's class, 8 where there is no attribute; the place of the value, and the quote before it.
+pub struct Start {
+    pub class: usize,
+    pub value: usize,
+    pub quote: u8,
+}
+
+// A name's class, 8 where it is not one of the usual; its length.
+pub struct Known {
+    pub class: usize,
+    pub len: usize,
+}
+
 // What checking comes to: a fault's number and place, or none.
 pub enum AttributeCheck {
     Fault(u32, usize),

@@ -1,18 +1,16 @@
 // The start of an attribute: the class of its name, and where its value begins.
+ghost use mathlib.Core.Path.{_≡_};
+ghost use Prim.Native.Nat.{_+_, _-_, _≤_};
+ghost use lib.ListN.{length};
+ghost use Rattle.scan.specs.Classes.{Classes};
+ghost use Rattle.scan.specs.Colons.{Scanned};
+ghost use Rattle.document.specs.Tags.{isTpType};
+ghost use Rattle.attributes.specs.One.{part};
+ghost use Rattle.attributes.specs.Slots.{classOf, Quick, Starts, Four, Knows};
+use crate::Known;
+use crate::Start;
 use crate::is_tp_type;
-
-// A name's class, 8 where there is none; the place of the value, and the quote before it.
-pub struct Start {
-    pub class: usize,
-    pub value: usize,
-    pub quote: u8,
-}
-
-// A name's class, 8 where it is not known; its length.
-struct Known {
-    class: usize,
-    len: usize,
-}
+use scan::Name;
 
 const NO_START: Start = Start {
     class: 8,
@@ -23,13 +21,21 @@ const NO_START: Start = Start {
 const UNKNOWN: Known = Known { class: 8, len: 0 };
 
 // Four bytes as a number.
-fn four(s: &[u8], at: usize) -> u32 {
-    s[at] as u32 + 256 * (s[at + 1] as u32) + 65536 * (s[at + 2] as u32)
+fn four(s: &[u8], at: usize) -> u32
+    requires { ⌜ at + 4 ≤ length (now s) ⌝ }
+    ensures { λ r. ⌜ Four (now (s .entry)) «at» r ⌝ }
+{
+    s[at] as u32
+        + 256 * (s[at + 1] as u32)
+        + 65536 * (s[at + 2] as u32)
         + 16777216 * (s[at + 3] as u32)
 }
 
 // The rest of `direction`, `value` or `access`, whose first four bytes are the number.
-fn longer(doc: &[u8], at: usize, w: u32) -> Known {
+fn longer(doc: &[u8], at: usize, w: u32) -> Known
+    requires { ⌜ (at + 9 ≤ length (now doc)) × Four (now doc) «at» w ⌝ }
+    ensures { λ r. ⌜ Knows (now (doc .entry)) «at» r ⌝ }
+{
     if w == 0x65726964 {
         if four(doc, at + 4) == 0x6f697463 {
             if doc[at + 8] == 110 {
@@ -55,7 +61,10 @@ fn longer(doc: &[u8], at: usize, w: u32) -> Known {
 }
 
 // The name that bytes at a place begin with, where it is one of the usual five.
-fn known(doc: &[u8], at: usize) -> Known {
+fn known(doc: &[u8], at: usize) -> Known
+    requires { ⌜ at + 9 ≤ length (now doc) ⌝ }
+    ensures { λ r. ⌜ Knows (now (doc .entry)) «at» r ⌝ }
+{
     let w = four(doc, at);
     if w == 0x656d616e {
         return Known { class: 0, len: 4 };
@@ -67,7 +76,10 @@ fn known(doc: &[u8], at: usize) -> Known {
 }
 
 // The usual form: a space, a known name, `=` and `"`.
-fn quick(doc: &[u8], at: usize) -> Start {
+fn quick(doc: &[u8], at: usize) -> Start
+    requires { ⌜ (at ≤ length (now doc)) × (length (now doc) ≤ 1048576) ⌝ }
+    ensures { λ r. ⌜ Quick (now (doc .entry)) «at» r ⌝ }
+{
     if doc.len() < at + 16 {
         return NO_START;
     }
@@ -83,18 +95,22 @@ fn quick(doc: &[u8], at: usize) -> Start {
     if doc[end] != 61 {
         return NO_START;
     }
-    if doc[end + 1] != 34 {
+    let open = end + 1;
+    if doc[open] != 34 {
         return NO_START;
     }
     Start {
         class,
-        value: end + 2,
+        value: open + 1,
         quote: 34,
     }
 }
 
 // The class of a name, which is a tp type's or not.
-fn class_of(name: &[u8], tp: bool) -> usize {
+fn class_of(name: &[u8], tp: bool) -> usize
+    requires { ⌜ tp ≡ isTpType (now name) ⌝ }
+    ensures { λ r. ⌜ r ≡ classOf (now (name .entry)) ⌝ }
+{
     if tp {
         return 6;
     }
@@ -119,8 +135,21 @@ fn class_of(name: &[u8], tp: bool) -> usize {
     7
 }
 
+// The class of the name that begins at a place.
+fn class_at(doc: &[u8], at: usize, name: Name) -> usize
+    requires { ⌜ Scanned (now doc) «at» name × (length (now doc) ≤ 1048576) ⌝ }
+    ensures { λ r. ⌜ r ≡ classOf (part (now (doc .entry)) «at» (name .end - «at»)) ⌝ }
+{
+    let end = name.end;
+    let tp = is_tp_type(doc, at, name);
+    class_of(&doc[at..end], tp)
+}
+
 // Any form.
-fn opened(doc: &[u8], classes: &[u8; 256], from: usize) -> Start {
+fn opened(doc: &[u8], classes: &[u8; 256], from: usize) -> Start
+    requires { ⌜ (from ≤ length (now doc)) × (length (now doc) ≤ 1048576) × Classes (now classes) ⌝ }
+    ensures { λ r. ⌜ Starts (now (doc .entry)) from r ⌝ }
+{
     let name = scan::space_end(doc, classes, from);
     if name <= from {
         return NO_START;
@@ -143,10 +172,8 @@ fn opened(doc: &[u8], classes: &[u8; 256], from: usize) -> Start {
     }
     let quote = doc[at];
     if scan::is_quote(quote) {
-        let tp = is_tp_type(doc, name, scanned);
-        let class = class_of(&doc[name..end], tp);
         return Start {
-            class,
+            class: class_at(doc, name, scanned),
             value: at + 1,
             quote,
         };
@@ -155,7 +182,10 @@ fn opened(doc: &[u8], classes: &[u8; 256], from: usize) -> Start {
 }
 
 // At the white space before a name.
-pub fn start_at(doc: &[u8], classes: &[u8; 256], at: usize) -> Start {
+pub fn start_at(doc: &[u8], classes: &[u8; 256], at: usize) -> Start
+    requires { ⌜ (at ≤ length (now doc)) × (length (now doc) ≤ 1048576) × Classes (now classes) ⌝ }
+    ensures { λ r. ⌜ Starts (now (doc .entry)) «at» r ⌝ }
+{
     let s = quick(doc, at);
     if s.class < 8 {
         return s;
