@@ -1,7 +1,7 @@
 -- The start of an attribute: the usual form, by its bytes, and any form.
 -- Assumes nothing.
-use Prim.Native.Nat.{ℕ, suc, _+_, _-_, _*_, _≤_, _<_, _^_}
-use mathlib.Core.Path.{_≡_, refl, sym, ap, _∙_}
+use Prim.Native.Nat.{ℕ, zero, suc, _+_, _-_, _*_, _≤_, _<_, _^_}
+use mathlib.Core.Path.{_≡_, refl, sym, ap, subst, _∙_}
 use mathlib.Core.List.{List, [], _∷_, _++_}
 use mathlib.Core.Bool.{Bool, true, false, not, _||_}
 use borrow.Author.Needs.{needs}
@@ -13,12 +13,14 @@ use lib.ListN.{length, drop, getD, length-drop, drop-of-length-le, take-append-d
 use lib.Seq.{drop-cons, drop-drop, length-take-le}
 use Rattle.slices.specs.Bytes.{bytes, span, all}
 use Rattle.slices.specs.Run.{Run}
+use Rattle.slices.specs.Word.{Below}
 use Rattle.slices.proofs.Runs.{both, span-stops, run-begins, run-more, run-stops}
 use Rattle.scan.specs.Classes.{white, nameByte}
 use Rattle.scan.specs.Ignorable.{quote}
+use Rattle.references.specs.Unescape.{special}
 use Rattle.document.specs.Tags.{absent, attribute, openQuote}
 use Rattle.attributes.specs.One.{part}
-use Rattle.attributes.specs.Slots.{classOf, Quick, Starts, Four, Key, Knows, Plain}
+use Rattle.attributes.specs.Slots.{classOf, Quick, Starts, Four, Key, Knows, High, Plain}
 use Rattle.attributes.specs.declared.Start.{Start}
 use Rattle.attributes.specs.declared.Known.{Known}
 use Rattle.attributes.proofs.Found.{Quoting, quote-begins, quote-high, quote-closes, quote-plain, quote-low, equals-opens, none-spaced, none-named, attribute-equals}
@@ -211,14 +213,38 @@ pub ruleset starts = (starts-quick, needs)
 
 -- ---- the end of a value that is shown as it stands
 
-module _ {q : ℕ} {doc : List ℕ} {from at : ℕ} (g : Quoting q doc from at 1) where
-  pub plain-closes : at < length doc → getD doc at 0 ≡ q → Plain q doc from at
-  plain-closes h e = record { within = omega arith; value = λ l. quote-closes g h e }
+pub high-none : {doc : List ℕ} {at : ℕ} → at < length doc → High doc at 0
+high-none h = record { within = omega arith; above = λ i b. absurd (omega arith); room = λ b. omega arith }
 
-  pub plain-ends : length doc ≤ at → Plain q doc from at
-  plain-ends h = record { within = g .run .inside; value = λ l. absurd (omega arith) }
+pub high-below : {doc : List ℕ} {at k : ℕ} → at + 8 ≤ length doc → Below doc at 40 k → High doc at k
+high-below h b = record { within = omega (arith, b .within); above = b .above; room = λ l. omega arith }
+
+pub ruleset highs = (high-none, high-below, needs)
+
+-- past bytes that are above quotes and special bytes
+quote-steps : {q : ℕ} {doc : List ℕ} {from at : ℕ} → Quoting q doc from at 1 → q ≤ 39 → (k : ℕ) → at + k ≤ length doc → ((i : ℕ) → i < k → 40 ≤ getD doc (at + i) 0) → Quoting q doc from (at + k) 1
+quote-steps {q} {doc} {from} {at} g l zero h f = let e : at ≡ at + 0 = omega arith in subst (λ (p : ℕ). Quoting q doc from p 1) e g
+quote-steps {q} {doc} {from} {at} g l (suc k) h f =
+    let e : at + k + 1 ≡ at + suc k = omega arith in
+    subst (λ (p : ℕ). Quoting q doc from p 1) e (quote-high (quote-steps g l k (omega arith) (λ i b. f i (omega arith))) (omega arith) (omega (arith, f k (omega arith))) l)
+
+module _ {q : ℕ} {doc : List ℕ} {from at k : ℕ} (g : Quoting q doc from at 1) (l : q ≤ 39) (h : High doc at k) where
+  pub plain-skips : Quoting q doc from (at + k) 1
+  plain-skips = quote-steps g l k (h .within) (h .above)
+
+  pub plain-closes : at + k < length doc → getD doc (at + k) 0 ≡ q → Plain q doc from (at + k)
+  plain-closes b e = record { within = omega arith; value = λ z. quote-closes plain-skips b e }
+
+  pub plain-more : at + k < length doc → (getD doc (at + k) 0 ≡ q → ⊥) → {t : Bool} → t ≡ special (getD doc (at + k) 0) → t ≡ false → Quoting q doc from (at + k + 1) 1
+  plain-more b o e f = quote-plain plain-skips b o e f
+
+pub plain-room : {doc : List ℕ} {at k : ℕ} → High doc at k → k < 8 → at + k < length doc
+plain-room h b = h .room b
+
+pub plain-ends : {q : ℕ} {doc : List ℕ} {from at : ℕ} → Quoting q doc from at 1 → length doc ≤ at → Plain q doc from at
+plain-ends g h = record { within = g .run .inside; value = λ l. absurd (omega arith) }
 
 pub plain-none : {q : ℕ} {doc : List ℕ} {from : ℕ} → Plain q doc from (length doc)
 plain-none = record { within = omega arith; value = λ l. absurd (omega arith) }
 
-pub ruleset plains = (quote-begins, quote-high, quote-plain, plain-closes, plain-ends, plain-none, needs)
+pub ruleset plains = (quote-begins, plain-room, plain-skips, plain-closes, plain-more, plain-ends, plain-none, needs)

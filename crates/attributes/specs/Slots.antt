@@ -64,6 +64,12 @@ pub record Key (doc : List ℕ) (at : ℕ) (r : Known) : Type 0 where
 pub record Knows (doc : List ℕ) (at : ℕ) (r : Known) : Type 0 where
   pub key : r .class < 8 → Key doc at r
 
+-- the first k bytes from a place on are above quotes and special bytes, and there is one more where k is below 8
+pub record High (doc : List ℕ) (at k : ℕ) : Type 0 where
+  pub within : at + k ≤ length doc
+  pub above : (i : ℕ) → i < k → 40 ≤ getD doc (at + i) 0
+  pub room : k < 8 → at + k < length doc
+
 -- the end of a value that is shown as it stands; nothing is said of the document's end
 pub record Plain (q : ℕ) (doc : List ℕ) (from r : ℕ) : Type 0 where
   pub within : r ≤ length doc

@@ -1,10 +1,10 @@
 // The usual tag: each value goes straight into the slot of its name's class. A tag with two names of a class, or a value that is changed or not closed, is gathered by `some`.
-ghost use Prim.Native.Nat.{_≤_};
+ghost use Prim.Native.Nat.{_≤_, _<_};
 ghost use lib.ListN.{length};
 ghost use Rattle.scan.specs.Classes.{Classes};
 ghost use Rattle.attributes.specs.Lookup.{KeyTable};
 ghost use Rattle.attributes.specs.Outcome.{Gathers};
-ghost use Rattle.attributes.specs.Slots.{Plain};
+ghost use Rattle.attributes.specs.Slots.{High, Plain};
 use crate::Attrs;
 use crate::is_special;
 use crate::some;
@@ -18,17 +18,28 @@ const NO_VALUE: Value = Value {
     kind: 0,
 };
 
+// How many bytes from a place on are above quotes and special bytes: of the next 8, as far as there are so many.
+fn high(doc: &[u8], at: usize) -> usize
+    requires { ⌜ (at < length (now doc)) × (length (now doc) ≤ 1048576) ⌝ }
+    ensures { λ r. ⌜ High (now (doc .entry)) «at» r ⌝ }
+{
+    if doc.len() < at + 8 {
+        return 0;
+    }
+    slices::first_below(doc, at, 40)
+}
+
 // The end of a value that is shown as it stands, or the length where there is a special byte or no quote closes it.
 fn plain_end(doc: &[u8], from: usize, quote: u8) -> usize
-    requires { ⌜ (from ≤ length (now doc)) × («quote» ≤ 39) ⌝ }
+    requires { ⌜ (from ≤ length (now doc)) × (length (now doc) ≤ 1048576) × («quote» ≤ 39) ⌝ }
     ensures { λ r. ⌜ Plain «quote» (now (doc .entry)) from r ⌝ }
 {
     let mut at = from;
     while at < doc.len() {
-        let b = doc[at];
-        if 39 < b {
-            at += 1;
-        } else {
+        let k = high(doc, at);
+        at += k;
+        if k < 8 {
+            let b = doc[at];
             if b == quote {
                 return at;
             }

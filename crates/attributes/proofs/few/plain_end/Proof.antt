@@ -20,12 +20,13 @@ plain-end-spec =
     Inv-loop
     μ-loop
     (λ c. search plains)
-    (λ c. search plains)
-    (λ c. search plains)
+    (λ c κs. search plains)
     (λ c. search plains)
     (λ c. search plains)
     (λ c. search plains)
     (λ c κs. search plains)
+    (λ c. search plains)
+    (λ c. search plains)
     (λ c. search plains)
     (λ c. search plains)
     (λ c. search plains)
