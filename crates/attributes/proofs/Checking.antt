@@ -1,6 +1,6 @@
 -- The check of the attributes, one by one.
 -- Assumes nothing.
-use Prim.Native.Nat.{ℕ, suc, _+_, _-_, _≤_, _<_}
+use Prim.Native.Nat.{ℕ, suc, _+_, _≤_, _<_}
 use mathlib.Core.Path.{_≡_, refl, sym, ap, _∙_}
 use mathlib.Core.List.{List, [], _∷_, _++_, map, map-append, append-assoc}
 use mathlib.Core.Option.{Option, some}
@@ -35,11 +35,11 @@ same-swap (x ∷ a) [] = refl
 same-swap (x ∷ a) (y ∷ b) = rw (same-swap a b, eqb-swap x y)
 
 -- the names of attributes, the last first, before others
-abbrev back : List Attr → List (List ℕ) → List (List ℕ)
+abbrev pub back : List Attr → List (List ℕ) → List (List ℕ)
 back [] seen = seen
 back (x ∷ xs) seen = back xs (x .name ∷ seen)
 
-back-more : (xs : List Attr) (x : Attr) (seen : List (List ℕ)) → back (xs ++ x ∷ []) seen ≡ x .name ∷ back xs seen
+pub back-more : (xs : List Attr) (x : Attr) (seen : List (List ℕ)) → back (xs ++ x ∷ []) seen ≡ x .name ∷ back xs seen
 back-more [] x seen = refl
 back-more (y ∷ xs) x seen = back-more xs x (y .name ∷ seen)
 
@@ -53,7 +53,7 @@ member-back n (x ∷ xs) seen = member-back n xs (x .name ∷ seen) ∙ rw (same
     go false true = refl
     go false false = refl
 
-member-listed : (n : List ℕ) (xs : List Attr) → member n (back xs []) ≡ listed n xs
+pub member-listed : (n : List ℕ) (xs : List Attr) → member n (back xs []) ≡ listed n xs
 member-listed n xs = member-back n xs [] ∙ go (listed n xs)
   where
     go : (t : Bool) → if t true false ≡ t
@@ -70,7 +70,7 @@ there-if true a r h = h
 there-if false a r h = refl
 
 -- a value that is gathered is there
-fit-there : {doc : List ℕ} {from to : ℕ} (a : Attribute) → Fit doc from to a → there (valueOf (some a)) ≡ true
+pub fit-there : {doc : List ℕ} {from to : ℕ} (a : Attribute) → Fit doc from to a → there (valueOf (some a)) ≡ true
 fit-there {doc} a f = rw (f .kind) (go (all plain (attrOf doc a .raw)))
   where
     go : (t : Bool) → not (eqb (if t 1 2) 0) ≡ true
@@ -139,15 +139,15 @@ module _ {doc : List ℕ} {xs : List Attribute} {i : ℕ} (h : i < length xs) (g
 -- ---- all attributes
 
 -- attributes that are shown, before the others
-abbrev onto : List Shown → Checked → Checked
+abbrev pub onto : List Shown → Checked → Checked
 onto ss (good s) = good (ss ++ s)
 onto ss (fault k p) = fault k p
 
-onto-onto : (a b : List Shown) (c : Checked) → onto a (onto b c) ≡ onto (a ++ b) c
+pub onto-onto : (a b : List Shown) (c : Checked) → onto a (onto b c) ≡ onto (a ++ b) c
 onto-onto a b (good s) = rw append-assoc
 onto-onto a b (fault k p) = refl
 
-onto-also : (x : Attr) (t : List ℕ) (c : Checked) → also x (text t) c ≡ onto (record { attr = x; value = t } ∷ []) c
+pub onto-also : (x : Attr) (t : List ℕ) (c : Checked) → also x (text t) c ≡ onto (record { attr = x; value = t } ∷ []) c
 onto-also x t (good s) = refl
 onto-also x t (fault k p) = refl
 
@@ -158,7 +158,7 @@ pub record Checking (doc : List ℕ) (xs : List Attribute) (n i : ℕ) : Type 0 
   pub room : n ≤ length xs
   pub within : i ≤ n
 
-onto-none : (c : Checked) → onto [] c ≡ c
+pub onto-none : (c : Checked) → onto [] c ≡ c
 onto-none (good s) = refl
 onto-none (fault k p) = refl
 

@@ -11,7 +11,7 @@ use native.Mathlib.Omega.{arith}
 use lib.Dec.{eqb}
 use lib.ListN.{length, drop, getD, drop-of-length-le}
 use lib.Seq.{drop-cons}
-use Rattle.slices.specs.Bytes.{if, other, span, past, empty}
+use Rattle.slices.specs.Bytes.{if, other, span, past}
 use Rattle.slices.specs.Run.{Run}
 use Rattle.slices.proofs.Runs.{Running, run-begins, run-more, run-stops, run-ends, other-true, other-false}
 use Rattle.slices.proofs.Ends.{run-span, run-rest, run-empty, run-some}
@@ -155,7 +155,13 @@ module _ {doc : List ℕ} {name n : ℕ} {tp : Bool} {at : ℕ} (g : Named doc n
 
 pub ruleset values = (quote-low, value-ended, value-other, value-unclosed, value-found, needs)
 
--- at the `=`
+-- at the `=`, whatever the name: what is left is from the opening quote on
+pub equals-opens : (name : ℕ) (n : List ℕ) {doc : List ℕ} {at q : ℕ} → at < length doc → getD doc at 0 ≡ 61 → Run white doc (at + 1) q → equals name n (drop at doc) at ≡ openQuote name n (drop q doc) q
+equals-opens name n {doc} {at} {q} h e w =
+    let p : suc at + length (span white (drop (suc at) doc)) ≡ q = sym (rw add-one at (w .ends)) in
+    let m : past white (drop (suc at) doc) ≡ drop q doc = rw add-one at (run-rest w) in
+    rw (drop-cons doc at 0 h, e, m, p)
+
 module _ {doc : List ℕ} {name n : ℕ} {tp : Bool} {at : ℕ} (g : Named doc name n tp at) where
   pub equals-ended : length doc ≤ at → Finds (equals name (part doc name n)) doc at Absent
   equals-ended h = record { onward = tt; is = rw (drop-of-length-le doc h) }
@@ -164,10 +170,7 @@ module _ {doc : List ℕ} {name n : ℕ} {tp : Bool} {at : ℕ} (g : Named doc n
   equals-other h e = record { onward = tt; is = rw (drop-cons doc at 0 h, ne-eqb _ _ e) }
 
   pub equals-found : {q : ℕ} {r : One} → at < length doc → getD doc at 0 ≡ 61 → Run white doc (at + 1) q → Finds (openQuote name (part doc name n)) doc q r → Finds (equals name (part doc name n)) doc at r
-  equals-found {q} {r} h e w c =
-      let p : suc at + length (span white (drop (suc at) doc)) ≡ q = sym (rw add-one at (w .ends)) in
-      let m : past white (drop (suc at) doc) ≡ drop q doc = rw add-one at (run-rest w) in
-      carries r (omega (arith, w .onward)) (rw (drop-cons doc at 0 h, e, m, p)) c
+  equals-found {q} {r} h e w c = carries r (omega (arith, w .onward)) (equals-opens name (part doc name n) h e w) c
 
   pub named-on : {q : ℕ} → at < length doc → Run white doc (at + 1) q → Named doc name n tp q
   named-on h w = record { small = g .small; inside = w .within; before = omega (arith, g .before, w .onward); type = g .type }
@@ -184,12 +187,12 @@ module _ {doc : List ℕ} {from name : ℕ} (w : Run white doc from name) where
     none-named l = record { onward = tt; is = rw (run-some w h, run-rest w, run-empty n l) }
 
     module _ (l : name < end) {at : ℕ} (v : Run white doc end at) where
-      pub attribute-found : {r : One} → Finds (equals name (part doc name (end - name))) doc at r → Finds attribute doc from r
+      pub attribute-equals : attribute (drop from doc) from ≡ equals name (part doc name (end - name)) (drop at doc) at
       unfolding attribute
-      attribute-found {r} c =
-          carries r (omega (arith, w .onward, n .onward, v .onward))
-          (rw (run-some w h, run-rest w, ← w .ends, run-some n l, run-rest n, run-rest v, ← n .ends, ← v .ends, run-span n))
-          c
+      attribute-equals = rw (run-some w h, run-rest w, ← w .ends, run-some n l, run-rest n, run-rest v, ← n .ends, ← v .ends, run-span n)
+
+      pub attribute-found : {r : One} → Finds (equals name (part doc name (end - name))) doc at r → Finds attribute doc from r
+      attribute-found {r} c = carries r (omega (arith, w .onward, n .onward, v .onward)) attribute-equals c
 
 pub named-before : {doc : List ℕ} {from name end at : ℕ} {tp : Bool} → length doc ≤ 1048576 → Run white doc from name → Run nameByte doc name end → Run white doc end at → tp ≡ isTpType (part doc name (end - name)) → Named doc name (end - name) tp at
 named-before s w n v e = record { small = s; inside = v .within; before = omega (arith, n .onward, v .onward); type = e }

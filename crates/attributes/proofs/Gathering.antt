@@ -3,7 +3,6 @@
 use Prim.Native.Nat.{ℕ, zero, suc, _+_, _-_, _≤_, _<_}
 use mathlib.Core.Path.{_≡_, refl, ap, _∙_}
 use mathlib.Core.List.{List, [], _∷_, _++_, map-append}
-use mathlib.Core.Option.{none}
 use borrow.Author.Needs.{needs}
 use native.Mathlib.Numerals.{add-one}
 use native.Mathlib.Omega.{arith}
@@ -13,7 +12,7 @@ use native.Mathlib.Decide.{decLt}
 use Rattle.document.specs.Tags.{Attr, absent, attribute, Gathered, gathered, tooMany, with, gather}
 use Rattle.document.specs.declared.Values.{Values}
 use Rattle.attributes.specs.One.{Fit, Finds}
-use Rattle.attributes.specs.Lookup.{blank, firstBy, valueIn, valueOf, valuesIn, PicksAll}
+use Rattle.attributes.specs.Lookup.{blank, PicksAll}
 use Rattle.attributes.specs.Outcome.{Fitted, Checkable, attrsOf, Checks, Finishes, Gathers}
 use Rattle.attributes.specs.declared.Attribute.{Attribute}
 use Rattle.attributes.specs.declared.One.{One}
@@ -33,15 +32,6 @@ module _ {doc : List ℕ} {xs : List Attribute} {n at : ℕ} {v : AttributeCheck
 
   pub finish-all : {w : Values} → v ≡ verdict.Good → PicksAll doc xs n w → Finishes doc xs n at (All at w)
   finish-all e g = let d = (rw e at c) .is in record { is = (d .0, d .1, refl, g .is) }
-
--- the values of a tag without attributes
-abbrev pub noValues : Values
-noValues = record { name = valueOf none; ty = valueOf none; value = valueOf none; access = valueOf none; direction = valueOf none; suffix = valueOf none; tp = valueOf none }
-
--- no attribute at all
-pub finish-bare : (doc : List ℕ) (xs : List Attribute) (n at : ℕ) → n ≡ 0 → Finishes doc xs n at (All at noValues)
-unfolding valuesIn valueIn firstBy
-finish-bare doc xs n at e = rw e record { is = ([], refl, refl, refl) }
 
 -- ---- the loop
 
@@ -145,4 +135,4 @@ module _ {m : ℕ} {doc : List ℕ} {from : ℕ} {xs : List Attribute} {n at : �
               let q : j ≡ n = omega arith in
               rw (q, getD-set-same xs n a blank (omega (arith, g .long))) (fit-wide (g .since) (omega arith) ((rw e at c) .onward .2))
 
-pub ruleset gathers = (finish-bare, gather-begins, gather-inside, gather-checkable, gather-ends, gather-full, gather-less, gather-more, needs)
+pub ruleset gathers = (gather-begins, gather-inside, gather-checkable, gather-ends, gather-full, gather-less, gather-more, needs)

@@ -16,6 +16,8 @@ mod few;
 mod gathered;
 mod many;
 mod names;
+mod some;
+mod starts;
 
 // An attribute: places and lengths of its name and its raw value; kind 1 the value is shown as it stands, 2 changed; whether it is a tp type.
 pub struct Attribute {
@@ -37,6 +39,19 @@ pub enum One {
 pub struct ValueEnd {
     pub end: usize,
     pub kind: u32,
+}
+
+// A name's class, 8 where there is no attribute; the place of the value, and the quote before it.
+pub struct Start {
+    pub class: usize,
+    pub value: usize,
+    pub quote: u8,
+}
+
+// A name's class, 8 where it is not one of the usual; its length.
+pub struct Known {
+    pub class: usize,
+    pub len: usize,
 }
 
 // What checking comes to: a fault's number and place, or none.

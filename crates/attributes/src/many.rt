@@ -1,36 +1,14 @@
-// A tag of more than 5 attributes: an array of 256, which is the limit.
+// A tag of more than 16 attributes: an array of 256, which is the limit.
 ghost use Prim.Native.Nat.{_≤_};
 ghost use lib.ListN.{length};
 ghost use Rattle.scan.specs.Classes.{Classes};
-ghost use Rattle.document.specs.Tags.{attribute};
-ghost use Rattle.attributes.specs.One.{Finds};
 ghost use Rattle.attributes.specs.Lookup.{KeyTable};
 ghost use Rattle.attributes.specs.Outcome.{Checkable, Finishes, Gathers};
 use crate::Attribute;
 use crate::Attrs;
 use crate::One;
-use crate::equals_at;
+use crate::attribute_at;
 use crate::gathered;
-use crate::is_tp_type;
-
-// As the usual tag's function of that name. Each has one caller, so both are compiled in line, which is worth a twentieth.
-fn attribute_at(doc: &[u8], classes: &[u8; 256], from: usize) -> One
-    requires { ⌜ (from ≤ length (now doc)) × (length (now doc) ≤ 1048576) × Classes (now classes) ⌝ }
-    ensures { λ r. ⌜ Finds attribute (now (doc .entry)) from r ⌝ }
-{
-    let start = scan::space_end(doc, classes, from);
-    if start <= from {
-        return One::Absent;
-    }
-    let name = scan::name_at(doc, classes, start);
-    let end = name.end;
-    if end <= start {
-        return One::Absent;
-    }
-    let tp = is_tp_type(doc, start, name);
-    let at = scan::space_end(doc, classes, end);
-    equals_at(doc, classes, start, end - start, tp, at)
-}
 
 // The first n of an array, which end at a place: lent as a slice.
 fn finish(doc: &[u8], attrs: [Attribute; 256], n: usize, keys: &[u8], at: usize) -> Attrs

@@ -2,3 +2,4 @@
 -- Assumes nothing.
 pub mod Bytes
 pub mod Run
+pub mod Word

@@ -1,9 +1,50 @@
 // Byte slices: the first place of a byte, whether a key stands at a place, whether two slices are equal.
 ghost use mathlib.Core.Path.{_≡_};
-ghost use Prim.Native.Nat.{_+_, _≤_};
+ghost use Prim.Native.Nat.{ℕ, _+_, _≤_, _<_};
 ghost use lib.ListN.{length, drop};
 ghost use Rattle.slices.specs.Bytes.{other, same, starts};
 ghost use Rattle.slices.specs.Run.{Run, Told, Without};
+ghost use Rattle.slices.specs.Word.{Below, Byte, Leads, Word, wordOf};
+
+// The byte at a place, as a number of 64 bits.
+fn byte(s: &[u8], at: usize) -> u64
+    requires { ⌜ at < length (now s) ⌝ }
+    ensures { λ r. ⌜ Byte (now (s .entry)) «at» r ⌝ }
+{
+    s[at] as u64
+}
+
+// The 8 bytes from a place as one number, the first the lowest.
+fn word(s: &[u8], at: usize) -> u64
+    requires { ⌜ at + 8 ≤ length (now s) ⌝ }
+    ensures { λ r. ⌜ Word (now (s .entry)) «at» r ⌝ }
+{
+    byte(s, at)
+        + byte(s, at + 1) * 0x100
+        + byte(s, at + 2) * 0x10000
+        + byte(s, at + 3) * 0x1000000
+        + byte(s, at + 4) * 0x100000000
+        + byte(s, at + 5) * 0x10000000000
+        + byte(s, at + 6) * 0x1000000000000
+        + byte(s, at + 7) * 0x100000000000000
+}
+
+// How many of the 8 bytes of a number, the lowest first, come before the first that is below n.
+fn leading(x: u64, n: u64) -> usize
+    requires { ⌜ n ≤ 128 ⌝ }
+    ensures { λ r. ⌜ ((f : ℕ → ℕ) → ((i : ℕ) → f i < 256) → x ≡ wordOf 8 f → Leads f n 8 r) ⌝ }
+{
+    let z = std::num::wrapping_sub_u64(x, n * 0x0101010101010101) & !x & 0x8080808080808080;
+    (u64::trailing_zeros(z) / 8) as usize
+}
+
+// How many of the 8 bytes from a place come before the first that is below n: 8 where none is.
+pub fn first_below(s: &[u8], at: usize, n: u64) -> usize
+    requires { ⌜ (at + 8 ≤ length (now s)) × (n ≤ 128) ⌝ }
+    ensures { λ r. ⌜ Below (now (s .entry)) «at» n r ⌝ }
+{
+    leading(word(s, at), n)
+}
 
 // Whether one of the 32 bytes from a place is b.
 fn has(s: &[u8], from: usize, b: u8) -> bool

@@ -1,4 +1,4 @@
--- `attributes::few::finish` meets its contract: a walk of its MIR, by hand. The array is copied into a local, which is lent as a slice for a lifetime that the walk makes, and `gathered::finish` is called. All that the proof knows of it is that it meets its contract.
+-- `attributes::some::finish` meets its contract: a walk of its MIR, by hand. The array is copied into a local, which is lent as a slice for a lifetime that the walk makes, and `gathered::finish` is called. All that the proof knows of it is that it meets its contract.
 -- Once the call has returned the lifetime ends, the elements come back, and with them the room of the local. Nothing is had of a parameter at exit (`stay-dropped`), since nothing is said of one.
 -- Assumes nothing.
 use mathlib.Core.Path.{_≡_, refl, sym}
@@ -61,14 +61,14 @@ use Rattle.attributes.proofs.gathered.finish as callee
 use Rattle.attributes.proofs.gathered.finish.Symbol as callee-def
 use Rattle.attributes.proofs.gathered.finish.Symbol.{name as #gathered-finish}
 use Rattle.attributes.proofs.gathered.finish.Met as callee-thm
-use Rattle.attributes.proofs.few.finish.Key.{name as #finish}
-use Rattle.attributes.proofs.few.finish as this
-use Rattle.attributes.proofs.few.finish.Statement as stated
-use Rattle.attributes.proofs.few.finish.Code as code
+use Rattle.attributes.proofs.some.finish.Key.{name as #finish}
+use Rattle.attributes.proofs.some.finish as this
+use Rattle.attributes.proofs.some.finish.Statement as stated
+use Rattle.attributes.proofs.some.finish.Code as code
 
 -- the array's length
 abbrev N : ℕ
-N = 5
+N = 16
 
 abbrev stayed : Stays (this.ended .signature .params) (this.ended .kept)
 stayed = (stay-dropped _ yes, (stay-dropped _ yes, (stay-dropped _ yes, (stay-dropped _ yes, (stay-dropped _ yes, tt)))))
