@@ -8,12 +8,12 @@ use borrow.Author.Needs.{needs}
 use native.Mathlib.Nat.{add-zero, zero-add, suc-add, mul-one, mul-add-mod-self-right}
 use native.Mathlib.Decide.{decLt}
 use native.Mathlib.Omega.{arith}
-use lib.Bits.{bitAnd, and-shr, and-mod, and-high, and-le-l, and-le-r, shifted-even, shifted-half}
+use lib.Bits.{bitAnd, bitXor, xor-block, xor-add-and, xor-self, xor-lt, and-shr, and-mod, and-high, and-le-l, and-le-r, shifted-even, shifted-half}
 use lib.Count.{trailingZeros, trailing-le}
 use lib.ListN.{getD}
 use mir.Syntax.{w64}
 use mir.Val.{Fits}
-use Rattle.slices.specs.Word.{wordOf, Byte, Word, Leads, Below}
+use Rattle.slices.specs.Word.{wordOf, Byte, Word, Leads, Below, Equal}
 
 -- ---- a number of 8 bytes, as code sums it up
 
@@ -147,4 +147,34 @@ below-of {s} {at} w g =
     let l = g (λ i. getD s (at + i) 0) (λ i. w .bytes (at + i)) (w .value) in
     record { within = l .within; above = l .above; stops = l .stops }
 
-pub ruleset worded = (word-of, zeros-fit, lead-word, below-of, needs)
+-- ---- bytes that are b: those whose exclusive or with b is 0
+
+xor-word : (k : ℕ) (f : ℕ → ℕ) (b : ℕ) → ((i : ℕ) → f i < 256) → b < 256 → bitXor (wordOf k f) (wordOf k (λ i. b)) ≡ wordOf k (λ i. bitXor (f i) b)
+unfolding wordOf
+xor-word zero f b h k = refl
+xor-word (suc n) f b h k =
+    let x = wordOf n (λ i. f (suc i)) in
+    let y = wordOf n (λ i. b) in
+    let e : f 0 + 256 * x ≡ x * 256 + f 0 = omega arith in
+    let e′ : b + 256 * y ≡ y * 256 + b = omega arith in
+    let i = xor-word n (λ i. f (suc i)) b (λ i. h (suc i)) k in
+    rw (e, e′, xor-block 8 x y (f 0) b (h 0) k, i) (omega arith)
+
+xor-none : (u v : ℕ) → bitXor u v < 1 → u ≡ v
+xor-none u v h = omega (arith, xor-add-and u v, and-le-l u v, and-le-r u v)
+
+xor-some : (u v : ℕ) → 1 ≤ bitXor u v → u ≡ v → ⊥
+xor-some u v h e =
+    let z : bitXor u v ≡ 0 = rw e (xor-self v) in
+    omega arith
+
+pub equal-of : {s : List ℕ} {at b x r : ℕ} → Word s at x → b < 256 → ((f : ℕ → ℕ) → ((i : ℕ) → f i < 256) → bitXor x (b * 72340172838076673) ≡ wordOf 8 f → Leads f 1 8 r) → Equal s at b r
+unfolding wordOf
+equal-of {s} {at} {b} {x} {r} w h g =
+    let f : ℕ → ℕ = λ i. getD s (at + i) 0 in
+    let e : b * 72340172838076673 ≡ wordOf 8 (λ i. b) = omega arith in
+    let z : bitXor x (b * 72340172838076673) ≡ wordOf 8 (λ i. bitXor (f i) b) = rw (e, w .value) (xor-word 8 f b (λ i. w .bytes (at + i)) h) in
+    let l = g (λ i. bitXor (f i) b) (λ i. xor-lt 8 (f i) b (w .bytes (at + i)) h) z in
+    record { within = l .within; others = λ i j. xor-some (f i) b (l .above i j); stops = λ j. xor-none (f r) b (l .stops j) }
+
+pub ruleset worded = (word-of, zeros-fit, lead-word, below-of, equal-of, needs)

@@ -32,3 +32,9 @@ pub record Below (s : List ℕ) (at n r : ℕ) : Type 0 where
   pub within : r ≤ 8
   pub above : (i : ℕ) → i < r → n ≤ getD s (at + i) 0
   pub stops : r < 8 → getD s (at + r) 0 < n
+
+-- of the 8 bytes from a place, r come before the first that is b
+pub record Equal (s : List ℕ) (at b r : ℕ) : Type 0 where
+  pub within : r ≤ 8
+  pub others : (i : ℕ) → i < r → getD s (at + i) 0 ≡ b → ⊥
+  pub stops : r < 8 → getD s (at + r) 0 ≡ b
