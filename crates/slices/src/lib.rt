@@ -4,7 +4,7 @@ ghost use Prim.Native.Nat.{ℕ, _+_, _≤_, _<_};
 ghost use lib.ListN.{length, drop};
 ghost use Rattle.slices.specs.Bytes.{other, same, starts};
 ghost use Rattle.slices.specs.Run.{Run, Told, Without};
-ghost use Rattle.slices.specs.Word.{Below, Byte, Equal, Leads, Word, wordOf};
+ghost use Rattle.slices.specs.Word.{Agrees, Below, Byte, Equal, Leads, Word, wordOf};
 
 // The byte at a place, as a number of 64 bits.
 fn byte(s: &[u8], at: usize) -> u64
@@ -159,4 +159,30 @@ pub fn equal(a: &[u8], b: &[u8]) -> bool
         return false;
     }
     starts_at(a, 0, b)
+}
+
+// How many bytes of two slices of one length agree, by words.
+fn agreed(a: &[u8], b: &[u8]) -> usize
+    requires { ⌜ length (now a) ≡ length (now b) ⌝ }
+    ensures { λ r. ⌜ Agrees (now (a .entry)) (now (b .entry)) r ⌝ }
+{
+    let mut i = 0;
+    while i + 8 <= b.len() {
+        if word(a, i) != word(b, i) {
+            return i;
+        }
+        i += 8;
+    }
+    i
+}
+
+// Whether two slices hold the same bytes, where they may be long: by words first.
+pub fn equal_long(a: &[u8], b: &[u8]) -> bool
+    ensures { λ r. ⌜ r ≡ same (now (a .entry)) (now (b .entry)) ⌝ }
+{
+    if a.len() != b.len() {
+        return false;
+    }
+    let at = agreed(a, b);
+    starts_at(&a[at..], 0, &b[at..])
 }
