@@ -11,6 +11,7 @@ use lib.Dec.{T}
 use lib.ListN.{length, getD}
 use Rattle.slices.specs.Bytes.{other}
 use Rattle.slices.specs.Run.{Run, Told, Without}
+use Rattle.slices.specs.Word.{Equal}
 use Rattle.slices.proofs.Runs.{Running, run-begins, run-more, run-stops, run-ends, other-false, other-true}
 
 pub told-none : {s : List ℕ} {from b : ℕ} {t : Bool} → Told s from 0 b t
@@ -46,7 +47,29 @@ without-block {s} {b} {from} {at} g h k e = record { onward = omega (arith, g .o
         let z : at + (i - at) ≡ i = omega (arith, j) in
         k .none e (i - at) (omega (arith, l, j)) (ap (λ o. getD s o 0) z ∙ x)
 
-pub ruleset skips = (without-none, without-block, needs)
+-- past the bytes of a word before b
+pub without-word : {s : List ℕ} {b from to at n : ℕ} → Without s b from at → at + 8 ≤ to → to ≤ length s → Equal s at b n → Without s b from (at + n)
+without-word {s} {b} {from} {to} {at} {n} g h h′ k = record { onward = omega (arith, g .onward); within = omega (arith, k .within); none = λ i a l x. go i a l x (decLt i at) }
+  where
+    go : (i : ℕ) → from ≤ i → i < at + n → getD s i 0 ≡ b → Dec (i < at) → ⊥
+    go i a l x (yes j) = g .none i a j x
+    go i a l x (no j) =
+        let z : at + (i - at) ≡ i = omega (arith, j) in
+        k .others (i - at) (omega (arith, l, j)) (ap (λ o. getD s o 0) z ∙ x)
+
+pub without-whole : {s : List ℕ} {b from to at n : ℕ} → Without s b from at → at + 8 ≤ to → to ≤ length s → Equal s at b n → 8 ≤ n → Without s b from (at + 8)
+without-whole {s} {b} {from} {to} {at} {n} g h h′ k l =
+    let e : n ≡ 8 = omega (arith, k .within) in
+    subst (λ o. Without s b from (at + o)) e (without-word g h h′ k)
+
+pub ruleset skips = (without-none, without-block, without-word, without-whole, needs)
+
+pub without-join : {s : List ℕ} {b from at r : ℕ} → Without s b from at → Without s b at r → Without s b from r
+without-join {s} {b} {from} {at} {r} g k = record { onward = omega (arith, g .onward, k .onward); within = k .within; none = λ i a l x. go i a l x (decLt i at) }
+  where
+    go : (i : ℕ) → from ≤ i → i < r → getD s i 0 ≡ b → Dec (i < at) → ⊥
+    go i a l x (yes j) = g .none i a j x
+    go i a l x (no j) = k .none i (omega (arith, j)) l x
 
 -- the run goes on up to there
 grown : (s : List ℕ) (b from k : ℕ) → from + k ≤ length s → ((i : ℕ) → from ≤ i → i < from + k → getD s i 0 ≡ b → ⊥) → Running (other b) s from (from + k)
@@ -64,4 +87,8 @@ without-running {s} {b} {from} {r} g =
     subst (Running (other b) s from) z
     (grown s b from (r - from) (omega (arith, g .onward, g .within)) (λ i a l. g .none i a (omega (arith, l, g .onward))))
 
-pub ruleset finds = (without-running, run-more, run-stops, run-ends, other-false, other-true, needs)
+-- a run that goes on from a place up to which it went
+pub run-join : {p : ℕ → Bool} {s : List ℕ} {from at r : ℕ} → Running p s from at → Run p s at r → Run p s from r
+run-join g n = record { ends = n .ends ∙ sym (g .left); onward = omega (arith, g .since, n .onward); within = n .within }
+
+pub ruleset finds = (without-running, without-join, run-join, run-more, run-stops, run-ends, other-false, other-true, needs)

@@ -3,17 +3,21 @@
 use Prim.Native.Nat.{ℕ, zero, suc, _+_, _-_, _*_, _/_, _%_, _^_, _≤_, _<_}
 use mathlib.Core.Path.{_≡_, refl, ap, sym, subst, _∙_}
 use mathlib.Core.List.{List}
+use mathlib.Core.Bool.{Bool}
 use mathlib.Core.Logic.{_⊎_, inl, inr}
 use borrow.Author.Needs.{needs}
 use native.Mathlib.Nat.{add-zero, zero-add, suc-add, mul-one, mul-add-mod-self-right}
 use native.Mathlib.Decide.{decLt}
 use native.Mathlib.Omega.{arith}
-use lib.Bits.{bitAnd, and-shr, and-mod, and-high, and-le-l, and-le-r, shifted-even, shifted-half}
+use lib.Bits.{bitAnd, bitXor, xor-block, xor-add-and, xor-self, xor-lt, and-shr, and-mod, and-high, and-le-l, and-le-r, shifted-even, shifted-half}
 use lib.Count.{trailingZeros, trailing-le}
-use lib.ListN.{getD}
+use lib.ListN.{length, drop, take, getD, length-drop}
+use lib.Seq.{take-all}
 use mir.Syntax.{w64}
 use mir.Val.{Fits}
-use Rattle.slices.specs.Word.{wordOf, Byte, Word, Leads, Below}
+use Rattle.slices.specs.Word.{wordOf, Byte, Word, Leads, Below, Equal, Agrees}
+use Rattle.slices.specs.Bytes.{same, starts}
+use Rattle.slices.proofs.Runs.{Matching, match-begins, match-more, same-long, same-short}
 
 -- ---- a number of 8 bytes, as code sums it up
 
@@ -147,4 +151,80 @@ below-of {s} {at} w g =
     let l = g (λ i. getD s (at + i) 0) (λ i. w .bytes (at + i)) (w .value) in
     record { within = l .within; above = l .above; stops = l .stops }
 
-pub ruleset worded = (word-of, zeros-fit, lead-word, below-of, needs)
+-- ---- bytes that are b: those whose exclusive or with b is 0
+
+xor-word : (k : ℕ) (f : ℕ → ℕ) (b : ℕ) → ((i : ℕ) → f i < 256) → b < 256 → bitXor (wordOf k f) (wordOf k (λ i. b)) ≡ wordOf k (λ i. bitXor (f i) b)
+unfolding wordOf
+xor-word zero f b h k = refl
+xor-word (suc n) f b h k =
+    let x = wordOf n (λ i. f (suc i)) in
+    let y = wordOf n (λ i. b) in
+    let e : f 0 + 256 * x ≡ x * 256 + f 0 = omega arith in
+    let e′ : b + 256 * y ≡ y * 256 + b = omega arith in
+    let i = xor-word n (λ i. f (suc i)) b (λ i. h (suc i)) k in
+    rw (e, e′, xor-block 8 x y (f 0) b (h 0) k, i) (omega arith)
+
+xor-none : (u v : ℕ) → bitXor u v < 1 → u ≡ v
+xor-none u v h = omega (arith, xor-add-and u v, and-le-l u v, and-le-r u v)
+
+xor-some : (u v : ℕ) → 1 ≤ bitXor u v → u ≡ v → ⊥
+xor-some u v h e =
+    let z : bitXor u v ≡ 0 = rw e (xor-self v) in
+    omega arith
+
+pub equal-of : {s : List ℕ} {at b x r : ℕ} → Word s at x → b < 256 → ((f : ℕ → ℕ) → ((i : ℕ) → f i < 256) → bitXor x (b * 72340172838076673) ≡ wordOf 8 f → Leads f 1 8 r) → Equal s at b r
+unfolding wordOf
+equal-of {s} {at} {b} {x} {r} w h g =
+    let f : ℕ → ℕ = λ i. getD s (at + i) 0 in
+    let e : b * 72340172838076673 ≡ wordOf 8 (λ i. b) = omega arith in
+    let z : bitXor x (b * 72340172838076673) ≡ wordOf 8 (λ i. bitXor (f i) b) = rw (e, w .value) (xor-word 8 f b (λ i. w .bytes (at + i)) h) in
+    let l = g (λ i. bitXor (f i) b) (λ i. xor-lt 8 (f i) b (w .bytes (at + i)) h) z in
+    record { within = l .within; others = λ i j. xor-some (f i) b (l .above i j); stops = λ j. xor-none (f r) b (l .stops j) }
+
+-- ---- equal numbers have equal bytes
+
+equal-bytes : (k : ℕ) (f g : ℕ → ℕ) → ((i : ℕ) → f i < 256) → ((i : ℕ) → g i < 256) → wordOf k f ≡ wordOf k g → (i : ℕ) → i < k → f i ≡ g i
+unfolding wordOf
+equal-bytes zero f g h k e i l = absurd (omega arith)
+equal-bytes (suc n) f g h k e zero l = omega (arith, h 0, k 0)
+equal-bytes (suc n) f g h k e (suc i) l =
+    let rest : wordOf n (λ i. f (suc i)) ≡ wordOf n (λ i. g (suc i)) = omega (arith, h 0, k 0) in
+    equal-bytes n (λ i. f (suc i)) (λ i. g (suc i)) (λ i. h (suc i)) (λ i. k (suc i)) rest i (omega arith)
+
+pub agrees-none : {a b : List ℕ} → Agrees a b 0
+agrees-none = record { within = omega arith; bytes = λ i l. absurd (omega (arith, l)) }
+
+pub agrees-more : {a b : List ℕ} {at x y : ℕ} → Agrees a b at → at + 8 ≤ length b → Word a at x → Word b at y → x ≡ y → Agrees a b (at + 8)
+agrees-more {a} {b} {at} {x} {y} g h v w e = record { within = h; bytes = λ i l. go i l (decLt i at) }
+  where
+    words : wordOf 8 (λ i. getD a (at + i) 0) ≡ wordOf 8 (λ i. getD b (at + i) 0)
+    words = sym (v .value) ∙ e ∙ w .value
+
+    go : (i : ℕ) → i < at + 8 → Dec (i < at) → getD a i 0 ≡ getD b i 0
+    go i l (yes j) = g .bytes i j
+    go i l (no j) =
+        let z : at + (i - at) ≡ i = omega (arith, j) in
+        let t = equal-bytes 8 (λ i. getD a (at + i) 0) (λ i. getD b (at + i) 0) (λ i. v .bytes (at + i)) (λ i. w .bytes (at + i)) words (i - at) (omega (arith, l, j)) in
+        subst (λ o. getD a o 0 ≡ getD b o 0) z t
+
+-- past what agrees, the one is the other where it begins with it
+agreeing : (a b : List ℕ) (r : ℕ) → r ≤ length b → length a ≡ length b → ((i : ℕ) → i < r → getD a i 0 ≡ getD b i 0) → Matching a 0 b r
+agreeing a b zero h e f = match-begins (omega arith) (omega arith)
+agreeing a b (suc r) h e f =
+    let z : 0 + r ≡ r = omega arith in
+    let n : r + 1 ≡ suc r = omega arith in
+    subst (Matching a 0 b) n (match-more (agreeing a b r (omega arith) e (λ i l. f i (omega (arith, l)))) h (rw z (f r (omega arith))))
+
+all-left : (l : List ℕ) (r : ℕ) → take (length l - r) (drop r l) ≡ drop r l
+all-left l r = take-all (length l - r) (drop r l) (omega (arith, length-drop r l))
+
+pub agrees-rest : {a b : List ℕ} {r : ℕ} {t : Bool} → length a ≡ length b → Agrees a b r → t ≡ starts (take (length b - r) (drop r b)) (take (length a - r) (drop r a)) → t ≡ same a b
+agrees-rest {a} {b} {r} {t} e g h =
+    let z : 0 + r ≡ r = omega arith in
+    let m : starts b a ≡ starts (drop r b) (drop (0 + r) a) = agreeing a b r (g .within) e (g .bytes) .left in
+    same-long a b t e (h ∙ rw (all-left a r, all-left b r) (sym (rw z at m)))
+
+pub ruleset worded = (word-of, zeros-fit, lead-word, below-of, equal-of, needs)
+
+-- what answers every need of a comparison by words
+pub ruleset agrees = (agrees-none, agrees-more, agrees-rest, same-short, needs)

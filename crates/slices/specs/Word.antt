@@ -3,7 +3,7 @@
 use Prim.Native.Nat.{ℕ, zero, suc, _+_, _*_, _≤_, _<_}
 use mathlib.Core.Path.{_≡_}
 use mathlib.Core.List.{List}
-use lib.ListN.{getD}
+use lib.ListN.{length, getD}
 
 -- the number of k bytes, the first the lowest
 unfoldable pub wordOf : ℕ → (ℕ → ℕ) → ℕ
@@ -32,3 +32,14 @@ pub record Below (s : List ℕ) (at n r : ℕ) : Type 0 where
   pub within : r ≤ 8
   pub above : (i : ℕ) → i < r → n ≤ getD s (at + i) 0
   pub stops : r < 8 → getD s (at + r) 0 < n
+
+-- of the 8 bytes from a place, r come before the first that is b
+pub record Equal (s : List ℕ) (at b r : ℕ) : Type 0 where
+  pub within : r ≤ 8
+  pub others : (i : ℕ) → i < r → getD s (at + i) 0 ≡ b → ⊥
+  pub stops : r < 8 → getD s (at + r) 0 ≡ b
+
+-- the first r bytes of two lists are the same
+pub record Agrees (a b : List ℕ) (r : ℕ) : Type 0 where
+  pub within : r ≤ length b
+  pub bytes : (i : ℕ) → i < r → getD a i 0 ≡ getD b i 0

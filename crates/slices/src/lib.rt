@@ -4,7 +4,7 @@ ghost use Prim.Native.Nat.{ℕ, _+_, _≤_, _<_};
 ghost use lib.ListN.{length, drop};
 ghost use Rattle.slices.specs.Bytes.{other, same, starts};
 ghost use Rattle.slices.specs.Run.{Run, Told, Without};
-ghost use Rattle.slices.specs.Word.{Below, Byte, Leads, Word, wordOf};
+ghost use Rattle.slices.specs.Word.{Agrees, Below, Byte, Equal, Leads, Word, wordOf};
 
 // The byte at a place, as a number of 64 bits.
 fn byte(s: &[u8], at: usize) -> u64
@@ -77,12 +77,36 @@ fn blocks(s: &[u8], from: usize, b: u8) -> usize
     at
 }
 
+// How many of the 8 bytes from a place come before the first that is b: 8 where none is.
+fn first_equal(s: &[u8], at: usize, b: u8) -> usize
+    requires { ⌜ at + 8 ≤ length (now s) ⌝ }
+    ensures { λ r. ⌜ Equal (now (s .entry)) «at» b r ⌝ }
+{
+    leading(word(s, at) ^ ((b as u64) * 0x0101010101010101), 1)
+}
+
+// Past words without b, up to a place, and to b where it is in one of them.
+fn by_words(s: &[u8], from: usize, to: usize, b: u8) -> usize
+    requires { ⌜ (from ≤ length (now s)) × (to ≤ length (now s)) ⌝ }
+    ensures { λ r. ⌜ Without (now (s .entry)) b from r ⌝ }
+{
+    let mut at = from;
+    while at + 8 <= to {
+        let n = first_equal(s, at, b);
+        if n < 8 {
+            return at + n;
+        }
+        at += 8;
+    }
+    at
+}
+
 // The first place of b from `from` on, or the length.
 pub fn find(s: &[u8], from: usize, b: u8) -> usize
     requires { ⌜ from ≤ length (now s) ⌝ }
     ensures { λ r. ⌜ Run (other b) (now (s .entry)) from r ⌝ }
 {
-    let mut at = blocks(s, from, b);
+    let mut at = by_words(s, blocks(s, from, b), s.len(), b);
     while at < s.len() {
         if s[at] == b {
             return at;
@@ -90,6 +114,23 @@ pub fn find(s: &[u8], from: usize, b: u8) -> usize
         at += 1;
     }
     at
+}
+
+// The same for a byte that is near as a rule: 4 words first.
+pub fn find_near(s: &[u8], from: usize, b: u8) -> usize
+    requires { ⌜ from ≤ length (now s) ⌝ }
+    ensures { λ r. ⌜ Run (other b) (now (s .entry)) from r ⌝ }
+{
+    if s.len() - from < 32 {
+        return find(s, from, b);
+    }
+    let at = by_words(s, from, from + 32, b);
+    if at < s.len() {
+        if s[at] == b {
+            return at;
+        }
+    }
+    find(s, at, b)
 }
 
 // Whether the key stands at a place.
@@ -118,4 +159,30 @@ pub fn equal(a: &[u8], b: &[u8]) -> bool
         return false;
     }
     starts_at(a, 0, b)
+}
+
+// How many bytes of two slices of one length agree, by words.
+fn agreed(a: &[u8], b: &[u8]) -> usize
+    requires { ⌜ length (now a) ≡ length (now b) ⌝ }
+    ensures { λ r. ⌜ Agrees (now (a .entry)) (now (b .entry)) r ⌝ }
+{
+    let mut i = 0;
+    while i + 8 <= b.len() {
+        if word(a, i) != word(b, i) {
+            return i;
+        }
+        i += 8;
+    }
+    i
+}
+
+// Whether two slices hold the same bytes, where they may be long: by words first.
+pub fn equal_long(a: &[u8], b: &[u8]) -> bool
+    ensures { λ r. ⌜ r ≡ same (now (a .entry)) (now (b .entry)) ⌝ }
+{
+    if a.len() != b.len() {
+        return false;
+    }
+    let at = agreed(a, b);
+    starts_at(&a[at..], 0, &b[at..])
 }

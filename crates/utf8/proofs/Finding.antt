@@ -12,6 +12,7 @@ use lib.ListN.{length, take, drop, length-drop, take-append-drop, drop-of-length
 use lib.Seq.{drop-drop, length-take-le, getD-take, getD-drop}
 use Rattle.utf8.specs.WellFormed.{sequence, illFormed}
 use Rattle.utf8.specs.Ascii.{Ascii}
+use Rattle.utf8.proofs.Ascii.{ascii-join}
 use Rattle.utf8.proofs.Texts.{Whole, whole-char, after-whole, sequence-char, sequence-none, ascii-whole}
 
 -- the search has come to a place: what it asks is what is left from there
@@ -34,8 +35,8 @@ past-ascii s at r a =
     (λ i h. let g : i < r - at = rw k at h in
     rw (getD-take (r - at) (drop at s) i 0 g, getD-drop at s i 0) (a .low (at + i) (omega arith) (omega arith)))))
 
-pub found-first : {s : List ℕ} {r : ℕ} → Ascii s 0 r → Found s r
-found-first {s} {r} a = record { left = past-ascii s 0 r a ∙ ap (λ (n : ℕ). n + illFormed (drop r s)) (omega arith); inside = a .inside }
+pub found-first : {s : List ℕ} {at r : ℕ} → Ascii s 0 at → Ascii s at r → Found s r
+found-first {s} {at} {r} b a = record { left = past-ascii s 0 r (ascii-join b a) ∙ ap (λ (n : ℕ). n + illFormed (drop r s)) (omega arith); inside = a .inside }
 
 module _ {s : List ℕ} {at : ℕ} (f : Found s at) where
   pub found-end : length s ≤ at → at ≡ illFormed s

@@ -21,6 +21,7 @@ find-spec =
     Inv-loop
     μ-loop
     (λ c κs. search finds)
+    (λ c κs. search finds)
     (λ c. search finds)
     (λ c. search finds)
     (λ c. search finds)
