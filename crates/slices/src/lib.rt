@@ -1,9 +1,9 @@
 // Byte slices: the first place of a byte, whether a key stands at a place, whether two slices are equal.
 ghost use mathlib.Core.Path.{_≡_};
-ghost use Prim.Native.Nat.{ℕ, _+_, _≤_, _<_};
+ghost use Prim.Native.Nat.{ℕ, _+_, _*_, _≤_, _<_};
 ghost use lib.ListN.{length, drop};
 ghost use Rattle.slices.specs.Bytes.{other, same, starts};
-ghost use Rattle.slices.specs.Run.{Run, Told, Without};
+ghost use Rattle.slices.specs.Run.{Run, Sought, Told, Without};
 ghost use Rattle.slices.specs.Word.{Agrees, Below, Byte, Equal, Leads, Word, wordOf};
 
 // The byte at a place, as a number of 64 bits.
@@ -85,18 +85,20 @@ fn first_equal(s: &[u8], at: usize, b: u8) -> usize
     leading(word(s, at) ^ ((b as u64) * 0x0101010101010101), 1)
 }
 
-// Past words without b, up to a place, and to b where it is in one of them.
-fn by_words(s: &[u8], from: usize, to: usize, b: u8) -> usize
-    requires { ⌜ (from ≤ length (now s)) × (to ≤ length (now s)) ⌝ }
-    ensures { λ r. ⌜ Without (now (s .entry)) b from r ⌝ }
+// Past n words without b, or to b in one of them.
+fn by_words(s: &[u8], from: usize, n: usize, b: u8) -> usize
+    requires { ⌜ from + 8 * n ≤ length (now s) ⌝ }
+    ensures { λ r. ⌜ Sought (now (s .entry)) b from (from + 8 * n) r ⌝ }
 {
     let mut at = from;
-    while at + 8 <= to {
-        let n = first_equal(s, at, b);
-        if n < 8 {
-            return at + n;
+    let mut left = n;
+    while 0 < left {
+        let k = first_equal(s, at, b);
+        if k < 8 {
+            return at + k;
         }
         at += 8;
+        left -= 1;
     }
     at
 }
@@ -106,7 +108,8 @@ pub fn find(s: &[u8], from: usize, b: u8) -> usize
     requires { ⌜ from ≤ length (now s) ⌝ }
     ensures { λ r. ⌜ Run (other b) (now (s .entry)) from r ⌝ }
 {
-    let mut at = by_words(s, blocks(s, from, b), s.len(), b);
+    let start = blocks(s, from, b);
+    let mut at = by_words(s, start, (s.len() - start) / 8, b);
     while at < s.len() {
         if s[at] == b {
             return at;
@@ -124,11 +127,9 @@ pub fn find_near(s: &[u8], from: usize, b: u8) -> usize
     if s.len() - from < 32 {
         return find(s, from, b);
     }
-    let at = by_words(s, from, from + 32, b);
-    if at < s.len() {
-        if s[at] == b {
-            return at;
-        }
+    let at = by_words(s, from, 4, b);
+    if at < from + 32 {
+        return at;
     }
     find(s, at, b)
 }

@@ -1,17 +1,14 @@
--- `slices::by_words` meets its contract: no byte up to here is b.
+-- `slices::by_words` meets its contract: no byte up to here is b, and so many words are left.
 -- Assumes nothing.
-use Prim.Native.Nat.{_-_}
-use lib.ListN.{length}
-use Rattle.slices.specs.Run.{Without}
-use Rattle.slices.proofs.Skips.{skips}
+use Rattle.slices.proofs.Skips.{Seeking, skips}
 use Rattle.slices.proofs.by_words.Statement.{statement}
 use Rattle.slices.proofs.by_words.Tie as tie
 
 abbrev Inv-loop : tie.InvT-loop
-Inv-loop s from to b at₀ at = Without s b from at
+Inv-loop s from n b at₀ left₀ at left = Seeking s b from n at left
 
 abbrev μ-loop : tie.MeasureT-loop
-μ-loop s from to b at₀ at = length s - at
+μ-loop s from n b at₀ left₀ at left = left
 
 pub by-words-spec : {M : Type 1} → statement M
 by-words-spec =
@@ -20,8 +17,8 @@ by-words-spec =
     Inv-loop
     μ-loop
     (λ c. search skips)
-    (λ c. search skips)
     (λ c κs. search skips)
+    (λ c. search skips)
     (λ c. search skips)
     (λ c. search skips)
     (λ c. search skips)

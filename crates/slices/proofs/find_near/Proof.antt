@@ -11,7 +11,6 @@ find-near-spec =
     (λ c. search finds)
     (λ c κs. search finds)
     (λ c. search finds)
-    (λ c. search finds)
     (λ c κs. search finds)
     (λ c. search finds)
     (λ c. search finds)
