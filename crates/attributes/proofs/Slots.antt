@@ -127,6 +127,9 @@ module _ {doc : List ℕ} {at : ℕ} {s : Start} (g : Starts doc at s) (b : s .c
   pub slot-within : s .value ≤ length doc
   slot-within = g .some b .within
 
+  pub slot-after : at < s .value
+  slot-after = g .some b .onward
+
   pub slot-low : s .quote ≤ 39
   slot-low = g .some b .low
 
@@ -166,9 +169,6 @@ module _ {doc : List ℕ} {at : ℕ} {s : Start} (g : Starts doc at s) (b : s .c
           );
           is = o .is ∙ rw (add-one end, l, drop-cons doc end 0 h, p, r);
         }
-
-    pub slot-less : length doc - (end + 1) < length doc - at
-    slot-less = omega (arith, g .some b .onward, slot-onward)
 
     one-shown : unescape (attrOf doc one .raw) ≡ text (attrOf doc one .raw)
     one-shown = unescape-plain _ (go (all plain (attrOf doc one .raw)) (sym (one-found .onward .2 .kind)))

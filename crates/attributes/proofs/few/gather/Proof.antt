@@ -1,9 +1,10 @@
 -- `attributes::few::gather` meets its contract: the slots hold the values of the attributes gathered.
 -- Assumes nothing.
 use Prim.Native.Nat.{_-_}
+use borrow.Author.Needs.{needs}
 use native.Mathlib.Omega.{arith}
 use lib.ListN.{length}
-use Rattle.attributes.proofs.Slots.{Slotting, slotting, slot-within, slot-onward, slot-less, slots-more}
+use Rattle.attributes.proofs.Slots.{Slotting, slotting, slot-within, slot-onward, slot-after, slots-more}
 use Rattle.attributes.proofs.few.gather.Statement.{statement}
 use Rattle.attributes.proofs.few.gather.Tie as tie
 
@@ -42,5 +43,5 @@ gather-spec =
     (λ c. search slotting)
     (λ c. search slotting)
     (λ c. omega arith)
-    (λ c. slot-less (c .before .before .before .before .before .before .start-at .ensures) (c .before .before .before .before .before .if1 .left) (c .before .before .before .before .plain-end .ensures) (c .before .before .before .if2 .left))
-    (λ c. slots-more (c .before .before .before .before .before .before .before .loop .inv) (c .before .before .before .before .before .before .start-at .ensures) (c .before .before .before .before .before .if1 .left) (c .before .before .before .before .plain-end .ensures) (c .before .before .before .if2 .left) (c .if3 .left)))
+    (λ c. omega (arith, slot-after (c .before .before .before .before .before .before .start-at .ensures) (c .before .before .before .before .before .if1 .left), slot-onward (c .before .before .before .before .before .before .start-at .ensures) (c .before .before .before .before .before .if1 .left) (c .before .before .before .before .plain-end .ensures) (c .before .before .before .if2 .left)))
+    (λ c. search (slots-more (c .before .before .before .before .before .before .before .loop .inv) (c .before .before .before .before .before .before .start-at .ensures) (c .before .before .before .before .before .if1 .left) (c .before .before .before .before .plain-end .ensures) (c .before .before .before .if2 .left), needs)))
