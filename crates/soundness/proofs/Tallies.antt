@@ -90,6 +90,9 @@ module _ {d x ws : List ℕ} {n k : ℕ} {ts : List ℕ} (g : Tallied d x ws n k
   skips : ((i : ℕ) → i < n → child i ≡ false) → Tallied d x ws n (k + 1) ts
   skips h = record { room = g .room; is = λ i l. rw add-one (kept i l (h i l)) }
 
+  pub count-room : {p : ℕ} → (p ≡ 0 → ⊥) → p ≤ n → p - 1 < length ts
+  count-room e l = omega (arith, g .room)
+
   module _ {a : ℕ} (w : Word ws k 0 a) where
     pub count-kind : (a ≡ kinds.member → ⊥) → Tallied d x ws n (k + 1) ts
     count-kind e = skips (λ i l. rw (← word-in w, ne-eqb a kinds.member e))
@@ -103,9 +106,6 @@ module _ {d x ws : List ℕ} {n k : ℕ} {ts : List ℕ} (g : Tallied d x ws n k
 
       pub count-past : n < p → Tallied d x ws n (k + 1) ts
       count-past e = skips (λ i l. other i (λ z. omega arith))
-
-      pub count-room : (p ≡ 0 → ⊥) → p ≤ n → p - 1 < length ts
-      count-room e l = omega (arith, g .room)
 
       pub count-one : {r : ℕ} → a ≡ kinds.member → (p ≡ 0 → ⊥) → p ≤ n → More d x ws k (getD ts (p - 1) 0) r → Tallied d x ws n (k + 1) (set ts (p - 1) r)
       count-one {r} e f l m = record {

@@ -1,6 +1,6 @@
 // Whether a part of a buffer is UTF-8. In a beginning that is known to be UTF-8 the bytes at its two ends decide.
 ghost use mathlib.Core.Path.{_≡_};
-ghost use Prim.Native.Nat.{_+_, _≤_};
+ghost use Prim.Native.Nat.{_+_, _-_, _≤_, _<_};
 ghost use lib.ListN.{length, take, drop};
 ghost use Rattle.utf8.specs.WellFormed.{wellFormed};
 ghost use Rattle.utf8.specs.Trim.{Start};
@@ -21,6 +21,17 @@ fn is_edge(s: &[u8], u: usize, at: usize) -> bool
     191 < b
 }
 
+// Whether the bytes from a place up to another are UTF-8, by all of them; one byte is if it is below 128.
+fn is_checked(s: &[u8], from: usize, end: usize) -> bool
+    requires { ⌜ from < end ⌝ ∗ ⌜ end ≤ length (now s) ⌝ }
+    ensures { λ r. ⌜ r ≡ wellFormed (take (end - from) (drop from (now (s .entry)))) ⌝ }
+{
+    if end - from == 1 {
+        return s[from] < 128;
+    }
+    utf8::ill_formed(&s[from..end]) == end - from
+}
+
 // Whether `len` bytes from a place are UTF-8, of a buffer whose first u bytes are.
 pub fn is_formed(s: &[u8], u: usize, from: usize, len: usize) -> bool
     requires { ⌜ Start (now s) u ⌝ ∗ ⌜ from + len ≤ length (now s) ⌝ }
@@ -31,7 +42,7 @@ pub fn is_formed(s: &[u8], u: usize, from: usize, len: usize) -> bool
     }
     let end = from + len;
     if u < end {
-        return utf8::ill_formed(&s[from..end]) == end - from;
+        return is_checked(s, from, end);
     }
     if !is_edge(s, u, from) {
         return false;

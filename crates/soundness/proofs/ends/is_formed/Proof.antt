@@ -10,11 +10,7 @@ is-formed-spec =
     (tie.spec
     (λ c. search parts)
     (λ c. search parts)
-    (λ c. search parts)
-    (λ c. search parts)
-    (λ c. search parts)
     (λ c κs. search parts)
-    (λ c. search parts)
     (λ c. search parts)
     (λ c κs. search parts)
     (λ c. search parts)
