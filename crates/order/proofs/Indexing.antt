@@ -1,0 +1,2 @@
+-- Laws of the index of names.
+-- Assumes nothing.
