@@ -1,5 +1,6 @@
 // An index of type definitions by a hash of their names, and looking names up in it. A word for each bucket stands for its first row, a word
-// for each definition for the next row of its bucket: the row plus one, 0 for none. Each chain of rows ascends.
+// for each definition for the next row of its bucket: the row plus one in the low 19 bits, the first 13 bits of its name's hash in the others;
+// 0 for none. Each chain of rows ascends. The bits of the hash spare most looks at rows of other names.
 use super::counts;
 use super::definitions;
 use document::kinds;
@@ -7,8 +8,8 @@ ghost use Prim.Native.Nat.{_+_, _*_, _≤_, _<_};
 ghost use mathlib.Core.Path.{_≡_};
 ghost use lib.ListN.{length};
 ghost use Rattle.items.specs.Words.{rowsShown};
-ghost use Rattle.order.specs.Steps.{Held, FirstNamed, FirstElement, Named, Target, IsUndefined, CountsUndefined};
-ghost use Rattle.order.specs.Index.{mixed, HashIs, BucketIs, BucketAt, RowOf, IndexedFrom, Indexed, Built};
+ghost use Rattle.order.specs.Steps.{Held, HasName, FirstNamed, FirstElement, Named, Target, IsUndefined, CountsUndefined};
+ghost use Rattle.order.specs.Index.{mixed, HashIs, HashAt, Spread, WordIs, RowOf, Tagged, IndexedFrom, Indexed, Built};
 
 // The hash with one more byte.
 fn mix(h: u32, b: u8) -> u32
@@ -30,29 +31,28 @@ fn hash(s: &[u8]) -> u32
     h
 }
 
-// The bucket of a name, of so many.
-fn bucket(s: &[u8], buckets: usize) -> usize
-    requires { ⌜ 0 < buckets ⌝ }
-    ensures { λ r. ⌜ BucketIs (now (s .entry)) buckets r ⌝ }
+// The hash of the name of row i.
+fn hash_at<'a>(document: &'a [u8], text: &'a [u8], rows: &[u32], i: usize) -> u32
+    requires { ⌜ i * 16 + 16 ≤ length (now rows) ⌝ }
+    ensures { λ r. ⌜ HashAt (now (document .entry)) (now (text .entry)) (now (rows .entry)) i r ⌝ }
 {
-    hash(s) as usize % buckets
+    hash(tables::lookup(document, text, items::triple(rows, i, 2)))
 }
 
-// The bucket of the name of row i.
-fn bucket_at<'a>(
-    document: &'a [u8],
-    text: &'a [u8],
-    rows: &[u32],
-    i: usize,
-    buckets: usize,
-) -> usize
-    requires { ⌜ i * 16 + 16 ≤ length (now rows) ⌝ ∗ ⌜ 0 < buckets ⌝ }
-    ensures { λ r. ⌜ BucketAt (now (document .entry)) (now (text .entry)) (now (rows .entry)) i buckets r ⌝ }
+// The bucket of a hash, of so many.
+fn bucket(f: u32, buckets: usize) -> usize
+    requires { ⌜ 0 < buckets ⌝ }
+    ensures { λ r. ⌜ Spread f buckets r ⌝ }
 {
-    bucket(
-        tables::lookup(document, text, items::triple(rows, i, 2)),
-        buckets,
-    )
+    f as usize % buckets
+}
+
+// The word for row k, whose name has hash f.
+fn word_for(k: usize, f: u32) -> u32
+    requires { ⌜ k < 262144 ⌝ }
+    ensures { λ r. ⌜ WordIs k f r ⌝ }
+{
+    k as u32 + 1 + f / 524288 * 524288
 }
 
 // Puts row k before the rows of its bucket, if it is a type definition.
@@ -69,9 +69,10 @@ fn enter<'a>(
     ensures { λ r. ⌜ Built (now (document .entry)) (now (text .entry)) (now (rows .entry)) n k (now (heads .entry)) (now (work .entry)) (now (heads .exit)) (now (work .exit)) ⌝ }
 {
     if definitions::is_definition(document, text, rows, k) {
-        let h = bucket_at(document, text, rows, k, heads.len());
+        let f = hash_at(document, text, rows, k);
+        let h = bucket(f, heads.len());
         work[k] = heads[h];
-        heads[h] = k as u32 + 1;
+        heads[h] = word_for(k, f);
         return;
     }
 }
@@ -100,10 +101,30 @@ pub fn build<'a>(
 fn row_of(word: u32, n: usize) -> usize
     ensures { λ r. ⌜ RowOf word n r ⌝ }
 {
-    if word == 0 {
+    let row = word as usize % 524288;
+    if row == 0 {
         return n;
     }
-    word as usize - 1
+    row - 1
+}
+
+// Whether row k is a type definition of a name, of hash f: the word for the row tells most others.
+fn is_named<'a>(
+    document: &'a [u8],
+    text: &'a [u8],
+    rows: &[u32],
+    k: usize,
+    word: u32,
+    f: u32,
+    name: &[u8],
+) -> bool
+    requires { ⌜ k * 16 + 16 ≤ length (now rows) ⌝ ∗ ⌜ Tagged (now document) (now text) (now rows) k word ⌝ ∗ ⌜ HashIs (now name) f ⌝ }
+    ensures { λ r. ⌜ HasName (now (document .entry)) (now (text .entry)) (now (rows .entry)) k (now (name .entry)) r ⌝ }
+{
+    if word / 524288 != f / 524288 {
+        return false;
+    }
+    definitions::has_name(document, text, rows, k, name)
 }
 
 // The first of n rows that is a type definition of a name, or n: along the rows of the name's bucket.
@@ -119,13 +140,16 @@ fn first_named<'a>(
     requires { ⌜ n * 16 ≤ length (now rows) ⌝ ∗ ⌜ Indexed (now document) (now text) (now rows) n (now heads) (now work) ⌝ }
     ensures { λ r. ⌜ FirstNamed (rowsShown (now (document .entry)) (now (text .entry)) (now (rows .entry)) n) (now (name .entry)) n r ⌝ }
 {
-    let h = bucket(name, heads.len());
-    let mut k = row_of(heads[h], n);
+    let f = hash(name);
+    let h = bucket(f, heads.len());
+    let mut word = heads[h];
+    let mut k = row_of(word, n);
     while k < n {
-        if definitions::has_name(document, text, rows, k, name) {
+        if is_named(document, text, rows, k, word, f, name) {
             return k;
         }
-        k = row_of(work[k], n);
+        word = work[k];
+        k = row_of(word, n);
     }
     n
 }
