@@ -53,7 +53,7 @@ module _ (uses : ℕ → ℕ → Bool) (rows : List ℕ) (listed : (i j : ℕ) �
         let a = here (c r) (z .0) in
         let e : getD out (c r) 0 ≡ r = z .1 in
         let before : (j : ℕ) → uses r j ≡ true → c j < k = λ j u.
-            below (c j) k (λ o. o) (λ o. clash (h .from j (listed r j u) o) (f j u)) in
+        below (c j) k (λ o. o) (λ o. clash (h .from j (listed r j u) o) (f j u)) in
         below k (c r)
         (λ o. let y = a .run k (a .ready k (rw (sym e) at before)) o in omega (arith, y, e))
         (λ o. let y : c r ≡ k = omega (arith, q .1) in let x : getD out k 0 ≡ r = rw y at e in omega (arith, x))
@@ -69,10 +69,12 @@ module _ (uses : ℕ → ℕ → Bool) (rows : List ℕ) (listed : (i j : ℕ) �
     next = record {
       to = λ r m.
           let w = without-among (getD out k 0) r left m in
-          let q = h .to r (w .0) in
-          (q .0, below k (c r) (λ o. omega arith) (λ o.
-          let y : c r ≡ k = omega (arith, q .1) in
-          absurd (w .1 (sym (stands r (q .0) .1) ∙ ap (λ (z : ℕ). getD out z 0) y))));
+          let q = h .to r (w .0) in (
+            q .0,
+            below k (c r) (λ o. omega arith) (λ o.
+                let y : c r ≡ k = omega (arith, q .1) in
+                absurd (w .1 (sym (stands r (q .0) .1) ∙ ap (λ (z : ℕ). getD out z 0) y))),
+          );
       from = λ r m o. among-without (getD out k 0) r left (h .from r m (omega arith)) (λ e.
           omega (arith, here k l .numbered, ap c e, o));
     }
@@ -83,7 +85,7 @@ module _ (uses : ℕ → ℕ → Bool) (rows : List ℕ) (listed : (i j : ℕ) �
   gives (suc m) k e left h =
       let o : k < length out = omega arith in
       let g : Picked uses left (getD out k 0) × Gives uses (without (getD out k 0) left) (take m (drop (suc k) out)) =
-          (picked k (omega arith) left h, gives m (suc k) (omega arith) (without (getD out k 0) left) (next k (omega arith) left h)) in
+      (picked k (omega arith) left h, gives m (suc k) (omega arith) (without (getD out k 0) left) (next k (omega arith) left h)) in
       rw (drop-cons out k 0 o) g
 
   pub places-order : Ascends rows → order uses rows ≡ take count out

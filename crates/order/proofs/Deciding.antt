@@ -88,14 +88,14 @@ pub ruleset certainties = (certain-never, certain-short, certain-order, needs)
 
 -- ---- the answer
 
-module _ {t : List Row} {out out′ : List ℕ} {c : ℕ} (k : CountsDefinitions t c) (f : Certain t out c) where
+module _ {t : List Row} {out out′ : List ℕ} {c : ℕ} {b : Bool} (k : CountsDefinitions t c) (f : IsCertain t out c b) (e : not b ≡ false) where
   pub finish-none : {r : Order} → length out < c → Says (wrong 18 c) (length out) out′ r → OrdersSound t (length out) out′ r
-  finish-none h s = record { says = rw (no-circle (length out) t (f .free), ← k .is, lt-ltb (length out) c h) s }
+  finish-none h s = record { says = rw (no-circle (length out) t (f .is (not-false b e) .free), ← k .is, lt-ltb (length out) c h) s }
 
   pub finish-all : {u : ℕ} → c ≤ length out → CountsUndefined t u → Wiped c out out′ → OrdersSound t (length out) out′ (Ordered c u)
   finish-all h v z =
-      let g : GivenOut t (replicate 262144 0) out c = record { stands = f .order h; marked = λ i q. absurd (q (blank-zeros .zeros i)); long = blank-zeros .long } in
-      record { says = finish-fits h v z .says g (f .free) }
+      let g : GivenOut t (replicate 262144 0) out c = record { stands = f .is (not-false b e) .order h; marked = λ i q. absurd (q (blank-zeros .zeros i)); long = blank-zeros .long } in
+      record { says = finish-fits h v z .says g (f .is (not-false b e) .free) }
 
 pub ruleset certain-finish = (finish-none, finish-all, needs)
 
@@ -105,7 +105,4 @@ circled-answer {t} {p = p} {room = room} f e s = record { says = rw (at-circle r
 pub kept-room : {t : List Row} {room room′ : ℕ} {out : List ℕ} {r : Order} → OrdersSound t room′ out r → room′ ≡ room → OrdersSound t room out r
 kept-room s e = rw e at s
 
-pub certain-is : {t : List Row} {out : List ℕ} {count : ℕ} {b : Bool} → IsCertain t out count b → b ≡ true → Certain t out count
-certain-is f e = f .is e
-
-pub ruleset decides = (circled-answer, certain-is, kept-room, needs)
+pub ruleset decides = (circled-answer, kept-room, needs)

@@ -11,7 +11,8 @@ use lib.ListN.{length, getD, set, length-set, List·getD-eq-default}
 use lib.Seq.{getD-set-other}
 use Rattle.tables.specs.Table.{Wiped, cleared}
 use Rattle.order.specs.Steps.{Held}
-use Rattle.order.specs.Certificate.{Wide, Got, Kept, memberOf, MemberOf, Looked, runOf, RunIs}
+use Rattle.order.specs.Index.{IndexedFrom}
+use Rattle.order.specs.Certificate.{Wide, Got, Kept, memberOf, MemberOf, runOf, RunIs}
 
 -- ---- a word
 
@@ -54,10 +55,16 @@ row-held h l = omega (arith, h .held)
 
 pub ruleset linked = (kept-all, kept-two, row-held, needs)
 
-pub looked-kept : {d x ws heads work work′ : List ℕ} {n : ℕ} → Looked d x ws n heads work → Kept n work work′ → Looked d x ws n heads work′
-looked-kept l k = record { held = omega (arith, l .held, k .long) }
+pub indexed-kept : {d x ws heads work work′ : List ℕ} {n : ℕ} → IndexedFrom d x ws n 0 heads work → Kept n work work′ → IndexedFrom d x ws n 0 heads work′
+indexed-kept l k = record {
+  first = l .first;
+  next = λ j a b e. k .below j b ∙ l .next j a b e;
+  some = l .some;
+  held = omega (arith, l .held, k .long);
+  few = l .few;
+}
 
-pub ruleset linking = (looked-kept, needs)
+pub ruleset linking = (indexed-kept, needs)
 
 cleared-length : (n : ℕ) (l : List ℕ) → length (cleared n l) ≡ length l
 cleared-length n [] = refl
@@ -70,9 +77,9 @@ cleared-below zero j (a ∷ l) h = absurd (omega arith)
 cleared-below (suc n) zero (a ∷ l) h = refl
 cleared-below (suc n) (suc j) (a ∷ l) h = cleared-below n j l (omega arith)
 
-pub looked-cleared : {d x ws heads work work′ : List ℕ} {n : ℕ} → Looked d x ws n heads work → Wiped n work work′ → Looked d x ws n heads work′
-looked-cleared {work = work} {work′ = work′} {n = n} l z =
-    looked-kept l record {
+pub indexed-cleared : {d x ws heads work work′ : List ℕ} {n : ℕ} → IndexedFrom d x ws n 0 heads work → Wiped n work work′ → IndexedFrom d x ws n 0 heads work′
+indexed-cleared {work = work} {work′ = work′} {n = n} l z =
+    indexed-kept l record {
       long = ap length (z .is) ∙ cleared-length n work;
       below = λ j h. ap (λ (l : List ℕ). getD l j 0) (z .is) ∙ cleared-below n j work h;
     }
@@ -80,7 +87,7 @@ looked-cleared {work = work} {work′ = work′} {n = n} l z =
 pub held-few : {ws : List ℕ} {n : ℕ} → Held ws n → n ≤ 262144
 held-few h = h .few
 
-pub ruleset candidates = (looked-cleared, held-few, needs)
+pub ruleset candidates = (indexed-cleared, held-few, needs)
 
 -- ---- runs
 

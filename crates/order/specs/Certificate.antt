@@ -43,10 +43,6 @@ pub record MemberOf (e r : ℕ) : Type 0 where
 pub record LessOf (e : ℕ) (r : Bool) : Type 0 where
   pub is : r ≡ eqb (e % 2) 0
 
--- names can be looked up
-pub record Looked (d x ws : List ℕ) (n : ℕ) (heads work : List ℕ) : Type 0 where
-  pub held : n ≤ length work
-
 -- ---- numbers
 
 abbrev pub number : ℕ → List ℕ → ℕ → ℕ

@@ -5,13 +5,15 @@
 // come after its own in the lists that these are in, and then work[n + r] is where the row's run begins.
 use super::certificate;
 use super::definitions;
+use super::index;
 use super::words;
 use document::kinds;
 ghost use mathlib.Core.Path.{_≡_};
 ghost use Prim.Native.Nat.{_+_, _*_, _≤_, _<_};
 ghost use lib.ListN.{length};
 ghost use Rattle.order.specs.Steps.{Held};
-ghost use Rattle.order.specs.Certificate.{Kept, Looked};
+ghost use Rattle.order.specs.Certificate.{Kept};
+ghost use Rattle.order.specs.Index.{Indexed};
 
 // ---- rows that are ready: a bit each, and bits for words that are not 0
 
@@ -94,7 +96,7 @@ fn link_member<'a>(
     work: &mut [u32],
     m: usize,
 )
-    requires { ⌜ Held (now rows) n ⌝ ∗ ⌜ m < n ⌝ ∗ ⌜ Looked (now document) (now text) (now rows) n (now heads) (now work) ⌝ }
+    requires { ⌜ Held (now rows) n ⌝ ∗ ⌜ m < n ⌝ ∗ ⌜ Indexed (now document) (now text) (now rows) n (now heads) (now work) ⌝ }
     ensures { λ r. ⌜ Kept n (now (work .entry)) (now (work .exit)) ⌝ }
 {
     if items::word(rows, m, 0) != kinds::MEMBER {
@@ -104,8 +106,8 @@ fn link_member<'a>(
     if n <= i {
         return;
     }
-    let whole = certificate::target(document, text, rows, n, heads, work, false, m);
-    let less = certificate::target(document, text, rows, n, heads, work, true, m);
+    let whole = index::find_target(document, text, rows, n, heads, work, false, m);
+    let less = index::find_target(document, text, rows, n, heads, work, true, m);
     link(work, n, i, whole, m + m + 1);
     link(work, n, i, less, m + m + 2);
 }
@@ -119,7 +121,7 @@ fn link_all<'a>(
     heads: &[u32],
     work: &mut [u32],
 )
-    requires { ⌜ Held (now rows) n ⌝ ∗ ⌜ Looked (now document) (now text) (now rows) n (now heads) (now work) ⌝ }
+    requires { ⌜ Held (now rows) n ⌝ ∗ ⌜ Indexed (now document) (now text) (now rows) n (now heads) (now work) ⌝ }
 {
     let mut m = 0;
     while m < n {
@@ -297,7 +299,7 @@ pub fn order<'a>(
     work: &mut [u32],
     out: &mut [u32],
 ) -> usize
-    requires { ⌜ Held (now rows) n ⌝ ∗ ⌜ Looked (now document) (now text) (now rows) n (now heads) (now work) ⌝ }
+    requires { ⌜ Held (now rows) n ⌝ ∗ ⌜ Indexed (now document) (now text) (now rows) n (now heads) (now work) ⌝ }
 {
     let mut ready: [u64; 4161] = [0; 4161];
     tables::clear_words(work, n);

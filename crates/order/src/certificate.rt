@@ -3,43 +3,15 @@
 // order the one that the row waited for last, 0 for none; then work[n + m] of that edge's member m is where the run of smaller rows begins
 // that stands before row r.
 use super::definitions;
+use super::index;
 use super::words;
 use document::kinds;
 ghost use Prim.Native.Nat.{_+_, _*_, _≤_, _<_};
 ghost use lib.ListN.{length};
 ghost use Rattle.items.specs.Words.{rowsShown};
-ghost use Rattle.order.specs.Steps.{Held, Target};
-ghost use Rattle.order.specs.Certificate.{Looked, TargetFalls, RowFalls, Monotone, Follows, IsCircle, RunIs, Runs, Above, ReadyFrom, IsNext, PlacedBefore, IsAscending, IsPlaced, ArePlaced, IsOrder};
-
-// Makes names ready to be looked up.
-pub fn build<'a>(
-    document: &'a [u8],
-    text: &'a [u8],
-    rows: &[u32],
-    n: usize,
-    heads: &mut [u32],
-    work: &mut [u32],
-)
-    requires { ⌜ Held (now rows) n ⌝ ∗ ⌜ 0 < length (now heads) ⌝ ∗ ⌜ n ≤ length (now work) ⌝ }
-    ensures { λ r. ⌜ Looked (now (document .entry)) (now (text .entry)) (now (rows .entry)) n (now (heads .exit)) (now (work .exit)) ⌝ }
-{}
-
-// The row that a member's tp type names as it is, or less the `[]` at its end; or n.
-pub fn target<'a>(
-    document: &'a [u8],
-    text: &'a [u8],
-    rows: &[u32],
-    n: usize,
-    heads: &[u32],
-    work: &[u32],
-    less: bool,
-    m: usize,
-) -> usize
-    requires { ⌜ n * 16 ≤ length (now rows) ⌝ ∗ ⌜ m * 16 + 16 ≤ length (now rows) ⌝ ∗ ⌜ Looked (now document) (now text) (now rows) n (now heads) (now work) ⌝ }
-    ensures { λ r. ⌜ Target (now (document .entry)) (now (text .entry)) (now (rows .entry)) n less m r ⌝ }
-{
-    definitions::find_target(document, text, rows, n, less, m)
-}
+ghost use Rattle.order.specs.Steps.{Held};
+ghost use Rattle.order.specs.Index.{Indexed};
+ghost use Rattle.order.specs.Certificate.{TargetFalls, RowFalls, Monotone, Follows, IsCircle, RunIs, Runs, Above, ReadyFrom, IsNext, PlacedBefore, IsAscending, IsPlaced, ArePlaced, IsOrder};
 
 // ---- numbers
 
@@ -56,10 +28,10 @@ fn falls<'a>(
     less: bool,
     m: usize,
 ) -> bool
-    requires { ⌜ Held (now rows) n ⌝ ∗ ⌜ Looked (now document) (now text) (now rows) n (now heads) (now work) ⌝ ∗ ⌜ i < n ⌝ ∗ ⌜ m < n ⌝ }
+    requires { ⌜ Held (now rows) n ⌝ ∗ ⌜ Indexed (now document) (now text) (now rows) n (now heads) (now work) ⌝ ∗ ⌜ i < n ⌝ ∗ ⌜ m < n ⌝ }
     ensures { λ r. ⌜ TargetFalls (now (document .entry)) (now (text .entry)) (now (rows .entry)) n (now (work .entry)) p i less m r ⌝ }
 {
-    let j = target(document, text, rows, n, heads, work, less, m);
+    let j = index::find_target(document, text, rows, n, heads, work, less, m);
     if n <= j {
         return true;
     }
@@ -85,7 +57,7 @@ fn row_falls<'a>(
     p: usize,
     m: usize,
 ) -> bool
-    requires { ⌜ Held (now rows) n ⌝ ∗ ⌜ Looked (now document) (now text) (now rows) n (now heads) (now work) ⌝ ∗ ⌜ m < n ⌝ }
+    requires { ⌜ Held (now rows) n ⌝ ∗ ⌜ Indexed (now document) (now text) (now rows) n (now heads) (now work) ⌝ ∗ ⌜ m < n ⌝ }
     ensures { λ r. ⌜ RowFalls (now (document .entry)) (now (text .entry)) (now (rows .entry)) n (now (work .entry)) p m r ⌝ }
 {
     if items::word(rows, m, 0) != kinds::MEMBER {
@@ -114,7 +86,7 @@ pub fn is_monotone<'a>(
     work: &[u32],
     p: usize,
 ) -> bool
-    requires { ⌜ Held (now rows) n ⌝ ∗ ⌜ Looked (now document) (now text) (now rows) n (now heads) (now work) ⌝ }
+    requires { ⌜ Held (now rows) n ⌝ ∗ ⌜ Indexed (now document) (now text) (now rows) n (now heads) (now work) ⌝ }
     ensures { λ r. ⌜ Monotone (now (document .entry)) (now (text .entry)) (now (rows .entry)) n (now (work .entry)) p r ⌝ }
 {
     let mut m = 0;
@@ -139,7 +111,7 @@ fn follow<'a>(
     work: &[u32],
     r: usize,
 ) -> usize
-    requires { ⌜ Held (now rows) n ⌝ ∗ ⌜ Looked (now document) (now text) (now rows) n (now heads) (now work) ⌝ ∗ ⌜ r < n ⌝ }
+    requires { ⌜ Held (now rows) n ⌝ ∗ ⌜ Indexed (now document) (now text) (now rows) n (now heads) (now work) ⌝ ∗ ⌜ r < n ⌝ }
     ensures { λ j. ⌜ Follows (rowsShown (now (document .entry)) (now (text .entry)) (now (rows .entry)) n) n r j ⌝ }
 {
     let e = words::get(work, n + n + r);
@@ -150,7 +122,7 @@ fn follow<'a>(
     if !definitions::is_member(document, text, rows, r, m) {
         return n;
     }
-    target(document, text, rows, n, heads, work, words::is_less(e), m)
+    index::find_target(document, text, rows, n, heads, work, words::is_less(e), m)
 }
 
 // Whether the edges lead from row p to itself.
@@ -163,7 +135,7 @@ pub fn is_circle<'a>(
     work: &[u32],
     p: usize,
 ) -> bool
-    requires { ⌜ Held (now rows) n ⌝ ∗ ⌜ Looked (now document) (now text) (now rows) n (now heads) (now work) ⌝ ∗ ⌜ p < n ⌝ }
+    requires { ⌜ Held (now rows) n ⌝ ∗ ⌜ Indexed (now document) (now text) (now rows) n (now heads) (now work) ⌝ ∗ ⌜ p < n ⌝ }
     ensures { λ r. ⌜ IsCircle (rowsShown (now (document .entry)) (now (text .entry)) (now (rows .entry)) n) p r ⌝ }
 {
     let mut r = p;
@@ -225,7 +197,7 @@ fn ready_from<'a>(
     work: &[u32],
     r: usize,
 ) -> usize
-    requires { ⌜ Held (now rows) n ⌝ ∗ ⌜ Looked (now document) (now text) (now rows) n (now heads) (now work) ⌝ ∗ ⌜ r < n ⌝ }
+    requires { ⌜ Held (now rows) n ⌝ ∗ ⌜ Indexed (now document) (now text) (now rows) n (now heads) (now work) ⌝ ∗ ⌜ r < n ⌝ }
     ensures { λ s. ⌜ ReadyFrom (rowsShown (now (document .entry)) (now (text .entry)) (now (rows .entry)) n) n (now (work .entry)) r s ⌝ }
 {
     let j = follow(document, text, rows, n, heads, work, r);
@@ -246,7 +218,7 @@ fn is_next<'a>(
     out: &[u32],
     k: usize,
 ) -> bool
-    requires { ⌜ Held (now rows) n ⌝ ∗ ⌜ Looked (now document) (now text) (now rows) n (now heads) (now work) ⌝ ∗ ⌜ PlacedBefore (rowsShown (now document) (now text) (now rows) n) n (now work) (now out) k ⌝ }
+    requires { ⌜ Held (now rows) n ⌝ ∗ ⌜ Indexed (now document) (now text) (now rows) n (now heads) (now work) ⌝ ∗ ⌜ PlacedBefore (rowsShown (now document) (now text) (now rows) n) n (now work) (now out) k ⌝ }
     ensures { λ r. ⌜ IsNext (rowsShown (now (document .entry)) (now (text .entry)) (now (rows .entry)) n) n (now (work .entry)) (now (out .entry)) k r ⌝ }
 {
     let r = words::get(out, k);
@@ -277,7 +249,7 @@ fn is_ascending<'a>(
     out: &[u32],
     count: usize,
 ) -> bool
-    requires { ⌜ Held (now rows) n ⌝ ∗ ⌜ Looked (now document) (now text) (now rows) n (now heads) (now work) ⌝ }
+    requires { ⌜ Held (now rows) n ⌝ ∗ ⌜ Indexed (now document) (now text) (now rows) n (now heads) (now work) ⌝ }
     ensures { λ r. ⌜ IsAscending (rowsShown (now (document .entry)) (now (text .entry)) (now (rows .entry)) n) n (now (work .entry)) (now (out .entry)) count r ⌝ }
 {
     let mut k = 0;
@@ -348,7 +320,7 @@ pub fn is_order<'a>(
     out: &[u32],
     count: usize,
 ) -> bool
-    requires { ⌜ Held (now rows) n ⌝ ∗ ⌜ Looked (now document) (now text) (now rows) n (now heads) (now work) ⌝ }
+    requires { ⌜ Held (now rows) n ⌝ ∗ ⌜ Indexed (now document) (now text) (now rows) n (now heads) (now work) ⌝ }
     ensures { λ r. ⌜ IsOrder (rowsShown (now (document .entry)) (now (text .entry)) (now (rows .entry)) n) n (now (work .entry)) (now (out .entry)) count r ⌝ }
 {
     if !are_placed(document, text, rows, n, work, out, count) {

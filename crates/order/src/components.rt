@@ -183,7 +183,28 @@ fn search(rows: &[u32], n: usize, work: &mut [u32], w: Walk, r: usize) -> Walk
     s.walk
 }
 
-// Searches from each definition that is not numbered.
+// Searches from row r, if it is a definition that is not numbered.
+fn search_row<'a>(
+    document: &'a [u8],
+    text: &'a [u8],
+    rows: &[u32],
+    n: usize,
+    work: &mut [u32],
+    w: Walk,
+    r: usize,
+) -> Walk
+    requires { ⌜ Held (now rows) n ⌝ ∗ ⌜ r < n ⌝ }
+{
+    if !definitions::is_definition(document, text, rows, r) {
+        return w;
+    }
+    if words::get(work, r) != 0 {
+        return w;
+    }
+    search(rows, n, work, w, r)
+}
+
+// The same for all rows.
 fn search_all<'a>(document: &'a [u8], text: &'a [u8], rows: &[u32], n: usize, work: &mut [u32])
     requires { ⌜ Held (now rows) n ⌝ }
 {
@@ -196,11 +217,7 @@ fn search_all<'a>(document: &'a [u8], text: &'a [u8], rows: &[u32], n: usize, wo
     };
     let mut r = 0;
     while r < n {
-        if definitions::is_definition(document, text, rows, r) {
-            if words::get(work, r) == 0 {
-                w = search(rows, n, work, w, r);
-            }
-        }
+        w = search_row(document, text, rows, n, work, w, r);
         r += 1;
     }
 }
