@@ -67,8 +67,6 @@ tag-of : (s : List ℕ) {f : ℕ} → f ≡ hashOf s → f / 524288 ≡ tagOf s
 unfolding tagOf
 tag-of s e = ap (λ (z : ℕ). z / 524288) e
 
--- ---- words
-
 -- the two parts of a word
 low-bits : (a t : ℕ) → a < 524288 → (a + t * 524288) % 524288 ≡ a
 low-bits a t l = omega arith
@@ -76,18 +74,24 @@ low-bits a t l = omega arith
 high-bits : (a t : ℕ) → a < 524288 → (a + t * 524288) / 524288 ≡ t
 high-bits a t l = omega arith
 
+-- ---- names
+
 some-none : {A : Type 0} {i : ℕ} → _≡_ {A = Option ℕ} (some i) none → A
 some-none e = let z : _≡_ {A = ℕ} 0 1 = cc in absurd (omega arith)
 
 joined : (a b : Bool) → a ≡ true → b ≡ true → a && b ≡ true
 joined a b e f = rw (e, f)
 
+-- the name of a row of a name
+name-is : (s : List ℕ) (row : Row) → defines row && same s (present (row .name)) ≡ true → present (row .name) ≡ s
+name-is s row t = sym (same-equal s (present (row .name)) (both (defines row) (same s (present (row .name))) t .1))
+
 -- a row whose word has other bits has another name
 module _ {d x ws s : List ℕ} {k w f : ℕ} (a : Tagged d x ws k w) (b : HashIs s f) where
   pub other-name : (w / 524288 ≡ f / 524288 → ⊥) → HasName d x ws k s false
   other-name h = record {
     is = sym (refuted (defines (shownAt d x ws k) && same s (present (shownAt d x ws k .name)))
-        (λ t. h (a .is ∙ ap tagOf (sym (same-equal s (present (shownAt d x ws k .name)) (both (defines (shownAt d x ws k)) (same s (present (shownAt d x ws k .name))) t .1))) ∙ sym (tag-of s (b .is)))));
+        (λ t. h (a .is ∙ ap tagOf (name-is s (shownAt d x ws k) t) ∙ sym (tag-of s (b .is)))));
   }
 
 pub ruleset tags = (other-name, needs)
@@ -102,11 +106,10 @@ module _ (m : ℕ) (s : List ℕ) where
   miss : (row : Row) → defines row && eqb (bucketOf m (present (row .name))) (bucketOf m s) ≡ false → defines row && same s (present (row .name)) ≡ false
   miss row f =
       refuted (defines row && same s (present (row .name)))
-      (λ t. let p = both (defines row) (same s (present (row .name))) t in
-      let e : bucketOf m (present (row .name)) ≡ bucketOf m s = ap (bucketOf m) (sym (same-equal s (present (row .name)) (p .1))) in
-      clash
-      (joined (defines row) (eqb (bucketOf m (present (row .name))) (bucketOf m s)) (p .0)
-      (eq-eqb (bucketOf m (present (row .name))) (bucketOf m s) e))
+      (λ t. clash
+      (joined (defines row) (eqb (bucketOf m (present (row .name))) (bucketOf m s))
+      (both (defines row) (same s (present (row .name))) t .0)
+      (eq-eqb (bucketOf m (present (row .name))) (bucketOf m s) (ap (bucketOf m) (name-is s row t))))
       f)
 
   pass-none : (i : ℕ) (rs : List Row) → firstIn m (bucketOf m s) i rs ≡ none → firstNamed s i rs ≡ none
@@ -394,3 +397,13 @@ module _ {d x ws hs₀ ls₀ hs ls : List ℕ} {n k : ℕ} (g : Building d x ws 
       record { indexed = rw e at (g .built .indexed); wide = g .built .wide ∙ w; long = g .built .long; rest = g .built .rest }
 
 pub ruleset building = (building-begins, building-row, building-more, building-ends, needs)
+
+-- words past the rows do not matter
+pub indexed-kept : {d x ws hs ls ls′ : List ℕ} {n : ℕ} → Indexed d x ws n hs ls → length ls′ ≡ length ls → ((j : ℕ) → j < n → getD ls′ j 0 ≡ getD ls j 0) → Indexed d x ws n hs ls′
+indexed-kept ix e f = record {
+  first = ix .first;
+  next = λ j p q t. f j q ∙ ix .next j p q t;
+  some = ix .some;
+  held = omega (arith, ix .held);
+  few = ix .few;
+}

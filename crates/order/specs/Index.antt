@@ -37,14 +37,14 @@ abbrev pub firstIn : ℕ → ℕ → ℕ → List Row → Option ℕ
 firstIn m h i [] = none
 firstIn m h i (r ∷ rs) = let n = firstIn m h (suc i) rs in if (defines r && eqb (bucketOf m (present (r .name))) h) (some i) n
 
--- the bucket and the first bits of the name of row i
+-- those of the name of row i
 abbrev pub bucketAt : List ℕ → List ℕ → List ℕ → ℕ → ℕ → ℕ
 bucketAt d x ws m i = bucketOf m (present (shownAt d x ws i .name))
 
 abbrev pub tagAt : List ℕ → List ℕ → List ℕ → ℕ → ℕ
 tagAt d x ws i = tagOf (present (shownAt d x ws i .name))
 
--- the word for a row: the row plus one, and above that the first bits of its name; 0 for none
+-- the word for a row: the row plus one, and above that the first bits of its name's hash; 0 for none
 abbrev pub wordFor : List ℕ → List ℕ → List ℕ → Option ℕ → ℕ
 wordFor d x ws none = 0
 wordFor d x ws (some i) = suc i + tagAt d x ws i * 524288
@@ -64,7 +64,7 @@ pub record Spread (f m r : ℕ) : Type 0 where
 pub record WordIs (k f r : ℕ) : Type 0 where
   pub is : r ≡ suc k + f / 524288 * 524288
 
--- r is the row that word w stands for, or n; w has the first bits of the name of row k
+-- r is the row that word w stands for, or n; w has the first bits of the hash of row k's name
 pub record RowOf (w n r : ℕ) : Type 0 where
   pub some : 0 < w % 524288 → suc r ≡ w % 524288
   pub none : w % 524288 ≡ 0 → r ≡ n
