@@ -104,7 +104,7 @@ fit-wide h l f = record {
 carries : {f g : List ℕ → ℕ → Finding} {doc : List ℕ} {from at : ℕ} (r : One) → from ≤ at → f (drop from doc) from ≡ g (drop at doc) at → Finds g doc at r → Finds f doc from r
 carries {f} {g} {doc} {from} {at} Absent h e c = record { onward = tt; is = e ∙ c .is }
 carries {f} {g} {doc} {from} {at} (Found a end) h e c =
-    record { onward = (omega (arith, c .onward .0), c .onward .1, fit-wide h (omega arith) (c .onward .2)); is = e ∙ c .is }
+    record { onward = (omega (arith, c .onward .0), c .onward .1, fit-wide h (omega arith) (c .onward .2), c .onward .3); is = e ∙ c .is }
 
 -- a quote is one of two bytes
 pub quote-low : {b : ℕ} {t : Bool} → t ≡ quote b → t ≡ true → b ≤ 39
@@ -134,7 +134,7 @@ module _ {doc : List ℕ} {name n : ℕ} {tp : Bool} {at : ℕ} (g : Named doc n
         is = rw (drop-cons doc at 0 h, sym e ∙ f, to-close, drop-of-length-le doc l);
       }
 
-      pub value-found : v .end < length doc → Finds (openQuote name (part doc name n)) doc at (Found (record { name = name; «name_len» = n; value = at + 1; «value_len» = v .end - (at + 1); kind = v .kind; tp = tp }) (v .end + 1))
+      pub value-found : v .end < length doc → Finds (openQuote name (part doc name n)) doc at (Found (record { name = name; «name_len» = n; value = at + 1; «value_len» = v .end - (at + 1); kind = v .kind; tp = tp; twin = true }) (v .end + 1))
       value-found l =
           let r : span (other (getD doc at 0)) (drop (suc at) doc) ≡ part doc (suc at) (v .end - suc at) = rw add-one at (run-span (c .run)) in
           let p : suc at + length (span (other (getD doc at 0)) (drop (suc at) doc)) ≡ v .end = sym (rw add-one at (c .run .ends)) in
@@ -149,6 +149,7 @@ module _ {doc : List ℕ} {name n : ℕ} {tp : Bool} {at : ℕ} (g : Named doc n
                 kind = c .kind ∙ rw (run-span (c .run));
                 tp = g .type;
               },
+              refl,
             );
             is = rw (add-one at, add-one (v .end), drop-cons doc at 0 h, sym e ∙ f, to-close, drop-cons doc (v .end) 0 l, p, r);
           }

@@ -11,3 +11,4 @@ pub mod Gathering
 pub mod Classes
 pub mod Starting
 pub mod Slots
+pub mod Marking

@@ -143,6 +143,7 @@ module _ {doc : List ℕ} {at : ℕ} {s : Start} (g : Starts doc at s) (b : s .c
       «value_len» = end - s .value;
       kind = 1;
       tp = isTpType (part doc (g .some b .name) (g .some b .len));
+      twin = true;
     }
 
     pub slot-onward : s .value ≤ end
@@ -166,6 +167,7 @@ module _ {doc : List ℕ} {at : ℕ} {s : Start} (g : Starts doc at s) (b : s .c
               kind = q .kind ∙ rw r;
               tp = refl;
             },
+            refl,
           );
           is = o .is ∙ rw (add-one end, l, drop-cons doc end 0 h, p, r);
         }

@@ -4,3 +4,4 @@ pub mod One
 pub mod Lookup
 pub mod Outcome
 pub mod Slots
+pub mod Twins

@@ -19,7 +19,7 @@ mod names;
 mod some;
 mod starts;
 
-// An attribute: places and lengths of its name and its raw value; kind 1 the value is shown as it stands, 2 changed; whether it is a tp type.
+// An attribute: places and lengths of its name and its raw value; kind 1 the value is shown as it stands, 2 changed; whether it is a tp type; `twin` false says that no attribute before it has its name, true says nothing.
 pub struct Attribute {
     pub name: u32,
     pub name_len: u32,
@@ -27,6 +27,7 @@ pub struct Attribute {
     pub value_len: u32,
     pub kind: u32,
     pub tp: bool,
+    pub twin: bool,
 }
 
 // What stands at a place: no attribute, or one and the place after it.
@@ -134,6 +135,7 @@ fn quoted_value(doc: &[u8], name: usize, n: usize, tp: bool, at: usize) -> One
             value_len: (end - value) as u32,
             kind: v.kind,
             tp,
+            twin: true,
         };
         return One::Found(a, end + 1);
     }

@@ -1,14 +1,61 @@
-// A tag of more than 16 attributes: an array of 256, which is the limit.
-ghost use Prim.Native.Nat.{_≤_};
+// A tag of more than 16 attributes: an array of 256, which is the limit. An attribute is compared with those before it only where the entry of its name's hash is taken.
+ghost use mathlib.Core.Path.{_≡_};
+ghost use Prim.Native.Nat.{_+_, _≤_};
 ghost use lib.ListN.{length};
 ghost use Rattle.scan.specs.Classes.{Classes};
 ghost use Rattle.attributes.specs.Lookup.{KeyTable};
+ghost use Rattle.attributes.specs.Twins.{mixed, HashIs, EntryIs, mark};
 ghost use Rattle.attributes.specs.Outcome.{Checkable, Finishes, Gathers};
 use crate::Attribute;
 use crate::Attrs;
 use crate::One;
 use crate::attribute_at;
 use crate::gathered;
+
+// The hash with one more byte.
+fn mix(h: u32, b: u8) -> u32
+    ensures { λ r. ⌜ r ≡ mixed h b ⌝ }
+{
+    ((h as u64 * 33 + b as u64) % 4294967296) as u32
+}
+
+// The hash of a name.
+fn hash(name: &[u8]) -> u32
+    ensures { λ r. ⌜ HashIs (now (name .entry)) r ⌝ }
+{
+    let mut h: u32 = 0;
+    let mut i = 0;
+    while i < name.len() {
+        h = mix(h, name[i]);
+        i += 1;
+    }
+    h
+}
+
+// The entry of a name, n bytes from a place on.
+fn entry(doc: &[u8], at: u32, n: u32) -> usize
+    requires { ⌜ («at» + n ≤ length (now doc)) × (length (now doc) ≤ 1048576) ⌝ }
+    ensures { λ r. ⌜ EntryIs (now (doc .entry)) «at» n r ⌝ }
+{
+    let from = at as usize;
+    let to = from + n as usize;
+    hash(&doc[from..to]) as usize % 4096
+}
+
+// The attribute with a mark.
+fn marked(a: Attribute, twin: bool) -> Attribute
+    ensures { λ r. ⌜ r ≡ mark a «twin» ⌝ }
+{
+    Attribute {
+        name: a.name,
+        name_len: a.name_len,
+        value: a.value,
+        value_len: a.value_len,
+        kind: a.kind,
+        tp: a.tp,
+        twin,
+    }
+}
 
 // The first n of an array, which end at a place: lent as a slice.
 fn finish(doc: &[u8], attrs: [Attribute; 256], n: usize, keys: &[u8], at: usize) -> Attrs
@@ -30,8 +77,10 @@ pub fn gather(doc: &[u8], classes: &[u8; 256], keys: &[u8], from: usize) -> Attr
         value_len: 0,
         kind: 0,
         tp: false,
+        twin: true,
     };
     let mut attrs = [blank; 256];
+    let mut seen = [false; 4096];
     let mut n = 0;
     let mut at = from;
     loop {
@@ -43,7 +92,9 @@ pub fn gather(doc: &[u8], classes: &[u8; 256], keys: &[u8], from: usize) -> Attr
                 if 256 <= n {
                     return Attrs::Fault(17, a.name as usize);
                 }
-                attrs[n] = a;
+                let e = entry(doc, a.name, a.name_len);
+                attrs[n] = marked(a, seen[e]);
+                seen[e] = true;
                 n += 1;
                 at = end;
             }

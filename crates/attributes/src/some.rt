@@ -31,6 +31,7 @@ pub fn gather(doc: &[u8], classes: &[u8; 256], keys: &[u8], from: usize) -> Attr
         value_len: 0,
         kind: 0,
         tp: false,
+        twin: true,
     };
     let mut attrs = [blank; 16];
     let mut n = 0;

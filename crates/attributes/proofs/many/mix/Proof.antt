@@ -1,0 +1,19 @@
+-- `attributes::many::mix` meets its contract.
+-- Assumes nothing.
+use borrow.Author.Needs.{needs}
+use Rattle.attributes.specs.Twins.{mixed}
+use Rattle.attributes.proofs.many.mix.Statement.{statement}
+use Rattle.attributes.proofs.many.mix.Tie as tie
+
+returns : tie.Need-returns
+unfolding mixed
+returns c = search needs
+
+pub mix-spec : {M : Type 1} → statement M
+mix-spec =
+    tie.close
+    (tie.spec
+    (λ c. search needs)
+    (λ c. search needs)
+    (λ c. search needs)
+    returns)
