@@ -11,8 +11,9 @@ use lib.ListN.{length, getD, set, length-set, List·getD-eq-default}
 use lib.Seq.{getD-set-other}
 use Rattle.tables.specs.Table.{Wiped, cleared}
 use Rattle.order.specs.Steps.{Held}
-use Rattle.order.specs.Index.{IndexedFrom}
+use Rattle.order.specs.Index.{Indexed}
 use Rattle.order.specs.Certificate.{Wide, Got, Kept, memberOf, MemberOf, runOf, RunIs}
+use Rattle.order.proofs.Indexing.{indexed-kept}
 
 -- ---- a word
 
@@ -55,16 +56,10 @@ row-held h l = omega (arith, h .held)
 
 pub ruleset linked = (kept-all, kept-two, row-held, needs)
 
-pub indexed-kept : {d x ws heads work work′ : List ℕ} {n : ℕ} → IndexedFrom d x ws n 0 heads work → Kept n work work′ → IndexedFrom d x ws n 0 heads work′
-indexed-kept l k = record {
-  first = l .first;
-  next = λ j a b e. k .below j b ∙ l .next j a b e;
-  some = l .some;
-  held = omega (arith, l .held, k .long);
-  few = l .few;
-}
+pub kept-indexed : {d x ws heads work work′ : List ℕ} {n : ℕ} → Indexed d x ws n heads work → Kept n work work′ → Indexed d x ws n heads work′
+kept-indexed l k = indexed-kept l (k .long) (k .below)
 
-pub ruleset linking = (indexed-kept, needs)
+pub ruleset linking = (kept-indexed, needs)
 
 cleared-length : (n : ℕ) (l : List ℕ) → length (cleared n l) ≡ length l
 cleared-length n [] = refl
@@ -77,9 +72,9 @@ cleared-below zero j (a ∷ l) h = absurd (omega arith)
 cleared-below (suc n) zero (a ∷ l) h = refl
 cleared-below (suc n) (suc j) (a ∷ l) h = cleared-below n j l (omega arith)
 
-pub indexed-cleared : {d x ws heads work work′ : List ℕ} {n : ℕ} → IndexedFrom d x ws n 0 heads work → Wiped n work work′ → IndexedFrom d x ws n 0 heads work′
+pub indexed-cleared : {d x ws heads work work′ : List ℕ} {n : ℕ} → Indexed d x ws n heads work → Wiped n work work′ → Indexed d x ws n heads work′
 indexed-cleared {work = work} {work′ = work′} {n = n} l z =
-    indexed-kept l record {
+    kept-indexed l record {
       long = ap length (z .is) ∙ cleared-length n work;
       below = λ j h. ap (λ (l : List ℕ). getD l j 0) (z .is) ∙ cleared-below n j work h;
     }
