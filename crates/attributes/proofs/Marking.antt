@@ -17,31 +17,13 @@ use Rattle.slices.proofs.Runs.{same-equal}
 use Rattle.document.specs.Tags.{attribute}
 use Rattle.attributes.specs.One.{attrOf, Finds}
 use Rattle.attributes.specs.Lookup.{blank}
-use Rattle.attributes.specs.Twins.{mixed, hashFrom, hashOf, entryOf, HashIs, EntryIs, mark}
+use Rattle.slices.specs.Hash.{hashOf, HashIs}
+use Rattle.attributes.specs.Twins.{entryOf, EntryIs, mark}
 use Rattle.attributes.specs.Outcome.{Fresh, attrsOf, listed}
 use Rattle.attributes.specs.declared.Attribute.{Attribute}
 use Rattle.attributes.specs.declared.One.{One}
 use Rattle.attributes.specs.declared.One.the-variants.{Found}
 use Rattle.attributes.proofs.Gathering.{Gathering, fresh-none, fresh-more, gather-begins, gather-named, gather-marked, gathers}
-
--- ---- hashes
-
--- what is left to hash makes the hash of all
-pub record Hashing (s : List ℕ) (i h : ℕ) : Type 0 where
-  pub rest : hashFrom h (drop i s) ≡ hashOf s
-
-pub hashing-begins : {s : List ℕ} → Hashing s 0 0
-unfolding hashOf
-hashing-begins = record { rest = refl }
-
-module _ {s : List ℕ} {i h : ℕ} (g : Hashing s i h) where
-  pub hashing-ends : length s ≤ i → HashIs s h
-  hashing-ends l = record { is = sym (ap (hashFrom h) (drop-of-length-le s {i = i} l)) ∙ g .rest }
-
-  pub hashing-more : {r : ℕ} → i < length s → r ≡ mixed h (getD s i 0) → Hashing s (i + 1) r
-  hashing-more l e = record { rest = rw (e, add-one) (sym (ap (hashFrom h) (drop-cons s i 0 l)) ∙ g .rest) }
-
-pub ruleset hashing = (hashing-begins, hashing-ends, hashing-more, needs)
 
 pub entry-is : {doc : List ℕ} {at n h : ℕ} → HashIs (take ((at + n) - at) (drop at doc)) h → EntryIs doc at n (h % 4096)
 unfolding entryOf

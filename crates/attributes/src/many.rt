@@ -4,33 +4,13 @@ ghost use Prim.Native.Nat.{_+_, _≤_};
 ghost use lib.ListN.{length};
 ghost use Rattle.scan.specs.Classes.{Classes};
 ghost use Rattle.attributes.specs.Lookup.{KeyTable};
-ghost use Rattle.attributes.specs.Twins.{mixed, HashIs, EntryIs, mark};
+ghost use Rattle.attributes.specs.Twins.{EntryIs, mark};
 ghost use Rattle.attributes.specs.Outcome.{Checkable, Finishes, Gathers};
 use crate::Attribute;
 use crate::Attrs;
 use crate::One;
 use crate::attribute_at;
 use crate::gathered;
-
-// The hash with one more byte.
-fn mix(h: u32, b: u8) -> u32
-    ensures { λ r. ⌜ r ≡ mixed h b ⌝ }
-{
-    ((h as u64 * 33 + b as u64) % 4294967296) as u32
-}
-
-// The hash of a name.
-fn hash(name: &[u8]) -> u32
-    ensures { λ r. ⌜ HashIs (now (name .entry)) r ⌝ }
-{
-    let mut h: u32 = 0;
-    let mut i = 0;
-    while i < name.len() {
-        h = mix(h, name[i]);
-        i += 1;
-    }
-    h
-}
 
 // The entry of a name, n bytes from a place on.
 fn entry(doc: &[u8], at: u32, n: u32) -> usize
@@ -39,7 +19,7 @@ fn entry(doc: &[u8], at: u32, n: u32) -> usize
 {
     let from = at as usize;
     let to = from + n as usize;
-    hash(&doc[from..to]) as usize % 4096
+    slices::hash(&doc[from..to]) as usize % 4096
 }
 
 // The attribute with a mark.

@@ -14,6 +14,7 @@ use lib.Dec.{eqb}
 use lib.ListN.{length, getD, set, drop, replicate, drop-of-length-le, length-set, length-replicate}
 use lib.Seq.{drop-cons, getD-set-same, getD-set-other}
 use Rattle.slices.specs.Bytes.{if, same}
+use Rattle.slices.specs.Hash.{hashOf, HashIs}
 use Rattle.slices.proofs.Runs.{same-equal}
 use Rattle.tables.specs.Triple.{shown}
 use Rattle.tables.specs.Table.{Wiped, cleared}
@@ -23,29 +24,12 @@ use Rattle.items.specs.Words.{TripleIs, rowOf, rowsShown}
 use Rattle.items.specs.Content.{Row, present}
 use Rattle.order.specs.Types.{defines, firstNamed}
 use Rattle.order.specs.Steps.{Held, shownAt, Defines, HasName, FirstNamed}
-use Rattle.order.specs.Index.{mixed, hashFrom, hashOf, bucketOf, tagOf, bucketAt, tagAt, firstIn, wordFor, HashIs, HashAt, Spread, WordIs, RowOf, Tagged, IndexedFrom, Indexed, Built}
+use Rattle.order.specs.Index.{bucketOf, tagOf, bucketAt, tagAt, firstIn, wordFor, HashAt, Spread, WordIs, RowOf, Tagged, IndexedFrom, Indexed, Built}
 use Rattle.order.proofs.Lists.{clash, case, refuted, both}
 use Rattle.order.proofs.Finding.{shown-at, shown-past, present-shown}
 use Rattle.order.proofs.Waiting.{row-held}
 
 -- ---- hashes and buckets
-
--- what is left to hash makes the hash of all
-pub record Hashing (s : List ℕ) (i h : ℕ) : Type 0 where
-  pub rest : hashFrom h (drop i s) ≡ hashOf s
-
-pub hashing-begins : {s : List ℕ} → Hashing s 0 0
-unfolding hashOf
-hashing-begins = record { rest = refl }
-
-module _ {s : List ℕ} {i h : ℕ} (g : Hashing s i h) where
-  pub hashing-ends : length s ≤ i → HashIs s h
-  hashing-ends l = record { is = sym (ap (hashFrom h) (drop-of-length-le s {i = i} l)) ∙ g .rest }
-
-  pub hashing-more : {r : ℕ} → i < length s → r ≡ mixed h (getD s i 0) → Hashing s (i + 1) r
-  hashing-more l e = record { rest = rw (e, add-one) (sym (ap (hashFrom h) (drop-cons s i 0 l)) ∙ g .rest) }
-
-pub ruleset hashing = (hashing-begins, hashing-ends, hashing-more, needs)
 
 pub hash-row : {d x ws l : List ℕ} {i r : ℕ} {t : Triple} → HashIs l r → l ≡ shown d x t → TripleIs ws i 2 t → HashAt d x ws i r
 hash-row {d} {x} {ws} {l} {i} b q p = record {

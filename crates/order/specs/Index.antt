@@ -9,23 +9,13 @@ use mathlib.Core.Bool.{Bool, true, false, _&&_}
 use lib.Dec.{eqb}
 use lib.ListN.{length, getD, drop}
 use Rattle.slices.specs.Bytes.{if}
+use Rattle.slices.specs.Hash.{hashOf}
 use Rattle.items.specs.Words.{rowsShown}
 use Rattle.items.specs.Content.{Row, present}
 use Rattle.order.specs.Types.{defines}
 use Rattle.order.specs.Steps.{shownAt}
 
--- the hash of a name: byte by byte, modulo 2^32
-unfoldable pub mixed : ℕ → ℕ → ℕ
-mixed h b = (h * 16777619 + b) % 4294967296
-
-abbrev pub hashFrom : ℕ → List ℕ → ℕ
-hashFrom h [] = h
-hashFrom h (b ∷ s) = hashFrom (mixed h b) s
-
-unfoldable pub hashOf : List ℕ → ℕ
-hashOf s = hashFrom 0 s
-
--- its bucket, of m; and its first 13 bits
+-- the bucket of a name, by its hash, of m; and the first 13 bits of the hash
 unfoldable pub bucketOf : ℕ → List ℕ → ℕ
 bucketOf m s = hashOf s % m
 
@@ -49,10 +39,7 @@ abbrev pub wordFor : List ℕ → List ℕ → List ℕ → Option ℕ → ℕ
 wordFor d x ws none = 0
 wordFor d x ws (some i) = suc i + tagAt d x ws i * 524288
 
--- r is the hash of a name; of the name of row i
-pub record HashIs (s : List ℕ) (r : ℕ) : Type 0 where
-  pub is : r ≡ hashOf s
-
+-- r is the hash of the name of row i
 pub record HashAt (d x ws : List ℕ) (i r : ℕ) : Type 0 where
   pub is : r ≡ hashOf (present (shownAt d x ws i .name))
 

@@ -9,34 +9,14 @@ ghost use mathlib.Core.Path.{_≡_};
 ghost use lib.ListN.{length};
 ghost use Rattle.items.specs.Words.{rowsShown};
 ghost use Rattle.order.specs.Steps.{Held, HasName, FirstNamed, FirstElement, Named, Target, IsUndefined, CountsUndefined};
-ghost use Rattle.order.specs.Index.{mixed, HashIs, HashAt, Spread, WordIs, RowOf, Tagged, IndexedFrom, Indexed, Built};
-
-// The hash with one more byte.
-fn mix(h: u32, b: u8) -> u32
-    ensures { λ r. ⌜ r ≡ mixed h b ⌝ }
-{
-    ((h as u64 * 16777619 + b as u64) % 4294967296) as u32
-}
-
-// The hash of a name.
-fn hash(s: &[u8]) -> u32
-    ensures { λ r. ⌜ HashIs (now (s .entry)) r ⌝ }
-{
-    let mut h: u32 = 0;
-    let mut i = 0;
-    while i < s.len() {
-        h = mix(h, s[i]);
-        i += 1;
-    }
-    h
-}
+ghost use Rattle.order.specs.Index.{HashAt, Spread, WordIs, RowOf, Tagged, IndexedFrom, Indexed, Built};
 
 // The hash of the name of row i.
 fn hash_at<'a>(document: &'a [u8], text: &'a [u8], rows: &[u32], i: usize) -> u32
     requires { ⌜ i * 16 + 16 ≤ length (now rows) ⌝ }
     ensures { λ r. ⌜ HashAt (now (document .entry)) (now (text .entry)) (now (rows .entry)) i r ⌝ }
 {
-    hash(tables::lookup(document, text, items::triple(rows, i, 2)))
+    slices::hash(tables::lookup(document, text, items::triple(rows, i, 2)))
 }
 
 // The bucket of a hash, of so many.
@@ -140,7 +120,7 @@ fn first_named<'a>(
     requires { ⌜ n * 16 ≤ length (now rows) ⌝ ∗ ⌜ Indexed (now document) (now text) (now rows) n (now heads) (now work) ⌝ }
     ensures { λ r. ⌜ FirstNamed (rowsShown (now (document .entry)) (now (text .entry)) (now (rows .entry)) n) (now (name .entry)) n r ⌝ }
 {
-    let f = hash(name);
+    let f = slices::hash(name);
     let h = bucket(f, heads.len());
     let mut word = heads[h];
     let mut k = row_of(word, n);

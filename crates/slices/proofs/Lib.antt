@@ -4,3 +4,4 @@ pub mod Runs
 pub mod Ends
 pub mod Skips
 pub mod Words
+pub mod Hashing

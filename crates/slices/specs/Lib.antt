@@ -3,3 +3,4 @@
 pub mod Bytes
 pub mod Run
 pub mod Word
+pub mod Hash

@@ -1,8 +1,9 @@
-// Byte slices: the first place of a byte, whether a key stands at a place, whether two slices are equal.
+// Byte slices: the first place of a byte, whether a key stands at a place, whether two slices are equal, a hash.
 ghost use mathlib.Core.Path.{_≡_};
 ghost use Prim.Native.Nat.{ℕ, _+_, _*_, _≤_, _<_};
 ghost use lib.ListN.{length, drop};
 ghost use Rattle.slices.specs.Bytes.{other, same, starts};
+ghost use Rattle.slices.specs.Hash.{mixed, HashIs};
 ghost use Rattle.slices.specs.Run.{Run, Sought, Told, Without};
 ghost use Rattle.slices.specs.Word.{Agrees, Below, Byte, Equal, Leads, Word, wordOf};
 
@@ -186,4 +187,24 @@ pub fn equal_long(a: &[u8], b: &[u8]) -> bool
     }
     let at = agreed(a, b);
     starts_at(&a[at..], 0, &b[at..])
+}
+
+// The hash with one more byte.
+fn mix(h: u32, b: u8) -> u32
+    ensures { λ r. ⌜ r ≡ mixed h b ⌝ }
+{
+    ((h as u64 * 16777619 + b as u64) % 4294967296) as u32
+}
+
+// The hash of bytes.
+pub fn hash(s: &[u8]) -> u32
+    ensures { λ r. ⌜ HashIs (now (s .entry)) r ⌝ }
+{
+    let mut h: u32 = 0;
+    let mut i = 0;
+    while i < s.len() {
+        h = mix(h, s[i]);
+        i += 1;
+    }
+    h
 }

@@ -1,9 +1,9 @@
--- `order::index::mix` meets its contract.
+-- `slices::mix` meets its contract.
 -- Assumes nothing.
 use borrow.Author.Needs.{needs}
-use Rattle.order.specs.Index.{mixed}
-use Rattle.order.proofs.index.mix.Statement.{statement}
-use Rattle.order.proofs.index.mix.Tie as tie
+use Rattle.slices.specs.Hash.{mixed}
+use Rattle.slices.proofs.mix.Statement.{statement}
+use Rattle.slices.proofs.mix.Tie as tie
 
 returns : tie.Need-returns
 unfolding mixed

@@ -1,16 +1,16 @@
--- `attributes::many::hash` meets its contract.
+-- `slices::hash` meets its contract.
 -- Assumes nothing.
-use Rattle.attributes.proofs.Marking.{hashing, Hashing}
+use Rattle.slices.proofs.Hashing.{hashing, Hashing}
 use Prim.Native.Nat.{_-_}
 use lib.ListN.{length}
-use Rattle.attributes.proofs.many.hash.Statement.{statement}
-use Rattle.attributes.proofs.many.hash.Tie as tie
+use Rattle.slices.proofs.hash.Statement.{statement}
+use Rattle.slices.proofs.hash.Tie as tie
 
 abbrev Inv-loop : tie.InvT-loop
-Inv-loop name h₀ i₀ h i = Hashing name i h
+Inv-loop s h₀ i₀ h i = Hashing s i h
 
 abbrev μ-loop : tie.MeasureT-loop
-μ-loop name h₀ i₀ h i = length name - i
+μ-loop s h₀ i₀ h i = length s - i
 
 pub hash-spec : {M : Type 1} → statement M
 hash-spec =
