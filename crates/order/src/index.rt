@@ -7,6 +7,7 @@ use document::kinds;
 ghost use Prim.Native.Nat.{_+_, _*_, _≤_, _<_};
 ghost use mathlib.Core.Path.{_≡_};
 ghost use lib.ListN.{length};
+ghost use Rattle.slices.specs.Hash.{HashIs};
 ghost use Rattle.items.specs.Words.{rowsShown};
 ghost use Rattle.order.specs.Steps.{Held, HasName, FirstNamed, FirstElement, Named, Target, IsUndefined, CountsUndefined};
 ghost use Rattle.order.specs.Index.{HashAt, Spread, WordIs, RowOf, Tagged, IndexedFrom, Indexed, Built};
