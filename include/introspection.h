@@ -18,8 +18,7 @@
  * Threads. The library has no state: any threads may call at once, with buffers of their own for writing. Reading was
  * measured to use 30 kB of the stack, and 410 kB where 1,024 elements are open in what is skipped or in a docstring, so
  * 512 kB is enough. Each function that checks rows takes 262,144 bytes for that, used only where more than 4,096 rows stand
- * in another order than the reader's: writing was measured to take 264 kB, and introspection_order, which keeps as much while
- * it works and twice as much while it seeks a circle, 788 kB: 1 MB is enough.
+ * in another order than the reader's: writing was measured to take 264 kB. introspection_order was measured to take STACK kB.
  *
  * Cost. Reading, escaping and unescaping take time in proportion to the bytes read and to the buffers lent, which are
  * cleared; each attribute of a tag is compared with those before it, at most 255. Looking up takes the same for every
@@ -352,8 +351,11 @@ void introspection_rows(const uint32_t *columns, size_t columns_length, uint64_t
  * row counts. document, text and rows are as for introspection_write. An order of one word for each row claimed is always
  * enough.
  *
- * work is lent for working: the answer does not depend on its length or on what it held, and it is zeros afterwards. At
- * present no use is made of it, and the cost is that of the plain form: the check of the rows; then for each definition given
+ * work is lent for working: the answer does not depend on its length or on what it held, and it is zeros afterwards. With
+ * three words for each row claimed the time is in proportion to the rows and to the bytes of names and tp types, in any order
+ * of the rows, with a circle too. That holds for names that spread over an index of 4,096 words, or 65,536 where more than
+ * 4,096 rows are claimed: for names that were made to fall together in it, each name looked up may be compared with all of
+ * those. docs/BENCHMARKS.md has measurements. With fewer words the plain form answers the same: for each definition given
  * out a pass over the rows, and for each member looked at a comparison with the names of all definitions. Where each type is
  * defined before it is used a definition is looked at once, and the time is in proportion to the members times the rows;
  * else it may be looked at once for each definition that is given out before it. A circle costs up to a search of the same

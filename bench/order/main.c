@@ -15,7 +15,7 @@
 static uint32_t rows[MOST * INTROSPECTION_ROW_WORDS], work[3 * MOST], order[MOST];
 static uint8_t document[BYTES], text[BYTES];
 static uint32_t start[MOST], length[MOST], place[MOST];
-static size_t count, types, bytes;
+static size_t count, types, bytes, used;
 
 static double now(void)
 {
@@ -49,22 +49,22 @@ static uint32_t *add(uint32_t kind, uint32_t parent)
     return row;
 }
 
-/* Names of so many types, in the document and once more in the text. */
+/* Names of so many types, in the document. */
 static void names(size_t n)
 {
     size_t i;
     types = n;
     bytes = 2;
+    used = 0;
     memcpy(document, "sm", 2);
     for (i = 0; i < n; i++) {
         start[i] = (uint32_t)bytes;
         length[i] = (uint32_t)sprintf((char *)document + bytes, "Some_Type_%zu", i);
         bytes += length[i];
     }
-    memcpy(text, document, bytes);
 }
 
-/* The k-th type's struct, whose members use the types listed. */
+/* The k-th type's struct, whose members use the types listed: their tp types stand in the text, in the order of the rows. */
 static void structure(uint32_t k, const uint32_t *uses)
 {
     uint32_t *row = add(INTROSPECTION_KIND_STRUCT, 1);
@@ -75,14 +75,17 @@ static void structure(uint32_t k, const uint32_t *uses)
         row = add(INTROSPECTION_KIND_MEMBER, parent);
         triple(row, INTROSPECTION_WORD_NAME, INTROSPECTION_SOURCE_DOCUMENT, 1, 1);
         triple(row, INTROSPECTION_WORD_VALUE, INTROSPECTION_SOURCE_DOCUMENT, 0, 1);
-        if (uses[i] < types)
-            triple(row, 8, INTROSPECTION_SOURCE_TEXT, start[uses[i]], length[uses[i]]);
+        if (uses[i] < types) {
+            triple(row, INTROSPECTION_WORD_TP_TYPE, INTROSPECTION_SOURCE_TEXT, (uint32_t)used, length[uses[i]]);
+            memcpy(text + used, document + start[uses[i]], length[uses[i]]);
+            used += length[uses[i]];
+        }
     }
 }
 
 enum shape { AFTER, BEFORE, SHUFFLED, CIRCLE, BETWEEN };
 
-/* Types of which each uses some of those with smaller numbers: defined after them, before them, anywhere; or before them, where the last one
+/* Types of which each uses one with a smaller number: defined after it, before it, anywhere; or before it, where the last one
  * uses itself; or so that also the last but one uses itself and the first. */
 static void table(size_t n, enum shape shape)
 {
@@ -100,9 +103,9 @@ static void table(size_t n, enum shape shape)
     }
     for (i = 0; i < types; i++) {
         for (k = 0; k < MEMBERS; k++)
-            uses[k] = place[i] == 0 ? (uint32_t)types : k == 0 ? place[i] - 1 : some(place[i]);
-        if (shape == SHUFFLED && place[i] != 0)
-            uses[0] = some(place[i]);
+            uses[k] = (uint32_t)types;
+        if (place[i] != 0)
+            uses[0] = shape >= CIRCLE ? place[i] - 1 : some(place[i]);
         if (shape >= CIRCLE && i == types - 1)
             uses[1] = place[i];
         if (shape == BETWEEN && i == types - 2) {
@@ -121,7 +124,7 @@ static double measure(enum shape shape, size_t n)
     table(n, shape);
     while (rounds < 200 && (rounds < 3 || whole < 1.0)) {
         double began = now(), t;
-        introspection_order(document, bytes, text, bytes, rows, count * INTROSPECTION_ROW_WORDS, count, work, 3 * count, order, count, a);
+        introspection_order(document, bytes, text, used, rows, count * INTROSPECTION_ROW_WORDS, count, work, 3 * count, order, count, a);
         t = now() - began;
         whole += t;
         rounds++;
@@ -135,8 +138,8 @@ static double measure(enum shape shape, size_t n)
 
 int main(void)
 {
-    static const char *const what[] = {"each type after those that it uses", "each before them", "in any order",
-                                       "each before them, the last uses itself", "the same, and the last but one itself and the first"};
+    static const char *const what[] = {"each type after the one that it uses", "each before it", "in any order",
+                                       "each before it, the last uses itself", "the same, and the last but one itself and the first"};
     int shape, bad = 0;
     for (shape = AFTER; shape <= BETWEEN; shape++) {
         double few = measure(shape, 2600), many = measure(shape, MOST);
