@@ -18,7 +18,8 @@
  * Threads. The library has no state: any threads may call at once, with buffers of their own for writing. Reading was
  * measured to use 30 kB of the stack, and 410 kB where 1,024 elements are open in what is skipped or in a docstring, so
  * 512 kB is enough. Each function that checks rows takes 262,144 bytes for that, used only where more than 4,096 rows stand
- * in another order than the reader's: writing was measured to take 264 kB. introspection_order was measured to take STACK kB.
+ * in another order than the reader's: writing was measured to take 264 kB. introspection_order takes as much again, and
+ * as much once more in the plain form: 520 and 780 kB, so that 1 MB is enough.
  *
  * Cost. Reading, escaping and unescaping take time in proportion to the bytes read and to the buffers lent, which are
  * cleared; each attribute of a tag is compared with those before it, at most 255. Looking up takes the same for every

@@ -50,16 +50,16 @@ pub fn is_formed(s: &[u8], u: usize, from: usize, len: usize) -> bool
     is_edge(s, u, end)
 }
 
-// How many bytes of a buffer are known to be UTF-8: those that are, or once nothing is left to spend all before the first ill-formed sequence.
-pub fn look(s: &[u8], known: usize, left: usize) -> usize
-    requires { ⌜ Start (now s) known ⌝ }
+// How many bytes of a buffer are known to be UTF-8: all before the first ill-formed sequence if that is to be found out; or those before the
+// first byte from 128 on, which costs little; or none.
+pub fn known(s: &[u8], look: bool, glance: bool) -> usize
     ensures { λ r. ⌜ Start (now (s .entry)) r ⌝ }
 {
-    if left != 0 {
-        return known;
+    if look {
+        return utf8::ill_formed(s);
     }
-    if known != 0 {
-        return known;
+    if glance {
+        return utf8::ascii_start(s);
     }
-    utf8::ill_formed(s)
+    0
 }

@@ -136,27 +136,63 @@ fn sound_row<'a>(
 // How many bytes the triples of row i say that they lead to.
 fn row_bytes(rows: &[u32], i: usize) -> usize
     requires { ⌜ i * 16 + 16 ≤ length (now rows) ⌝ }
+    ensures { λ r. ⌜ r ≤ 17179869180 ⌝ }
 {
     let front = items::word(rows, i, 4) as usize + items::word(rows, i, 7) as usize;
     front + items::word(rows, i, 10) as usize + items::word(rows, i, 13) as usize
 }
 
-// What is left of so many bytes after those of row i, or 0.
-fn spend(rows: &[u32], left: usize, i: usize) -> usize
-    requires { ⌜ i * 16 + 16 ≤ length (now rows) ⌝ }
+// The same of n rows.
+fn bytes_told(rows: &[u32], n: usize) -> usize
+    requires { ⌜ n * 16 ≤ length (now rows) ⌝ ∗ ⌜ n ≤ 262144 ⌝ }
 {
-    if left == 0 {
-        return 0;
+    let mut sum = 0;
+    let mut i = 0;
+    while i < n {
+        sum += row_bytes(rows, i);
+        i += 1;
     }
-    let bytes = row_bytes(rows, i);
-    if left < bytes {
-        return 0;
-    }
-    left - bytes
+    sum
 }
 
-// The first bad row, or n. Texts are checked whole until `left` is 0, when as many bytes were checked as both buffers have: then it is found
-// out how much of each buffer is UTF-8.
+// Whether it is worth finding out how much of both buffers is UTF-8: the rows show more bytes than these have, or are many.
+fn is_worth(rows: &[u32], n: usize, bytes: usize) -> bool
+    requires { ⌜ n * 16 ≤ length (now rows) ⌝ ∗ ⌜ n ≤ 262144 ⌝ }
+{
+    if 32768 <= n {
+        return true;
+    }
+    bytes < bytes_told(rows, n)
+}
+
+// The first bad row, or n, where the document's first u bytes are known to be UTF-8, and the text's first v.
+fn first_known<'a>(
+    document: &'a [u8],
+    text: &'a [u8],
+    rows: &[u32],
+    n: usize,
+    ordered: bool,
+    tallies: &[u8],
+    u: usize,
+    v: usize,
+) -> usize
+    requires { ⌜ n * 16 ≤ length (now rows) ⌝ ∗ ⌜ Prepared (now document) (now text) (now rows) n ordered (now tallies) ⌝ ∗
+        ⌜ Start (now document) u ⌝ ∗ ⌜ Start (now text) v ⌝ }
+    ensures { λ r. ⌜ r ≡ firstBad (now (document .entry)) (now (text .entry)) (rowsOf n (now (rows .entry))) 0
+        (rowsOf n (now (rows .entry))) ⌝ }
+{
+    let mut i = 0;
+    while i < n {
+        if !sound_row(document, text, rows, n, ordered, tallies, u, v, i) {
+            return i;
+        }
+        i += 1;
+    }
+    i
+}
+
+// The same, where nothing is known yet. The texts are checked whole, but for those in what is found to be UTF-8 first: how much of both buffers
+// is found out where it is worth it, and how much is ASCII where there is a row for each 64 bytes.
 fn first_unsound<'a>(
     document: &'a [u8],
     text: &'a [u8],
@@ -165,24 +201,16 @@ fn first_unsound<'a>(
     ordered: bool,
     tallies: &[u8],
 ) -> usize
-    requires { ⌜ n * 16 ≤ length (now rows) ⌝ ∗ ⌜ Prepared (now document) (now text) (now rows) n ordered (now tallies) ⌝ }
+    requires { ⌜ n * 16 ≤ length (now rows) ⌝ ∗ ⌜ n ≤ 262144 ⌝ ∗ ⌜ Prepared (now document) (now text) (now rows) n ordered (now tallies) ⌝ }
     ensures { λ r. ⌜ r ≡ firstBad (now (document .entry)) (now (text .entry)) (rowsOf n (now (rows .entry))) 0
         (rowsOf n (now (rows .entry))) ⌝ }
 {
-    let mut left = document.len() + text.len();
-    let mut u = 0;
-    let mut v = 0;
-    let mut i = 0;
-    while i < n {
-        left = spend(rows, left, i);
-        u = ends::look(document, u, left);
-        v = ends::look(text, v, left);
-        if !sound_row(document, text, rows, n, ordered, tallies, u, v, i) {
-            return i;
-        }
-        i += 1;
-    }
-    i
+    let bytes = document.len() + text.len();
+    let look = is_worth(rows, n, bytes);
+    let glance = bytes / 64 <= n;
+    let u = ends::known(document, look, glance);
+    let v = ends::known(text, look, glance);
+    first_known(document, text, rows, n, ordered, tallies, u, v)
 }
 
 // The same by tallies, of which there are none yet.
@@ -193,7 +221,7 @@ fn first_by_tally<'a>(
     n: usize,
     tallies: &mut [u8],
 ) -> usize
-    requires { ⌜ n * 16 ≤ length (now rows) ⌝ ∗ ⌜ Tallied (now document) (now text) (now rows) n 0 (now tallies) ⌝ }
+    requires { ⌜ n * 16 ≤ length (now rows) ⌝ ∗ ⌜ n ≤ 262144 ⌝ ∗ ⌜ Tallied (now document) (now text) (now rows) n 0 (now tallies) ⌝ }
     ensures { λ r. ⌜ r ≡ firstBad (now (document .entry)) (now (text .entry)) (rowsOf n (now (rows .entry))) 0
         (rowsOf n (now (rows .entry))) ⌝ }
 {

@@ -7,7 +7,7 @@ ghost use Rattle.utf8.specs.WellFormed.{to, begins, sequence, illFormed}
 ghost use Rattle.utf8.specs.WhiteSpace.{codePoint, whiteSpace, Trims};
 ghost use Rattle.utf8.specs.Sequence.{continuation, taken};
 ghost use Rattle.utf8.specs.Ascii.{AtMost, Ascii};
-ghost use Rattle.utf8.specs.Trim.{Boundary, Last, Starts, Ends, white};
+ghost use Rattle.utf8.specs.Trim.{Boundary, Start, Last, Starts, Ends, white};
 
 // Where a text begins and ends once it is trimmed.
 pub struct Trimmed {
@@ -139,6 +139,13 @@ fn sequence(s: &[u8], at: usize) -> usize
         return four(s, at + 1, 0x80, 0xbf);
     }
     0
+}
+
+// How many bytes from the beginning on are below 128.
+pub fn ascii_start(s: &[u8]) -> usize
+    ensures { λ r. ⌜ Start (now (s .entry)) r ⌝ }
+{
+    ascii_run(s, blocks(s, 0, 128))
 }
 
 // The place of the first ill-formed sequence, or the length.
