@@ -22,8 +22,8 @@
  * as much once more in the plain form: 520 and 780 kB, so that 1 MB is enough.
  *
  * Cost. Reading, escaping and unescaping take time in proportion to the bytes read and to the buffers lent, which are
- * cleared; each attribute of a tag is compared with those before it, at most 255. Looking up takes the same for every
- * triple. Writing checks all rows claimed, at each call, in time in proportion to the rows and to the bytes of document
+ * cleared; an attribute of a tag is compared with those before it, at most 255, only where its name is in doubt. Looking up
+ * takes the same for every triple. Writing checks all rows claimed, at each call, in time in proportion to the rows and to the bytes of document
  * and text, in any order and whatever the rows show, where document and text are UTF-8: so writing every item of a table
  * of n rows costs n checks. In the order that the reader leaves, what comes on top is in proportion to the rows after the
  * item and to the bytes written; where rows stand in another order, it may be the item's args times the rows. What
