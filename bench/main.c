@@ -20,6 +20,8 @@ static const struct reader readers[] = {
     {"quick-xml, checked", "events", "all", "attributes", "as the first, after a check of the whole document", quick_checked},
     {"expat", "events", "all", "attributes, text", "entities; parser reused", expat_read},
     {"libxml2", "tree", "all", "attributes, text", "entities, namespaces; tree freed", libxml2_read},
+    {"pugixml", "tree", "none", "attributes, text", "no check of duplicate attributes; copy and tree freed", pugixml_read},
+    {"rapidxml", "tree", "none", "attributes, text", "no check of duplicate attributes or closing names; tree freed", rapidxml_read},
     {"GDBus", "tree", "all but comments", "attributes, text", "tree freed", gdbus_read},
 };
 enum { READERS = sizeof readers / sizeof *readers, MOST_ROUNDS = 1001 };

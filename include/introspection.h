@@ -17,14 +17,20 @@
  *
  * Threads. The library has no state: any threads may call at once, with buffers of their own for writing. Reading was
  * measured to use 30 kB of the stack, and 410 kB where 1,024 elements are open in what is skipped or in a docstring, so
- * 512 kB is enough. introspection_order keeps 262,144 bytes there, and 524,288 while it seeks a circle: 1 MB is enough.
+ * 512 kB is enough. Each function that checks rows takes 262,144 bytes for that, used only where more than 4,096 rows stand
+ * in another order than the reader's: writing was measured to take 264 kB. introspection_order takes as much again, and
+ * as much once more in the plain form: 520 and 780 kB, so that 1 MB is enough.
  *
  * Cost. Reading, escaping and unescaping take time in proportion to the bytes read and to the buffers lent, which are
- * cleared; each attribute of a tag is compared with those before it, at most 255. Looking up takes the same for every
- * triple. Writing passes over all rows claimed, at each call: so writing every item of a table of n rows costs n
- * passes. In the order that the reader leaves, what comes on top is in proportion to the rows after the item and to the
- * bytes written; where rows stand in another order, it may be the item's args times the rows. What writing a tree costs
- * stands at introspection_write_tree.
+ * cleared; an attribute of a tag is compared with those before it, at most 255, only where its name is in doubt. Looking up
+ * takes the same for every triple. Writing checks all rows claimed, at each call, in time in proportion to the rows and to the bytes of document
+ * and text, in any order and whatever the rows show, where document and text are UTF-8: so writing every item of a table
+ * of n rows costs n checks. In the order that the reader leaves, what comes on top is in proportion to the rows after the
+ * item and to the bytes written; where rows stand in another order, it may be the item's args times the rows. What
+ * writing a tree costs stands at introspection_write_tree. Not bounded by rows and buffers are: escaping one long value
+ * for each row that shows it, which is in the bytes written; an item's args times the rows, and a tree, in a hostile
+ * order; and the check where document or text is not UTF-8 and many rows show a long part after the first ill-formed
+ * sequence.
  */
 #ifndef INTROSPECTION_H
 #define INTROSPECTION_H
@@ -266,9 +272,8 @@ void introspection_unescape(const uint8_t *value, size_t value_length, uint8_t *
  * row is below document_length, so over an empty document no row is sound; it is not written. A struct without members is
  * not sound, nor a mapping that has not exactly two members, the first with a basic signature.
  *
- * Each call checks every row claimed, in time in proportion to them where they stand in the order that
- * introspection_read leaves, else up to the structs and mappings times the rows. So whoever writes many items of a
- * large table uses introspection_write_items.
+ * Each call checks every row claimed, in any order in time in proportion to the rows and to the bytes of document and
+ * text (Cost, above). So whoever writes many items of a large table uses introspection_write_items.
  *
  * answer: number, place, bytes written. Refusals: 2, 19, 20, 21. To learn the size, call with output_length 0: the
  * number is then 21 and the place the bytes needed.
@@ -299,8 +304,8 @@ void introspection_write(const uint8_t *document, size_t document_length, const 
  * The rows are checked as for introspection_write. What comes on top is in proportion to the rows and the bytes
  * written where the rows stand in the order that introspection_read leaves and in no node another child follows a
  * node; measured to be 70 to 140 ns a row. If nodes stand before other children it may be the levels of nodes times
- * the rows, and in a hostile order the rows times the rows. Nothing is called for each level: 4 kB of the stack are
- * enough whatever the rows are.
+ * the rows, and in a hostile order the rows times the rows. Nothing is called for each level: 300 kB of the
+ * stack are enough whatever the rows are, nearly all of them for the check.
  *
  * answer: number, place, bytes written. Refusals: 2, 19, 20, then 7 at the first row, in the order of writing, that
  * would be the 1,025th open node (a node that ends with `/>` is not open, and the row asked for is the first that
@@ -347,8 +352,11 @@ void introspection_rows(const uint32_t *columns, size_t columns_length, uint64_t
  * row counts. document, text and rows are as for introspection_write. An order of one word for each row claimed is always
  * enough.
  *
- * work is lent for working: the answer does not depend on its length or on what it held, and it is zeros afterwards. At
- * present no use is made of it, and the cost is that of the plain form: the check of the rows; then for each definition given
+ * work is lent for working: the answer does not depend on its length or on what it held, and it is zeros afterwards. With
+ * three words for each row claimed the time is in proportion to the rows and to the bytes of names and tp types, in any order
+ * of the rows, with a circle too. That holds for names that spread over an index of 4,096 words, or 65,536 where more than
+ * 4,096 rows are claimed: for names that were made to fall together in it, each name looked up may be compared with all of
+ * those. docs/BENCHMARKS.md has measurements. With fewer words the plain form answers the same: for each definition given
  * out a pass over the rows, and for each member looked at a comparison with the names of all definitions. Where each type is
  * defined before it is used a definition is looked at once, and the time is in proportion to the members times the rows;
  * else it may be looked at once for each definition that is given out before it. A circle costs up to a search of the same

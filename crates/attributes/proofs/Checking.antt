@@ -1,6 +1,6 @@
 -- The check of the attributes, one by one.
 -- Assumes nothing.
-use Prim.Native.Nat.{ℕ, suc, _+_, _-_, _≤_, _<_}
+use Prim.Native.Nat.{ℕ, suc, _+_, _≤_, _<_}
 use mathlib.Core.Path.{_≡_, refl, sym, ap, _∙_}
 use mathlib.Core.List.{List, [], _∷_, _++_, map, map-append, append-assoc}
 use mathlib.Core.Option.{Option, some}
@@ -20,7 +20,7 @@ use Rattle.references.proofs.Shapes.{unescape-plain}
 use Rattle.document.specs.Tags.{Attr, Shown, Checked, good, fault, also, member, check}
 use Rattle.attributes.specs.One.{part, attrOf, Fit}
 use Rattle.attributes.specs.Lookup.{blank, partIs, nameIs, wanted, firstBy, valueOf, valueIn, Picks, keyedAt}
-use Rattle.attributes.specs.Outcome.{Checkable, attrsOf, References, listed, there, Weighs, Judges, Checks}
+use Rattle.attributes.specs.Outcome.{Checkable, among, attrsOf, References, listed, there, Weighs, Judges, Checks}
 use Rattle.document.specs.declared.Value.{Value}
 use Rattle.attributes.specs.declared.Attribute.{Attribute}
 use Rattle.attributes.specs.declared.AttributeCheck.{AttributeCheck}
@@ -35,11 +35,11 @@ same-swap (x ∷ a) [] = refl
 same-swap (x ∷ a) (y ∷ b) = rw (same-swap a b, eqb-swap x y)
 
 -- the names of attributes, the last first, before others
-abbrev back : List Attr → List (List ℕ) → List (List ℕ)
+abbrev pub back : List Attr → List (List ℕ) → List (List ℕ)
 back [] seen = seen
 back (x ∷ xs) seen = back xs (x .name ∷ seen)
 
-back-more : (xs : List Attr) (x : Attr) (seen : List (List ℕ)) → back (xs ++ x ∷ []) seen ≡ x .name ∷ back xs seen
+pub back-more : (xs : List Attr) (x : Attr) (seen : List (List ℕ)) → back (xs ++ x ∷ []) seen ≡ x .name ∷ back xs seen
 back-more [] x seen = refl
 back-more (y ∷ xs) x seen = back-more xs x (y .name ∷ seen)
 
@@ -53,7 +53,7 @@ member-back n (x ∷ xs) seen = member-back n xs (x .name ∷ seen) ∙ rw (same
     go false true = refl
     go false false = refl
 
-member-listed : (n : List ℕ) (xs : List Attr) → member n (back xs []) ≡ listed n xs
+pub member-listed : (n : List ℕ) (xs : List Attr) → member n (back xs []) ≡ listed n xs
 member-listed n xs = member-back n xs [] ∙ go (listed n xs)
   where
     go : (t : Bool) → if t true false ≡ t
@@ -70,7 +70,7 @@ there-if true a r h = h
 there-if false a r h = refl
 
 -- a value that is gathered is there
-fit-there : {doc : List ℕ} {from to : ℕ} (a : Attribute) → Fit doc from to a → there (valueOf (some a)) ≡ true
+pub fit-there : {doc : List ℕ} {from to : ℕ} (a : Attribute) → Fit doc from to a → there (valueOf (some a)) ≡ true
 fit-there {doc} a f = rw (f .kind) (go (all plain (attrOf doc a .raw)))
   where
     go : (t : Bool) → not (eqb (if t 1 2) 0) ≡ true
@@ -116,6 +116,16 @@ module _ {doc : List ℕ} {a : Attribute} (f : Fit doc 0 (length doc) a) where
 
 pub ruleset weighs = (weigh-room, weigh-duplicate, weigh-plain, weigh-reference, needs)
 
+-- how many before it
+module _ (i : ℕ) {t : Bool} where
+  pub among-all : t ≡ true → i ≡ among t i
+  among-all e = rw e
+
+  pub among-none : t ≡ false → 0 ≡ among t i
+  among-none e = rw e
+
+pub ruleset counts = (among-all, among-none, needs)
+
 -- after those before it
 module _ {doc : List ℕ} {xs : List Attribute} {i : ℕ} (h : i < length xs) (g : Checkable doc xs (suc i)) where
   -- what `weigh` asks
@@ -123,31 +133,36 @@ module _ {doc : List ℕ} {xs : List Attribute} {i : ℕ} (h : i < length xs) (g
   judge-asks = (g .fitted .rule i (omega arith), g .small)
 
   -- what `first_named` asks
-  pub judge-below : i ≤ length xs
-  judge-below = omega arith
-
-  pub judge-is : {v : Value} {r : AttributeCheck} → Picks (wanted doc (getD xs i blank .name) (getD xs i blank .«name_len») false doc) xs i v → Weighs doc (getD xs i blank) v r → Judges doc xs i r
-  unfolding valueIn
-  judge-is {v} {r} p w = record { is = rw (← seen) (w .is) }
+  pub judge-below : {m : ℕ} → m ≡ among (getD xs i blank .twin) i → m ≤ length xs
+  judge-below {m} e = rw e (go (getD xs i blank .twin))
     where
-      seen : there v ≡ listed (attrOf doc (getD xs i blank) .name) (attrsOf doc xs i)
-      seen =
+      go : (t : Bool) → among t i ≤ length xs
+      go true = omega arith
+      go false = omega arith
+
+  pub judge-is : {m : ℕ} {v : Value} {r : AttributeCheck} → m ≡ among (getD xs i blank .twin) i → Picks (wanted doc (getD xs i blank .name) (getD xs i blank .«name_len») false doc) xs m v → Weighs doc (getD xs i blank) v r → Judges doc xs i r
+  unfolding valueIn firstBy
+  judge-is {m} {v} {r} e p w = record { is = rw (← seen (getD xs i blank .twin) refl (rw e at p)) (w .is) }
+    where
+      seen : (t : Bool) → getD xs i blank .twin ≡ t → Picks (wanted doc (getD xs i blank .name) (getD xs i blank .«name_len») false doc) xs (among t i) v → there v ≡ listed (attrOf doc (getD xs i blank) .name) (attrsOf doc xs i)
+      seen true f p =
           let e : length (take i xs) ≡ i = length-take-le i xs (omega arith) in
           ap there (p .is)
           ∙ first-listed doc (getD xs i blank .name) (getD xs i blank .«name_len») (take i xs) (judge-asks .0 .name) (λ k b. rw (getD-take i xs k blank (omega arith)) (g .fitted .rule k (omega arith)))
+      seen false f p = ap there (p .is) ∙ sym (g .fresh .rule i (omega arith) f)
 
 -- ---- all attributes
 
 -- attributes that are shown, before the others
-abbrev onto : List Shown → Checked → Checked
+abbrev pub onto : List Shown → Checked → Checked
 onto ss (good s) = good (ss ++ s)
 onto ss (fault k p) = fault k p
 
-onto-onto : (a b : List Shown) (c : Checked) → onto a (onto b c) ≡ onto (a ++ b) c
+pub onto-onto : (a b : List Shown) (c : Checked) → onto a (onto b c) ≡ onto (a ++ b) c
 onto-onto a b (good s) = rw append-assoc
 onto-onto a b (fault k p) = refl
 
-onto-also : (x : Attr) (t : List ℕ) (c : Checked) → also x (text t) c ≡ onto (record { attr = x; value = t } ∷ []) c
+pub onto-also : (x : Attr) (t : List ℕ) (c : Checked) → also x (text t) c ≡ onto (record { attr = x; value = t } ∷ []) c
 onto-also x t (good s) = refl
 onto-also x t (fault k p) = refl
 
@@ -158,7 +173,7 @@ pub record Checking (doc : List ℕ) (xs : List Attribute) (n i : ℕ) : Type 0 
   pub room : n ≤ length xs
   pub within : i ≤ n
 
-onto-none : (c : Checked) → onto [] c ≡ c
+pub onto-none : (c : Checked) → onto [] c ≡ c
 onto-none (good s) = refl
 onto-none (fault k p) = refl
 
@@ -166,7 +181,11 @@ pub check-begins : {doc : List ℕ} {xs : List Attribute} {n : ℕ} → n ≤ le
 check-begins {doc} {xs} {n} h = record { shown = []; left = sym (onto-none (check [] (attrsOf doc xs n))); room = omega arith; within = omega arith }
 
 checkable-to : {doc : List ℕ} {xs : List Attribute} {n i : ℕ} → Checkable doc xs n → i < n → Checkable doc xs (suc i)
-checkable-to g h = record { small = g .small; fitted = record { rule = λ k l. g .fitted .rule k (omega arith) } }
+checkable-to g h = record {
+  small = g .small;
+  fitted = record { rule = λ k l. g .fitted .rule k (omega arith) };
+  fresh = record { rule = λ k l. g .fresh .rule k (omega arith) };
+}
 
 attrs-more : (doc : List ℕ) (xs : List Attribute) (i : ℕ) → i < length xs → attrsOf doc xs (suc i) ≡ attrsOf doc xs i ++ attrOf doc (getD xs i blank) ∷ []
 attrs-more doc xs i h = rw (take-suc xs i blank h) (map-append (attrOf doc) (take i xs) (getD xs i blank ∷ []))

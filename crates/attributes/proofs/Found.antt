@@ -11,7 +11,7 @@ use native.Mathlib.Omega.{arith}
 use lib.Dec.{eqb}
 use lib.ListN.{length, drop, getD, drop-of-length-le}
 use lib.Seq.{drop-cons}
-use Rattle.slices.specs.Bytes.{if, other, span, past, empty}
+use Rattle.slices.specs.Bytes.{if, other, span, past}
 use Rattle.slices.specs.Run.{Run}
 use Rattle.slices.proofs.Runs.{Running, run-begins, run-more, run-stops, run-ends, other-true, other-false}
 use Rattle.slices.proofs.Ends.{run-span, run-rest, run-empty, run-some}
@@ -104,7 +104,7 @@ fit-wide h l f = record {
 carries : {f g : List ℕ → ℕ → Finding} {doc : List ℕ} {from at : ℕ} (r : One) → from ≤ at → f (drop from doc) from ≡ g (drop at doc) at → Finds g doc at r → Finds f doc from r
 carries {f} {g} {doc} {from} {at} Absent h e c = record { onward = tt; is = e ∙ c .is }
 carries {f} {g} {doc} {from} {at} (Found a end) h e c =
-    record { onward = (omega (arith, c .onward .0), c .onward .1, fit-wide h (omega arith) (c .onward .2)); is = e ∙ c .is }
+    record { onward = (omega (arith, c .onward .0), c .onward .1, fit-wide h (omega arith) (c .onward .2), c .onward .3); is = e ∙ c .is }
 
 -- a quote is one of two bytes
 pub quote-low : {b : ℕ} {t : Bool} → t ≡ quote b → t ≡ true → b ≤ 39
@@ -134,7 +134,7 @@ module _ {doc : List ℕ} {name n : ℕ} {tp : Bool} {at : ℕ} (g : Named doc n
         is = rw (drop-cons doc at 0 h, sym e ∙ f, to-close, drop-of-length-le doc l);
       }
 
-      pub value-found : v .end < length doc → Finds (openQuote name (part doc name n)) doc at (Found (record { name = name; «name_len» = n; value = at + 1; «value_len» = v .end - (at + 1); kind = v .kind; tp = tp }) (v .end + 1))
+      pub value-found : v .end < length doc → Finds (openQuote name (part doc name n)) doc at (Found (record { name = name; «name_len» = n; value = at + 1; «value_len» = v .end - (at + 1); kind = v .kind; tp = tp; twin = true }) (v .end + 1))
       value-found l =
           let r : span (other (getD doc at 0)) (drop (suc at) doc) ≡ part doc (suc at) (v .end - suc at) = rw add-one at (run-span (c .run)) in
           let p : suc at + length (span (other (getD doc at 0)) (drop (suc at) doc)) ≡ v .end = sym (rw add-one at (c .run .ends)) in
@@ -149,13 +149,20 @@ module _ {doc : List ℕ} {name n : ℕ} {tp : Bool} {at : ℕ} (g : Named doc n
                 kind = c .kind ∙ rw (run-span (c .run));
                 tp = g .type;
               },
+              refl,
             );
             is = rw (add-one at, add-one (v .end), drop-cons doc at 0 h, sym e ∙ f, to-close, drop-cons doc (v .end) 0 l, p, r);
           }
 
 pub ruleset values = (quote-low, value-ended, value-other, value-unclosed, value-found, needs)
 
--- at the `=`
+-- at the `=`, whatever the name: what is left is from the opening quote on
+pub equals-opens : (name : ℕ) (n : List ℕ) {doc : List ℕ} {at q : ℕ} → at < length doc → getD doc at 0 ≡ 61 → Run white doc (at + 1) q → equals name n (drop at doc) at ≡ openQuote name n (drop q doc) q
+equals-opens name n {doc} {at} {q} h e w =
+    let p : suc at + length (span white (drop (suc at) doc)) ≡ q = sym (rw add-one at (w .ends)) in
+    let m : past white (drop (suc at) doc) ≡ drop q doc = rw add-one at (run-rest w) in
+    rw (drop-cons doc at 0 h, e, m, p)
+
 module _ {doc : List ℕ} {name n : ℕ} {tp : Bool} {at : ℕ} (g : Named doc name n tp at) where
   pub equals-ended : length doc ≤ at → Finds (equals name (part doc name n)) doc at Absent
   equals-ended h = record { onward = tt; is = rw (drop-of-length-le doc h) }
@@ -164,10 +171,7 @@ module _ {doc : List ℕ} {name n : ℕ} {tp : Bool} {at : ℕ} (g : Named doc n
   equals-other h e = record { onward = tt; is = rw (drop-cons doc at 0 h, ne-eqb _ _ e) }
 
   pub equals-found : {q : ℕ} {r : One} → at < length doc → getD doc at 0 ≡ 61 → Run white doc (at + 1) q → Finds (openQuote name (part doc name n)) doc q r → Finds (equals name (part doc name n)) doc at r
-  equals-found {q} {r} h e w c =
-      let p : suc at + length (span white (drop (suc at) doc)) ≡ q = sym (rw add-one at (w .ends)) in
-      let m : past white (drop (suc at) doc) ≡ drop q doc = rw add-one at (run-rest w) in
-      carries r (omega (arith, w .onward)) (rw (drop-cons doc at 0 h, e, m, p)) c
+  equals-found {q} {r} h e w c = carries r (omega (arith, w .onward)) (equals-opens name (part doc name n) h e w) c
 
   pub named-on : {q : ℕ} → at < length doc → Run white doc (at + 1) q → Named doc name n tp q
   named-on h w = record { small = g .small; inside = w .within; before = omega (arith, g .before, w .onward); type = g .type }
@@ -184,12 +188,12 @@ module _ {doc : List ℕ} {from name : ℕ} (w : Run white doc from name) where
     none-named l = record { onward = tt; is = rw (run-some w h, run-rest w, run-empty n l) }
 
     module _ (l : name < end) {at : ℕ} (v : Run white doc end at) where
-      pub attribute-found : {r : One} → Finds (equals name (part doc name (end - name))) doc at r → Finds attribute doc from r
+      pub attribute-equals : attribute (drop from doc) from ≡ equals name (part doc name (end - name)) (drop at doc) at
       unfolding attribute
-      attribute-found {r} c =
-          carries r (omega (arith, w .onward, n .onward, v .onward))
-          (rw (run-some w h, run-rest w, ← w .ends, run-some n l, run-rest n, run-rest v, ← n .ends, ← v .ends, run-span n))
-          c
+      attribute-equals = rw (run-some w h, run-rest w, ← w .ends, run-some n l, run-rest n, run-rest v, ← n .ends, ← v .ends, run-span n)
+
+      pub attribute-found : {r : One} → Finds (equals name (part doc name (end - name))) doc at r → Finds attribute doc from r
+      attribute-found {r} c = carries r (omega (arith, w .onward, n .onward, v .onward)) attribute-equals c
 
 pub named-before : {doc : List ℕ} {from name end at : ℕ} {tp : Bool} → length doc ≤ 1048576 → Run white doc from name → Run nameByte doc name end → Run white doc end at → tp ≡ isTpType (part doc name (end - name)) → Named doc name (end - name) tp at
 named-before s w n v e = record { small = s; inside = v .within; before = omega (arith, n .onward, v .onward); type = e }

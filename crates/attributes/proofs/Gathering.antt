@@ -1,20 +1,21 @@
 -- The attributes of a tag, gathered; the whole answer.
 -- Assumes nothing.
 use Prim.Native.Nat.{ℕ, zero, suc, _+_, _-_, _≤_, _<_}
-use mathlib.Core.Path.{_≡_, refl, ap, _∙_}
+use mathlib.Core.Path.{_≡_, refl, sym, ap, _∙_}
+use mathlib.Core.Bool.{Bool, true, false}
 use mathlib.Core.List.{List, [], _∷_, _++_, map-append}
-use mathlib.Core.Option.{none}
 use borrow.Author.Needs.{needs}
 use native.Mathlib.Numerals.{add-one}
 use native.Mathlib.Omega.{arith}
 use lib.ListN.{length, drop, getD, set, length-set}
-use lib.Seq.{take-suc-set, getD-set-same, getD-set-other}
+use lib.Seq.{take-suc-set, take-set-le, getD-set-same, getD-set-other}
 use native.Mathlib.Decide.{decLt}
 use Rattle.document.specs.Tags.{Attr, absent, attribute, Gathered, gathered, tooMany, with, gather}
 use Rattle.document.specs.declared.Values.{Values}
-use Rattle.attributes.specs.One.{Fit, Finds}
-use Rattle.attributes.specs.Lookup.{blank, firstBy, valueIn, valueOf, valuesIn, PicksAll}
-use Rattle.attributes.specs.Outcome.{Fitted, Checkable, attrsOf, Checks, Finishes, Gathers}
+use Rattle.attributes.specs.One.{attrOf, Fit, Finds}
+use Rattle.attributes.specs.Lookup.{blank, PicksAll}
+use Rattle.attributes.specs.Outcome.{Fitted, Fresh, Checkable, attrsOf, listed, Checks, Finishes, Gathers}
+use Rattle.attributes.specs.Twins.{mark}
 use Rattle.attributes.specs.declared.Attribute.{Attribute}
 use Rattle.attributes.specs.declared.One.{One}
 use Rattle.attributes.specs.declared.One.the-variants.{Absent, Found}
@@ -33,15 +34,6 @@ module _ {doc : List ℕ} {xs : List Attribute} {n at : ℕ} {v : AttributeCheck
 
   pub finish-all : {w : Values} → v ≡ verdict.Good → PicksAll doc xs n w → Finishes doc xs n at (All at w)
   finish-all e g = let d = (rw e at c) .is in record { is = (d .0, d .1, refl, g .is) }
-
--- the values of a tag without attributes
-abbrev pub noValues : Values
-noValues = record { name = valueOf none; ty = valueOf none; value = valueOf none; access = valueOf none; direction = valueOf none; suffix = valueOf none; tp = valueOf none }
-
--- no attribute at all
-pub finish-bare : (doc : List ℕ) (xs : List Attribute) (n at : ℕ) → n ≡ 0 → Finishes doc xs n at (All at noValues)
-unfolding valuesIn valueIn firstBy
-finish-bare doc xs n at e = rw e record { is = ([], refl, refl, refl) }
 
 -- ---- the loop
 
@@ -67,6 +59,20 @@ unfolding gather
 gather-none zero l at e = rw e
 gather-none (suc n) l at e = rw e
 
+-- ---- the marks
+
+pub fresh-none : {doc : List ℕ} {xs : List Attribute} → Fresh doc xs 0
+fresh-none = record { rule = λ k b. absurd (omega arith) }
+
+pub fresh-more : {doc : List ℕ} {xs : List Attribute} {n : ℕ} → Fresh doc xs n → (b : Attribute) → n < length xs → (b .twin ≡ false → listed (attrOf doc b .name) (attrsOf doc xs n) ≡ false) → Fresh doc (set xs n b) (n + 1)
+fresh-more {doc} {xs} {n} f b h new = record { rule = λ j l. go j (decLt j n) (omega arith) }
+  where
+    go : (j : ℕ) → Dec (j < n) → j < n + 1 → getD (set xs n b) j blank .twin ≡ false → listed (attrOf doc (getD (set xs n b) j blank) .name) (attrsOf doc (set xs n b) j) ≡ false
+    go j (yes l) k = rw (getD-set-other xs n j b blank (omega arith), take-set-le j xs n b (omega arith)) (f .rule j l)
+    go j (no l) k =
+        let q : j ≡ n = omega arith in
+        rw (q, getD-set-same xs n b blank h, take-set-le n xs n b (omega arith)) new
+
 -- gathering into an array of m that stands at at: what was asked is what is asked from here on, after the first n
 pub record Gathering (m : ℕ) (doc : List ℕ) (from : ℕ) (xs : List Attribute) (n at : ℕ) : Type 0 where
   pub left : gather 256 (drop from doc) from ≡ extend (attrsOf doc xs n) (gather (256 - n) (drop at doc) at)
@@ -90,8 +96,8 @@ module _ {m : ℕ} {doc : List ℕ} {from : ℕ} {xs : List Attribute} {n at : �
   pub gather-inside : at ≤ length doc
   gather-inside = g .inside
 
-  pub gather-checkable : length doc ≤ 1048576 → Checkable doc xs n
-  gather-checkable s = record { small = s; fitted = record { rule = λ k b. fit-wide (omega arith) (g .inside) (g .fitted .rule k b) } }
+  pub gather-checkable : length doc ≤ 1048576 → Fresh doc xs n → Checkable doc xs n
+  gather-checkable s f = record { small = s; fitted = record { rule = λ k b. fit-wide (omega arith) (g .inside) (g .fitted .rule k b) }; fresh = f }
 
   module _ {o : One} (c : Finds attribute doc at o) where
     pub gather-ends : {r : Attrs} → o ≡ Absent → Finishes doc xs n at r → Gathers doc from r
@@ -118,31 +124,45 @@ module _ {m : ℕ} {doc : List ℕ} {from : ℕ} {xs : List Attribute} {n at : �
       pub gather-less : length doc - end < length doc - at
       gather-less = let d = (rw e at c) .onward in omega (arith, d .0, d .1)
 
-      step : n < m → m ≤ 256 → gather 256 (drop from doc) from ≡ extend (attrsOf doc (set xs n a) (n + 1)) (gather (256 - (n + 1)) (drop end doc) end)
+      -- the place of the name
+      pub gather-named : a .name + a .«name_len» ≤ length doc
+      gather-named = let d = (rw e at c) .onward in omega (arith, d .1, d .2 .name)
+
+      step : (t : Bool) → n < m → m ≤ 256 → gather 256 (drop from doc) from ≡ extend (attrsOf doc (set xs n (mark a t)) (n + 1)) (gather (256 - (n + 1)) (drop end doc) end)
       unfolding gather
-      step h k =
+      step t h k =
           let z : 256 - n ≡ suc (256 - suc n) = omega arith in
           let b : n < length xs = omega (arith, g .long) in
-          g .left ∙ rw (z, (rw e at c) .is, extend-with, add-one, take-suc-set xs n a b, map-append)
+          g .left ∙ rw (z, (rw e at c) .is, extend-with, add-one, take-suc-set xs n (mark a t) b, map-append)
 
-      pub gather-more : n < m → m ≤ 256 → Gathering m doc from (set xs n a) (n + 1) end
-      gather-more h k =
+      -- whatever its mark
+      pub gather-marked : (t : Bool) → n < m → m ≤ 256 → Gathering m doc from (set xs n (mark a t)) (n + 1) end
+      gather-marked t h k =
           let d = rw e at c in
           record {
-            left = step h k;
+            left = step t h k;
             fitted = record { rule = λ j b. fit j (decLt j n) (omega arith) };
-            long = length-set xs n a ∙ g .long;
+            long = length-set xs n (mark a t) ∙ g .long;
             many = omega arith;
             since = omega (arith, g .since, d .onward .0);
             inside = d .onward .1;
           }
         where
-          fit : (j : ℕ) → Dec (j < n) → j < n + 1 → Fit doc from end (getD (set xs n a) j blank)
+          same : Fit doc at end a → Fit doc at end (mark a t)
+          same f = record { name = f .name; value = f .value; short = f .short; kind = f .kind; tp = f .tp }
+
+          fit : (j : ℕ) → Dec (j < n) → j < n + 1 → Fit doc from end (getD (set xs n (mark a t)) j blank)
           fit j (yes l) b =
               let d = (rw e at c) .onward in
-              rw (getD-set-other xs n j a blank (omega arith)) (fit-wide (omega arith) (omega (arith, d .0)) (g .fitted .rule j l))
+              rw (getD-set-other xs n j (mark a t) blank (omega arith)) (fit-wide (omega arith) (omega (arith, d .0)) (g .fitted .rule j l))
           fit j (no l) b =
               let q : j ≡ n = omega arith in
-              rw (q, getD-set-same xs n a blank (omega (arith, g .long))) (fit-wide (g .since) (omega arith) ((rw e at c) .onward .2))
+              rw (q, getD-set-same xs n (mark a t) blank (omega (arith, g .long))) (fit-wide (g .since) (omega arith) (same ((rw e at c) .onward .2)))
 
-pub ruleset gathers = (finish-bare, gather-begins, gather-inside, gather-checkable, gather-ends, gather-full, gather-less, gather-more, needs)
+      pub gather-more : n < m → m ≤ 256 → Gathering m doc from (set xs n a) (n + 1) end
+      gather-more h k = gather-marked (a .twin) h k
+
+      pub gather-fresh : n < m → Fresh doc xs n → Fresh doc (set xs n a) (n + 1)
+      gather-fresh h f = fresh-more f a (omega (arith, g .long)) (λ t. let w : true ≡ false = sym ((rw e at c) .onward .3) ∙ t in let z : _≡_ {A = ℕ} 0 1 = cc in absurd (omega arith))
+
+pub ruleset gathers = (gather-begins, gather-inside, gather-checkable, gather-ends, gather-full, gather-less, gather-more, fresh-none, gather-fresh, needs)

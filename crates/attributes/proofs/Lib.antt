@@ -8,3 +8,7 @@ pub mod Shown
 pub mod Checking
 pub mod Picked
 pub mod Gathering
+pub mod Classes
+pub mod Starting
+pub mod Slots
+pub mod Marking

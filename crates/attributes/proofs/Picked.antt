@@ -1,6 +1,6 @@
 -- The values of the first attributes: they are those of the definition's lookups, and they fit.
 -- Assumes nothing.
-use Prim.Native.Nat.{ℕ, suc, _-_, _≤_, _<_}
+use Prim.Native.Nat.{ℕ, suc, _≤_, _<_}
 use mathlib.Core.Path.{_≡_, refl, sym, ap, _∙_}
 use mathlib.Core.List.{List, [], _∷_, map}
 use mathlib.Core.Option.{Option, none, some}
@@ -57,7 +57,7 @@ check-shown doc seen (y ∷ ys) ss e = go (member (attrOf doc y .name) seen) e (
 
 -- ---- the values
 
-abbrev AllFit : List ℕ → ℕ → ℕ → List Attribute → Type 0
+abbrev pub AllFit : List ℕ → ℕ → ℕ → List Attribute → Type 0
 AllFit doc from to ys = (k : ℕ) → k < length ys → Fit doc from to (getD ys k blank)
 
 module _ (q : Attribute → Bool) (doc : List ℕ) (from to : ℕ) (b : to ≤ length doc) where
@@ -95,7 +95,7 @@ module _ (q : Attribute → Bool) (doc : List ℕ) (from to : ℕ) (b : to ≤ l
       go false g i = i
 
 module _ {doc : List ℕ} {from to : ℕ} {xs : List Attribute} {n : ℕ} (g : Fitted doc from to xs n) (l : n ≤ length xs) (b : to ≤ length doc) where
-  all-fit : AllFit doc from to (take n xs)
+  pub all-fit : AllFit doc from to (take n xs)
   all-fit k h =
       let e : length (take n xs) ≡ n = length-take-le n xs l in
       rw (getD-take n xs k blank (omega arith)) (g .rule k (omega arith))

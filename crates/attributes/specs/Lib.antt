@@ -3,3 +3,5 @@
 pub mod One
 pub mod Lookup
 pub mod Outcome
+pub mod Slots
+pub mod Twins

@@ -15,7 +15,7 @@ use Rattle.attributes.specs.declared.Attribute.{Attribute}
 
 -- the struct that stands for no attribute
 abbrev pub blank : Attribute
-blank = record { name = 0; «name_len» = 0; value = 0; «value_len» = 0; kind = 0; tp = false }
+blank = record { name = 0; «name_len» = 0; value = 0; «value_len» = 0; kind = 0; tp = false; twin = true }
 
 -- so many bytes from a place on lie within the document, and are of a kind
 unfoldable pub partIs : (List ℕ → Bool) → List ℕ → ℕ → ℕ → Bool

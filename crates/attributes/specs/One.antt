@@ -3,7 +3,7 @@
 use Prim.Native.Nat.{ℕ, _+_, _≤_, _<_}
 use mathlib.Core.Path.{_≡_}
 use mathlib.Core.List.{List}
-use mathlib.Core.Bool.{Bool}
+use mathlib.Core.Bool.{Bool, true}
 use lib.ListN.{length, take, drop}
 use Rattle.slices.specs.Bytes.{if, other, span, all}
 use Rattle.slices.specs.Run.{Run}
@@ -52,7 +52,7 @@ pub record Named (doc : List ℕ) (name n : ℕ) (tp : Bool) (at : ℕ) : Type 0
 
 abbrev pub Onward : List ℕ → ℕ → One → Type 0
 Onward doc from One.Absent = Unit {0}
-Onward doc from (One.Found a end) = (from < end) × (end ≤ length doc) × Fit doc from end a
+Onward doc from (One.Found a end) = (from < end) × (end ≤ length doc) × Fit doc from end a × (a .twin ≡ true)
 
 abbrev pub IsFound : (List ℕ → ℕ → Found) → List ℕ → ℕ → One → Type 0
 IsFound f doc from One.Absent = f (drop from doc) from ≡ absent

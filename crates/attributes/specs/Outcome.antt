@@ -25,14 +25,29 @@ use Rattle.attributes.specs.declared.Attrs.{Attrs}
 pub record Fitted (doc : List ℕ) (from to : ℕ) (ys : List Attribute) (n : ℕ) : Type 0 where
   pub rule : (k : ℕ) → k < n → Fit doc from to (getD ys k blank)
 
--- the first n of the attributes lie in the document, which is within the limit
+-- what the first n of the attributes stand for
+abbrev pub attrsOf : List ℕ → List Attribute → ℕ → List Attr
+attrsOf doc ys n = map (attrOf doc) (take n ys)
+
+-- whether one of the attributes has the name
+abbrev pub listed : List ℕ → List Attr → Bool
+listed n [] = false
+listed n (x ∷ xs) = let r = listed n xs in if (same (x .name) n) true r
+
+-- of the first n, one whose mark is false has a name that none before it has
+pub record Fresh (doc : List ℕ) (ys : List Attribute) (n : ℕ) : Type 0 where
+  pub rule : (k : ℕ) → k < n → getD ys k blank .twin ≡ false → listed (attrOf doc (getD ys k blank) .name) (attrsOf doc ys k) ≡ false
+
+-- how many of the i attributes before one, by its mark, its name is looked for among
+abbrev pub among : Bool → ℕ → ℕ
+among true i = i
+among false i = 0
+
+-- the first n of the attributes lie in the document, which is within the limit, and their marks are right
 pub record Checkable (doc : List ℕ) (ys : List Attribute) (n : ℕ) : Type 0 where
   pub small : length doc ≤ 1048576
   pub fitted : Fitted doc 0 (length doc) ys n
-
--- what the first n of them stand for
-abbrev pub attrsOf : List ℕ → List Attribute → ℕ → List Attr
-attrsOf doc ys n = map (attrOf doc) (take n ys)
+  pub fresh : Fresh doc ys n
 
 -- the check of the references of one value, whose raw bytes have a place and a length
 abbrev pub IsShown : List ℕ → ℕ → ℕ → AttributeCheck → Type 0
@@ -41,11 +56,6 @@ IsShown doc at n (AttributeCheck.Fault k p) = (q : ℕ) × (unescape (part doc a
 
 pub record References (doc : List ℕ) (at n : ℕ) (r : AttributeCheck) : Type 0 where
   pub is : IsShown doc at n r
-
--- whether one of the attributes has the name
-abbrev pub listed : List ℕ → List Attr → Bool
-listed n [] = false
-listed n (x ∷ xs) = let r = listed n xs in if (same (x .name) n) true r
 
 -- the check of one attribute, whose name came before or not: duplicate before reference
 abbrev pub IsJudged : Attr → Bool → AttributeCheck → Type 0

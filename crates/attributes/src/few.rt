@@ -1,15 +1,14 @@
-// The usual tag: no more than 5 attributes, in an array of that many.
-ghost use Prim.Native.Nat.{_≤_};
+// The usual tag: each value goes straight into the slot of its name's class. A tag with two names of a class, or a value that is changed or not closed, is gathered by `some`.
+ghost use Prim.Native.Nat.{_≤_, _<_};
 ghost use lib.ListN.{length};
 ghost use Rattle.scan.specs.Classes.{Classes};
 ghost use Rattle.attributes.specs.Lookup.{KeyTable};
-ghost use Rattle.attributes.specs.Outcome.{Checkable, Finishes, Gathers};
-use crate::Attribute;
+ghost use Rattle.attributes.specs.Outcome.{Gathers};
+ghost use Rattle.attributes.specs.Slots.{High, Plain};
 use crate::Attrs;
-use crate::One;
-use crate::attribute_at;
-use crate::gathered;
-use crate::many;
+use crate::is_special;
+use crate::some;
+use crate::starts::start_at;
 use document::Value;
 use document::Values;
 
@@ -19,57 +18,76 @@ const NO_VALUE: Value = Value {
     kind: 0,
 };
 
-// The values of a tag without attributes.
-const NO_VALUES: Values = Values {
-    name: NO_VALUE,
-    ty: NO_VALUE,
-    value: NO_VALUE,
-    access: NO_VALUE,
-    direction: NO_VALUE,
-    suffix: NO_VALUE,
-    tp: NO_VALUE,
-};
-
-// The first n of an array, which end at a place: lent as a slice.
-fn finish(doc: &[u8], attrs: [Attribute; 5], n: usize, keys: &[u8], at: usize) -> Attrs
-    requires { ⌜ (n ≤ 5) × Checkable (now doc) attrs n × KeyTable (now keys) ⌝ }
-    ensures { λ r. ⌜ Finishes (now (doc .entry)) attrs n «at» r ⌝ }
+// How many bytes from a place on are above quotes and special bytes: of the next 8, as far as there are so many.
+fn high(doc: &[u8], at: usize) -> usize
+    requires { ⌜ (at < length (now doc)) × (length (now doc) ≤ 1048576) ⌝ }
+    ensures { λ r. ⌜ High (now (doc .entry)) «at» r ⌝ }
 {
-    gathered::finish(doc, &attrs, n, keys, at)
+    if doc.len() < at + 8 {
+        return 0;
+    }
+    slices::first_below(doc, at, 40)
 }
 
-// The attributes from a place on. Where there is a sixth they are gathered once more, in a larger array.
+// The end of a value that is shown as it stands, or the length where there is a special byte or no quote closes it.
+fn plain_end(doc: &[u8], from: usize, quote: u8) -> usize
+    requires { ⌜ (from ≤ length (now doc)) × (length (now doc) ≤ 1048576) × («quote» ≤ 39) ⌝ }
+    ensures { λ r. ⌜ Plain «quote» (now (doc .entry)) from r ⌝ }
+{
+    let mut at = from;
+    while at < doc.len() {
+        let k = high(doc, at);
+        at += k;
+        if k < 8 {
+            let b = doc[at];
+            if b == quote {
+                return at;
+            }
+            if is_special(b) {
+                return doc.len();
+            }
+            at += 1;
+        }
+    }
+    at
+}
+
+// The attributes from a place on.
 pub fn gather(doc: &[u8], classes: &[u8; 256], keys: &[u8], from: usize) -> Attrs
     requires { ⌜ (from ≤ length (now doc)) × (length (now doc) ≤ 1048576) × Classes (now classes) × KeyTable (now keys) ⌝ }
     ensures { λ r. ⌜ Gathers (now (doc .entry)) from r ⌝ }
 {
-    let blank = Attribute {
-        name: 0,
-        name_len: 0,
-        value: 0,
-        value_len: 0,
-        kind: 0,
-        tp: false,
-    };
-    let mut attrs = [blank; 5];
-    let mut n = 0;
+    let mut slots = [NO_VALUE; 8];
     let mut at = from;
     loop {
-        match attribute_at(doc, classes, at) {
-            One::Absent => {
-                if n == 0 {
-                    return Attrs::All(at, NO_VALUES);
-                }
-                return finish(doc, attrs, n, keys, at);
-            }
-            One::Found(a, end) => {
-                if 5 <= n {
-                    return many::gather(doc, classes, keys, from);
-                }
-                attrs[n] = a;
-                n += 1;
-                at = end;
-            }
+        let s = start_at(doc, classes, at);
+        let class = s.class;
+        if 8 <= class {
+            let v = Values {
+                name: slots[0],
+                ty: slots[1],
+                value: slots[2],
+                access: slots[3],
+                direction: slots[4],
+                suffix: slots[5],
+                tp: slots[6],
+            };
+            return Attrs::All(at, v);
         }
+        let value = s.value;
+        let end = plain_end(doc, value, s.quote);
+        if doc.len() <= end {
+            return some::gather(doc, classes, keys, from);
+        }
+        let before = slots[class];
+        if before.kind != 0 {
+            return some::gather(doc, classes, keys, from);
+        }
+        slots[class] = Value {
+            at: value as u32,
+            len: (end - value) as u32,
+            kind: 1,
+        };
+        at = end + 1;
     }
 }

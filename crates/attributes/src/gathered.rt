@@ -1,9 +1,10 @@
 // The attributes of a tag, gathered and lent as a slice: the first equal name, the values, and the check one by one.
+ghost use mathlib.Core.Path.{_≡_};
 ghost use Prim.Native.Nat.{suc, _≤_, _<_};
 ghost use lib.ListN.{length};
 ghost use Rattle.attributes.specs.Lookup.{wanted, KeyTable, Picks, PicksAll};
 ghost use Rattle.attributes.specs.One.{Fit};
-ghost use Rattle.attributes.specs.Outcome.{Checkable, Weighs, Judges, Checks, Finishes};
+ghost use Rattle.attributes.specs.Outcome.{among, Checkable, Weighs, Judges, Checks, Finishes};
 use crate::Attribute;
 use crate::AttributeCheck;
 use crate::Attrs;
@@ -74,13 +75,24 @@ fn weigh(doc: &[u8], a: Attribute, before: Value) -> AttributeCheck
     references_of(doc, a.value as usize, a.value_len as usize)
 }
 
+// How many of the i before it an attribute's name is looked for among: none where no one has it.
+fn until(twin: bool, i: usize) -> usize
+    ensures { λ r. ⌜ r ≡ among «twin» i ⌝ }
+{
+    if twin {
+        return i;
+    }
+    0
+}
+
 // One attribute after those before it.
 fn judge(doc: &[u8], attrs: &[Attribute], i: usize) -> AttributeCheck
     requires { ⌜ (i < length (now attrs)) × Checkable (now doc) (now attrs) (suc i) ⌝ }
     ensures { λ r. ⌜ Judges (now (doc .entry)) (now (attrs .entry)) i r ⌝ }
 {
     let a = attrs[i];
-    let before = first_named(doc, attrs, i, doc, a.name, a.name_len, false);
+    let m = until(a.twin, i);
+    let before = first_named(doc, attrs, m, doc, a.name, a.name_len, false);
     weigh(doc, a, before)
 }
 

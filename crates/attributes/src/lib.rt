@@ -16,8 +16,10 @@ mod few;
 mod gathered;
 mod many;
 mod names;
+mod some;
+mod starts;
 
-// An attribute: places and lengths of its name and its raw value; kind 1 the value is shown as it stands, 2 changed; whether it is a tp type.
+// An attribute: places and lengths of its name and its raw value; kind 1 the value is shown as it stands, 2 changed; whether it is a tp type; `twin` false says that no attribute before it has its name, true says nothing.
 pub struct Attribute {
     pub name: u32,
     pub name_len: u32,
@@ -25,6 +27,7 @@ pub struct Attribute {
     pub value_len: u32,
     pub kind: u32,
     pub tp: bool,
+    pub twin: bool,
 }
 
 // What stands at a place: no attribute, or one and the place after it.
@@ -37,6 +40,19 @@ pub enum One {
 pub struct ValueEnd {
     pub end: usize,
     pub kind: u32,
+}
+
+// A name's class, 8 where there is no attribute; the place of the value, and the quote before it.
+pub struct Start {
+    pub class: usize,
+    pub value: usize,
+    pub quote: u8,
+}
+
+// A name's class, 8 where it is not one of the usual; its length.
+pub struct Known {
+    pub class: usize,
+    pub len: usize,
 }
 
 // What checking comes to: a fault's number and place, or none.
@@ -119,6 +135,7 @@ fn quoted_value(doc: &[u8], name: usize, n: usize, tp: bool, at: usize) -> One
             value_len: (end - value) as u32,
             kind: v.kind,
             tp,
+            twin: true,
         };
         return One::Found(a, end + 1);
     }

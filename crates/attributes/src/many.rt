@@ -1,35 +1,40 @@
-// A tag of more than 5 attributes: an array of 256, which is the limit.
-ghost use Prim.Native.Nat.{_≤_};
+// A tag of more than 16 attributes: an array of 256, which is the limit. An attribute is compared with those before it only where the entry of its name's hash is taken.
+ghost use mathlib.Core.Path.{_≡_};
+ghost use Prim.Native.Nat.{_+_, _≤_};
 ghost use lib.ListN.{length};
 ghost use Rattle.scan.specs.Classes.{Classes};
-ghost use Rattle.document.specs.Tags.{attribute};
-ghost use Rattle.attributes.specs.One.{Finds};
 ghost use Rattle.attributes.specs.Lookup.{KeyTable};
+ghost use Rattle.attributes.specs.Twins.{EntryIs, mark};
 ghost use Rattle.attributes.specs.Outcome.{Checkable, Finishes, Gathers};
 use crate::Attribute;
 use crate::Attrs;
 use crate::One;
-use crate::equals_at;
+use crate::attribute_at;
 use crate::gathered;
-use crate::is_tp_type;
 
-// As the usual tag's function of that name. Each has one caller, so both are compiled in line, which is worth a twentieth.
-fn attribute_at(doc: &[u8], classes: &[u8; 256], from: usize) -> One
-    requires { ⌜ (from ≤ length (now doc)) × (length (now doc) ≤ 1048576) × Classes (now classes) ⌝ }
-    ensures { λ r. ⌜ Finds attribute (now (doc .entry)) from r ⌝ }
+// The entry of a name, n bytes from a place on.
+fn entry(doc: &[u8], at: u32, n: u32) -> usize
+    requires { ⌜ («at» + n ≤ length (now doc)) × (length (now doc) ≤ 1048576) ⌝ }
+    ensures { λ r. ⌜ EntryIs (now (doc .entry)) «at» n r ⌝ }
 {
-    let start = scan::space_end(doc, classes, from);
-    if start <= from {
-        return One::Absent;
+    let from = at as usize;
+    let to = from + n as usize;
+    slices::hash(&doc[from..to]) as usize % 4096
+}
+
+// The attribute with a mark.
+fn marked(a: Attribute, twin: bool) -> Attribute
+    ensures { λ r. ⌜ r ≡ mark a «twin» ⌝ }
+{
+    Attribute {
+        name: a.name,
+        name_len: a.name_len,
+        value: a.value,
+        value_len: a.value_len,
+        kind: a.kind,
+        tp: a.tp,
+        twin,
     }
-    let name = scan::name_at(doc, classes, start);
-    let end = name.end;
-    if end <= start {
-        return One::Absent;
-    }
-    let tp = is_tp_type(doc, start, name);
-    let at = scan::space_end(doc, classes, end);
-    equals_at(doc, classes, start, end - start, tp, at)
 }
 
 // The first n of an array, which end at a place: lent as a slice.
@@ -52,8 +57,10 @@ pub fn gather(doc: &[u8], classes: &[u8; 256], keys: &[u8], from: usize) -> Attr
         value_len: 0,
         kind: 0,
         tp: false,
+        twin: true,
     };
     let mut attrs = [blank; 256];
+    let mut seen = [false; 4096];
     let mut n = 0;
     let mut at = from;
     loop {
@@ -65,7 +72,9 @@ pub fn gather(doc: &[u8], classes: &[u8; 256], keys: &[u8], from: usize) -> Attr
                 if 256 <= n {
                     return Attrs::Fault(17, a.name as usize);
                 }
-                attrs[n] = a;
+                let e = entry(doc, a.name, a.name_len);
+                attrs[n] = marked(a, seen[e]);
+                seen[e] = true;
                 n += 1;
                 at = end;
             }

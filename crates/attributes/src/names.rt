@@ -19,7 +19,7 @@ fn is_key(doc: &[u8], at: u32, n: u32, keys: &[u8], key: u32, len: u32) -> bool
     if keys.len() < end {
         return false;
     }
-    slices::equal(&doc[from..to], &keys[begin..end])
+    slices::equal_long(&doc[from..to], &keys[begin..end])
 }
 
 // Whether an attribute is a tp type, where that is asked, or else its name, n bytes from a place on, is the key.

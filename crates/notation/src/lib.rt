@@ -1,10 +1,7 @@
-// How cases are written (crates/reading_cases/stdin): numbers here, bytes in `text` and `shown`, rows of words in `words`.
+// How cases are written (crates/part_cases/stdin): numbers and words here, texts in `text`.
 ghost use mathlib.Core.Path.{_≡_};
-ghost use lib.ListN.{length};
 
-pub mod shown;
 pub mod text;
-pub mod words;
 
 // A number, and the place after it and the byte that ends it.
 pub struct Leading {
@@ -39,14 +36,6 @@ pub fn number(s: &[u8]) -> Leading {
     Leading { value, after: at }
 }
 
-// A number as a word; the largest word where it is larger.
-pub fn low(x: u64) -> u32 {
-    if x < 4294967296 {
-        return x as u32;
-    }
-    4294967295
-}
-
 // Whether a line is copied as it stands.
 pub fn is_comment(s: &[u8]) -> bool {
     if s.len() == 0 {
@@ -72,11 +61,4 @@ pub fn place_of(list: &[u8], word: &[u8]) -> usize {
         }
     }
     n
-}
-
-// Room for all cases.
-pub fn cases_buffer() -> [u8; 524288]
-    ensures { λ r. ⌜ 524288 ≡ length r ⌝ }
-{
-    [0; 524288]
 }

@@ -130,12 +130,3 @@ pub fn expand(out: &mut [u8], s: &[u8]) -> usize {
     }
     n
 }
-
-// Puts a byte everywhere.
-pub fn fill(out: &mut [u8], b: u8) {
-    let mut i = 0;
-    while i < out.len() {
-        store(out, i, b);
-        i += 1;
-    }
-}

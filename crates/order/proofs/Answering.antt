@@ -122,7 +122,7 @@ pub ruleset entry = (long-document, long-text, not-sound, is-sound, admits, need
 
 -- ---- the entry
 
-pub orders-all : {d x ws out work work′ : List ℕ} {n room : ℕ} {r : Order} → Answers d x ws n room out r → Wiped 0 work work′ → Orders d x ws n room work out work′ r
-orders-all {work = work} a z = record { says = a .says; idle = z .is ∙ clear-all work }
+pub orders-all : {d x ws out work used work′ : List ℕ} {n room : ℕ} {r : Order} → Answers d x ws n room out r → Wiped 0 used work′ → length used ≡ length work → Orders d x ws n room work out work′ r
+orders-all {used = used} a z e = record { says = a .says; idle = z .is ∙ clear-all used ∙ ap (λ (k : ℕ). replicate k 0) e }
 
 pub ruleset whole = (orders-all, needs)

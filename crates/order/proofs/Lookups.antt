@@ -92,11 +92,11 @@ among-append j (x ∷ a) b = go (eqb j x) (among-append j a b)
     go true h = refl
     go false h = h
 
-listed-is : (j : ℕ) (o : Option ℕ) → among j (listed o) ≡ true → o ≡ some j
+pub listed-is : (j : ℕ) (o : Option ℕ) → among j (listed o) ≡ true → o ≡ some j
 listed-is j none e = clash e refl
 listed-is j (some i) e = among-cases j i [] e (λ p. ap some (sym p)) (λ n. clash n refl)
 
-is-listed : (j : ℕ) (o : Option ℕ) → o ≡ some j → among j (listed o) ≡ true
+pub is-listed : (j : ℕ) (o : Option ℕ) → o ≡ some j → among j (listed o) ≡ true
 is-listed j o e = rw e (among-here j [])
 
 module _ (t : List Row) (j : ℕ) where

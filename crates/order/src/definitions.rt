@@ -20,7 +20,7 @@ pub fn is_definition<'a>(document: &'a [u8], text: &'a [u8], rows: &[u32], i: us
 }
 
 // Whether row i is a type definition of a name.
-fn has_name<'a>(document: &'a [u8], text: &'a [u8], rows: &[u32], i: usize, name: &[u8]) -> bool
+pub fn has_name<'a>(document: &'a [u8], text: &'a [u8], rows: &[u32], i: usize, name: &[u8]) -> bool
     requires { ⌜ i * 16 + 16 ≤ length (now rows) ⌝ }
     ensures { λ r. ⌜ HasName (now (document .entry)) (now (text .entry)) (now (rows .entry)) i (now (name .entry)) r ⌝ }
 {
@@ -49,7 +49,7 @@ fn first_named<'a>(document: &'a [u8], text: &'a [u8], rows: &[u32], n: usize, n
 }
 
 // Where the last two bytes of a type begin.
-fn last_two(tp: &[u8]) -> usize
+pub fn last_two(tp: &[u8]) -> usize
     ensures { λ r. ⌜ LastTwo (now (tp .entry)) r ⌝ }
 {
     if tp.len() < 2 {
@@ -59,7 +59,7 @@ fn last_two(tp: &[u8]) -> usize
 }
 
 // Whether a type ends in `[]`.
-fn is_array(tp: &[u8], end: usize) -> bool
+pub fn is_array(tp: &[u8], end: usize) -> bool
     requires { ⌜ LastTwo (now tp) end ⌝ }
     ensures { λ r. ⌜ IsArray (now (tp .entry)) r ⌝ }
 {
@@ -67,7 +67,7 @@ fn is_array(tp: &[u8], end: usize) -> bool
 }
 
 // What stands before that.
-fn element<'a>(tp: &'a [u8], end: usize) -> &'a [u8]
+pub fn element<'a>(tp: &'a [u8], end: usize) -> &'a [u8]
     requires { ⌜ LastTwo (now tp) end ⌝ }
     ensures { λ r. ⌜ ElementIs (now (tp .entry)) (now r) ⌝ }
 {

@@ -258,7 +258,7 @@ pub fn ignorable(s: &[u8], from: usize) -> Scan
     requires { ⌜ from ≤ length (now s) ⌝ }
     ensures { λ r. ⌜ Scans ignorable (now (s .entry)) from r ⌝ }
 {
-    let mut at = slices::find(s, from, 60);
+    let mut at = slices::find_near(s, from, 60);
     while at < s.len() {
         match markup_at(s, at) {
             Markup::Tag => {

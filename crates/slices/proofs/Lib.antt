@@ -3,3 +3,5 @@
 pub mod Runs
 pub mod Ends
 pub mod Skips
+pub mod Words
+pub mod Hashing

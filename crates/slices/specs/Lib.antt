@@ -2,3 +2,5 @@
 -- Assumes nothing.
 pub mod Bytes
 pub mod Run
+pub mod Word
+pub mod Hash

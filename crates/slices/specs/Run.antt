@@ -22,3 +22,8 @@ pub record Without (s : List ℕ) (b from r : ℕ) : Type 0 where
   pub onward : from ≤ r
   pub within : r ≤ length s
   pub none : (i : ℕ) → from ≤ i → i < r → getD s i 0 ≡ b → ⊥
+
+-- no byte from a place up to r is b, and b stands at r where that is before the end
+pub record Sought (s : List ℕ) (b from end r : ℕ) : Type 0 where
+  pub without : Without s b from r
+  pub found : r < end → getD s r 0 ≡ b

@@ -21,7 +21,7 @@ use Rattle.items.specs.Sound.{membersOf, counted}
 use Rattle.items.specs.Order.{parentAt, Under, DocumentOrder}
 use Rattle.items.proofs.Rows.{length-rowsOf, row-at, row-word}
 use Rattle.items.proofs.Words.{word-in}
-use Rattle.items.proofs.Order.{Falls, under-up, under-before, follow-falls, run-ends}
+use Rattle.items.proofs.Order.{under-up, under-before, follow-falls, run-ends}
 use Rattle.soundness.specs.Outcome.{Follows, Orders, Member, membersFrom, NextMember, Keyed, Counted}
 
 -- ---- document order
@@ -113,11 +113,11 @@ module _ (ws : List ℕ) (n i : ℕ) where
       let e : k + (n - k) ≡ n = omega arith in
       rw e at (members-skip (n - k) k (omega arith) (λ m a b. h m a (omega arith))) ∙ members-past n (omega arith)
 
-  -- the members of row i stand after it
-  pub members-after : i < n → Falls (parentAt ws) (suc i) → membersOf (suc i) (rowsOf n ws) ≡ membersFrom ws n i (suc i)
-  members-after l f =
+  -- in document order the members of row i stand after it
+  members-after : i < n → DocumentOrder ws n → membersOf (suc i) (rowsOf n ws) ≡ membersFrom ws n i (suc i)
+  members-after l o =
       rw zero-add at
-      (members-skip (suc i) 0 (omega arith) (λ m a b e. absurd (omega (arith, f m (omega arith)))))
+      (members-skip (suc i) 0 (omega arith) (λ m a b e. absurd (omega (arith, follow-falls (parentAt ws) n (o .under) m (omega arith)))))
 
 -- ---- the next member
 
@@ -145,10 +145,10 @@ module _ {ws : List ℕ} {n i from k : ℕ} (g : Seeking ws n i from k) where
   seek-ends h = nowhere (g .same ∙ members-past ws n i k h)
 
   module _ (l : k < n) where
-    pub seek-run-ends : {o : Bool} {p : ℕ} → Orders ws n o → o ≡ true → Word ws k 1 p → p ≤ i → NextMember ws n i from n
-    seek-run-ends o e p h =
+    pub seek-run-ends : {p : ℕ} → DocumentOrder ws n → Word ws k 1 p → p ≤ i → NextMember ws n i from n
+    seek-run-ends o p h =
         nowhere
-        (g .same ∙ members-none ws n i k (omega arith) (run-ends (parentAt ws) n (o .is e .under) i k (g .onward) (omega (arith, p .is))))
+        (g .same ∙ members-none ws n i k (omega arith) (run-ends (parentAt ws) n (o .under) i k (g .onward) (omega (arith, p .is))))
 
     module _ {b : Bool} (m : Member ws i k b) where
       pub seek-found : b ≡ true → NextMember ws n i from k
@@ -193,17 +193,18 @@ row-after a l = omega (arith, a .onward l)
 pub ruleset keys = (no-key, no-value, a-third, a-pair, row-after, needs)
 
 module _ (d x : List ℕ) {ws : List ℕ} {n i k : ℕ} (a : Word ws i 0 k) where
-  pub counts-struct : {m : ℕ} → k ≡ kinds.struct → NextMember ws n i (i + 1) m → Counted d x ws n i (ltb m n)
-  unfolding counted
-  counts-struct {m} e f = record {
-    is = below m n
-        (λ l. rw (← word-in a, e, lt-ltb m n l, rw add-one at (f .some l)))
-        (λ l. rw (← word-in a, e, le-ltb m n l, rw add-one at (f .none l)));
-  }
+  module _ (l : i < n) (o : DocumentOrder ws n) where
+    pub counts-struct : {m : ℕ} → k ≡ kinds.struct → NextMember ws n i (i + 1) m → Counted d x ws n i (ltb m n)
+    unfolding counted
+    counts-struct {m} e f = record {
+      is = rw (members-after ws n i l o) (below m n
+          (λ h. rw (← word-in a, e, lt-ltb m n h, rw add-one at (f .some h)))
+          (λ h. rw (← word-in a, e, le-ltb m n h, rw add-one at (f .none h))));
+    }
 
-  pub counts-mapping : {r : Bool} → k ≡ kinds.mapping → Keyed d x ws n i r → Counted d x ws n i r
-  unfolding counted
-  counts-mapping e f = record { is = f .is ∙ rw (← word-in a, e) }
+    pub counts-mapping : {r : Bool} → k ≡ kinds.mapping → Keyed d x ws n i r → Counted d x ws n i r
+    unfolding counted
+    counts-mapping e f = record { is = f .is ∙ rw (members-after ws n i l o, ← word-in a, e) }
 
   pub counts-none : (k ≡ kinds.struct → ⊥) → (k ≡ kinds.mapping → ⊥) → Counted d x ws n i true
   unfolding counted

@@ -14,16 +14,15 @@ use lib.ListN.{length, drop, getD}
 use Rattle.tables.specs.declared.Triple.{Triple}
 use Rattle.document.specs.Kinds as kinds
 use Rattle.document.specs.Elements.{mayHold}
-use Rattle.document.proofs.Tests.{never}
+use Rattle.utf8.proofs.Parts.{start-none}
 use Rattle.items.specs.Words.{RowWords, wordAt, Word, tripleAt, TripleIs, rowOf, rowsOf}
 use Rattle.items.specs.Sound.{kindAt, placed, goodTriple, nameUse, valueUse, tpUse, docUse, validName, validValue, anyText, inDocument, validWord, soundRow, firstBad, sound, unsound, soundness, goodRow}
-use Rattle.items.specs.Order.{parentAt}
-use Rattle.items.proofs.Rows.{row-at, rows-past, kind-at, row-word, before-it, row-parts}
-use Rattle.items.proofs.Order.{Falls, falls-more}
+use Rattle.items.specs.Order.{DocumentOrder}
+use Rattle.items.proofs.Rows.{row-at, rows-past, kind-at}
 use Rattle.items.proofs.Words.{word-in}
 use Rattle.soundness.specs.declared.Soundness.{Soundness}
-use Rattle.soundness.specs.Outcome.{goodDoc, goodFront, goodBack, Placed, Front, Back, RowSound, Judges, RowGood, Counted}
-use Rattle.soundness.proofs.Definitions.{members-after}
+use Rattle.soundness.specs.Outcome.{goodDoc, goodFront, goodBack, Placed, Front, Back, RowGood, Orders, Counted, Tallied, ByTally, Prepared, RowSound, Judges}
+use Rattle.soundness.proofs.Tallies.{tally-begins, tally-counts}
 
 -- ---- the place of a row
 
@@ -117,14 +116,6 @@ module _ (d x : List ℕ) (rows : List RowWords) (i : ℕ) (r : RowWords) where
       go true true true false o s w l = refl
       go true true true true o s w l = refl
 
-  -- its parent comes before it
-  good-placed : goodRow d x rows i r ≡ true → r .parent ≤ i
-  good-placed h = go (placed rows i r) refl
-    where
-      go : (b : Bool) → placed rows i r ≡ b → r .parent ≤ i
-      go true e = before-it rows i r e
-      go false e = never (rw e at (sym grouped ∙ h))
-
 module _ (d x ws : List ℕ) (i : ℕ) where
   pub not-placed : {b : Bool} → Placed ws i b → not b ≡ true → RowGood d x ws i false
   not-placed {b} p q = record { is = λ n l. sym (grouped d x (rowsOf n ws) i (rowOf (drop (i * 16) ws)) ∙ rw (sym (p .is n l) ∙ not-true b q)) }
@@ -157,18 +148,23 @@ pub ruleset whole = (not-placed, bad-front, bad-back, bad-word, last-word, needs
 module _ {d x ws : List ℕ} {n i : ℕ} {b : Bool} (l : i < n) (g : RowGood d x ws i b) where
   pub row-bad : not b ≡ true → RowSound d x ws n i false
   unfolding soundRow
-  row-bad q = record { is = λ f. rw (sym (g .is n l) ∙ not-true b q) }
+  row-bad q = record { is = rw (sym (g .is n l) ∙ not-true b q) }
 
   pub row-counted : {r : Bool} → not b ≡ false → Counted d x ws n i r → RowSound d x ws n i r
   unfolding soundRow
-  row-counted q c = record {
-    is = λ f.
-        let e : goodRow d x (rowsOf n ws) i (rowOf (drop (i * 16) ws)) ≡ true = sym (g .is n l) ∙ not-false b q in
-        let h = rw (row-word i 1 ws) at (good-placed d x (rowsOf n ws) i (rowOf (drop (i * 16) ws)) e) in
-        c .is ∙ rw (e, members-after ws n i l (falls-more (parentAt ws) i f h));
-  }
+  row-counted q c = record { is = c .is ∙ rw (sym (g .is n l) ∙ not-false b q) }
 
-pub ruleset sound-rows = (row-bad, row-counted, needs)
+  pub row-tallied : {o r : Bool} {ts : List ℕ} → not b ≡ false → Prepared d x ws n o ts → o ≡ false → ByTally ws i (getD ts i 0) r → RowSound d x ws n i r
+  row-tallied q p e t = row-counted q (tally-counts d x (p .tally e) l refl t)
+
+module _ {d x ws : List ℕ} {n : ℕ} {o : Bool} {ts : List ℕ} (p : Prepared d x ws n o ts) where
+  pub in-order : o ≡ true → DocumentOrder ws n
+  in-order e = p .order e
+
+  pub tally-room : {i : ℕ} → i < n → o ≡ false → i < length ts
+  tally-room l e = omega (arith, p .tally e .room)
+
+pub ruleset sound-rows = (row-bad, row-counted, row-tallied, in-order, tally-room, needs)
 
 -- ---- the first bad row
 
@@ -176,10 +172,9 @@ pub ruleset sound-rows = (row-bad, row-counted, needs)
 pub record Checking (d x ws : List ℕ) (n i : ℕ) : Type 0 where
   pub left : firstBad d x (rowsOf n ws) 0 (rowsOf n ws) ≡ firstBad d x (rowsOf n ws) i (drop i (rowsOf n ws))
   pub inside : i ≤ n
-  pub before : Falls (parentAt ws) i
 
 pub check-begins : (d x ws : List ℕ) (n : ℕ) → Checking d x ws n 0
-check-begins d x ws n = record { left = refl; inside = omega arith; before = λ k l. absurd (omega arith) }
+check-begins d x ws n = record { left = refl; inside = omega arith }
 
 module _ {d x ws : List ℕ} {n i : ℕ} (g : Checking d x ws n i) where
   pub check-ends : n ≤ i → i ≡ firstBad d x (rowsOf n ws) 0 (rowsOf n ws)
@@ -189,19 +184,25 @@ module _ {d x ws : List ℕ} {n i : ℕ} (g : Checking d x ws n i) where
 
   module _ {b : Bool} (h : i < n) (r : RowSound d x ws n i b) where
     pub check-stops : not b ≡ true → i ≡ firstBad d x (rowsOf n ws) 0 (rowsOf n ws)
-    check-stops q = sym (g .left ∙ rw (row-at n i ws h, sym (r .is (g .before)) ∙ not-true b q))
+    check-stops q = sym (g .left ∙ rw (row-at n i ws h, sym (r .is) ∙ not-true b q))
 
     pub check-more : not b ≡ false → Checking d x ws n (i + 1)
-    check-more q =
-        let e : soundRow d x (rowsOf n ws) i (rowOf (drop (i * 16) ws)) ≡ true = sym (r .is (g .before)) ∙ not-false b q in
-        let p = rw (row-word i 1 ws) at (before-it (rowsOf n ws) i (rowOf (drop (i * 16) ws)) (row-parts d x (rowsOf n ws) i (rowOf (drop (i * 16) ws)) e .placed)) in
-        record {
-          left = g .left ∙ rw (add-one, row-at n i ws h, e);
-          inside = omega arith;
-          before = λ k l. falls-more (parentAt ws) i (g .before) p k (omega arith);
-        }
+    check-more q = record {
+      left = g .left ∙ rw (add-one, row-at n i ws h, sym (r .is) ∙ not-false b q);
+      inside = omega arith;
+    }
 
-pub ruleset checks = (check-begins, check-ends, check-stops, check-more, needs)
+pub ruleset checks = (check-begins, check-ends, check-stops, check-more, start-none, needs)
+
+-- ---- the ways to it
+
+pub ready-order : (d x : List ℕ) {ws ts : List ℕ} {n : ℕ} {o : Bool} → Orders ws n o → o ≡ true → Prepared d x ws n true ts
+ready-order d x g e = record { order = λ q. g .is e; tally = λ q. let z : _≡_ {A = ℕ} 0 1 = cc in absurd (omega arith) }
+
+pub ready-tally : {d x ws ts : List ℕ} {n : ℕ} → Tallied d x ws n n ts → Prepared d x ws n false ts
+ready-tally g = record { order = λ q. let z : _≡_ {A = ℕ} 0 1 = cc in absurd (omega arith); tally = λ q. g }
+
+pub ruleset ways = (ready-order, ready-tally, tally-begins, needs)
 
 -- ---- what is said of the whole
 

@@ -1,15 +1,15 @@
 -- Triples of a row: absent, or a text that its kind may have there.
 -- Assumes nothing.
-use Prim.Native.Nat.{ℕ}
+use Prim.Native.Nat.{ℕ, _+_, _≤_, _<_}
 use mathlib.Core.Path.{_≡_, refl, sym, ap, _∙_}
 use mathlib.Core.List.{List, [], _∷_}
 use mathlib.Core.Bool.{Bool, true, false, not, _&&_, and-true, and-false}
 use borrow.Author.Needs.{needs}
-use borrow.Author.Tests.{eqb-true, ne-eqb}
+use borrow.Author.Tests.{eqb-true, ne-eqb, le-leb, lt-leb}
 use lib.Dec.{eqb}
-use lib.ListN.{length}
+use lib.ListN.{length, take, drop}
 use Rattle.slices.specs.Bytes.{if}
-use Rattle.utf8.specs.WellFormed.{illFormed, wellFormed}
+use Rattle.utf8.specs.WellFormed.{wellFormed}
 use Rattle.tables.specs.Triple.{inside, shown}
 use Rattle.tables.specs.declared.Triple.{Triple}
 use Rattle.names.proofs.Codes.{flag-on, flag-off}
@@ -20,15 +20,29 @@ use Rattle.soundness.specs.Outcome.{mayLackName, usesValue, usesTp, isTe
 
 -- ---- a text
 
-pub text-outside : (d x : List ℕ) (t : Triple) {b : Bool} → b ≡ inside d x t → not b ≡ true → false ≡ isText d x t
-unfolding isText
-text-outside d x t e f = rw (flag-off e f)
+module _ (d x : List ℕ) (t : Triple) where
+  pub text-past : t .source ≡ 1 → length d < t .start + t .len → false ≡ isText d x t
+  unfolding isText
+  text-past e l = rw (e, lt-leb (t .start + t .len) (length d) l)
 
-pub text-inside : (d x : List ℕ) (t : Triple) {b : Bool} {s : List ℕ} (n : ℕ) → b ≡ inside d x t → not b ≡ false → s ≡ shown d x t → n ≡ illFormed s → eqb n (length s) ≡ isText d x t
-unfolding isText
-text-inside d x t n e f h g = rw (flag-on e f, g, h)
+  pub text-in : {r : Bool} → t .source ≡ 1 → t .start + t .len ≤ length d → r ≡ wellFormed (take (t .len) (drop (t .start) d)) → r ≡ isText d x t
+  unfolding isText shown
+  text-in e l h = h ∙ rw (e, le-leb (t .start + t .len) (length d) l)
 
-pub ruleset parts = (text-outside, text-inside, needs)
+  module _ (n : t .source ≡ 1 → ⊥) where
+    pub text-nowhere : (t .source ≡ 2 → ⊥) → false ≡ isText d x t
+    unfolding isText
+    text-nowhere e = rw (ne-eqb (t .source) 1 n, ne-eqb (t .source) 2 e)
+
+    pub text-past-text : t .source ≡ 2 → length x < t .start + t .len → false ≡ isText d x t
+    unfolding isText
+    text-past-text e l = rw (e, lt-leb (t .start + t .len) (length x) l)
+
+    pub text-in-text : {r : Bool} → t .source ≡ 2 → t .start + t .len ≤ length x → r ≡ wellFormed (take (t .len) (drop (t .start) x)) → r ≡ isText d x t
+    unfolding isText shown
+    text-in-text e l h = h ∙ rw (e, le-leb (t .start + t .len) (length x) l)
+
+pub ruleset in-buffers = (text-past, text-in, text-nowhere, text-past-text, text-in-text, needs)
 
 -- ---- a triple where a kind may or must have one
 

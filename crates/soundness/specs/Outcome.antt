@@ -2,15 +2,19 @@
 -- Assumes nothing.
 use Prim.Native.Nat.{ℕ, suc, _*_, _≤_, _<_}
 use mathlib.Core.Path.{_≡_}
-use mathlib.Core.Bool.{Bool, true, _&&_}
+use mathlib.Core.Bool.{Bool, true, false, not, _&&_, _||_}
 use mathlib.Core.List.{List, [], _∷_}
-use lib.ListN.{drop}
-use Rattle.utf8.specs.WellFormed.{wellFormed}
+use lib.Dec.{eqb}
+use lib.ListN.{length, drop, getD}
+use Rattle.slices.specs.Bytes.{if}
+use Rattle.utf8.specs.WellFormed.{within, wellFormed}
+use Rattle.utf8.specs.Sequence.{continuation}
+use Rattle.names.specs.Signature.{basicSignature}
 use Rattle.tables.specs.Triple.{inside, shown}
 use Rattle.tables.specs.declared.Triple.{Triple}
 use Rattle.document.specs.Elements.{among}
 use Rattle.document.specs.Kinds as kinds
-use Rattle.items.specs.Words.{RowWords, rowOf, rowsOf, isChild}
+use Rattle.items.specs.Words.{RowWords, tripleAt, rowOf, rowsOf, isChild}
 use Rattle.items.specs.Order.{parentAt, Under, DocumentOrder}
 use Rattle.items.specs.Sound as definition
 use Rattle.items.specs.Sound.{placed, nameless, valued, tpTyped, goodTriple, nameUse, valueUse, tpUse, docUse, validName, validValue, anyText, inDocument, goodRow, membersOf, keyed, counted, soundRow, sound, unsound, soundness}
@@ -26,6 +30,10 @@ usesValue k = among k valued
 
 unfoldable pub usesTp : ℕ → Bool
 usesTp k = among k tpTyped
+
+-- a place is u, or has a byte that continues no character
+unfoldable pub edge : List ℕ → ℕ → ℕ → Bool
+edge s u at = eqb at u || not (within continuation (getD s at 0))
 
 -- a triple leads to a part of its buffer that is UTF-8
 unfoldable pub isText : List ℕ → List ℕ → Triple → Bool
@@ -81,16 +89,52 @@ pub record NextMember (ws : List ℕ) (n i from r : ℕ) : Type 0 where
   pub some : r < n → membersFrom ws n i from ≡ rowOf (drop (r * 16) ws) ∷ membersFrom ws n i (suc r)
   pub none : n ≤ r → membersFrom ws n i from ≡ []
 
--- by the members after row i: it is a good mapping; it has those that its kind needs
+-- row i is a good mapping by the members after it; by all members of it, it has those that its kind needs
 pub record Keyed (document text ws : List ℕ) (n i : ℕ) (r : Bool) : Type 0 where
   pub is : r ≡ keyed document text (membersFrom ws n i (suc i))
 
 pub record Counted (document text ws : List ℕ) (n i : ℕ) (r : Bool) : Type 0 where
-  pub is : r ≡ counted document text (rowOf (drop (i * 16) ws) .kind) (membersFrom ws n i (suc i))
+  pub is : r ≡ counted document text (rowOf (drop (i * 16) ws) .kind) (membersOf (suc i) (rowsOf n ws))
 
--- row i of n is sound, where parents come before the rows before it
+-- a tally of members: 0 for none, 1 for one, which shows a basic signature, 2 for another one, 3 for two, of which the first shows it, else 4
+abbrev pub tallyOf : List ℕ → List ℕ → List RowWords → ℕ
+tallyOf document text [] = 0
+tallyOf document text (k ∷ []) = if (basicSignature (shown document text (k .value))) 1 2
+tallyOf document text (k ∷ v ∷ []) = if (basicSignature (shown document text (k .value))) 3 4
+tallyOf document text (k ∷ v ∷ m ∷ ms) = 4
+
+-- what it becomes with one member more, by whether that shows a basic signature
+abbrev pub added : Bool → ℕ → ℕ
+added b t = if (eqb t 0) (if b 1 2) (if (eqb t 1) 3 4)
+
+pub record More (document text ws : List ℕ) (k t r : ℕ) : Type 0 where
+  pub is : r ≡ added (basicSignature (shown document text (tripleAt 5 (drop (k * 16) ws)))) t
+
+-- of each of n rows, the tally of its members among the first k
+pub record Tallied (document text ws : List ℕ) (n k : ℕ) (tallies : List ℕ) : Type 0 where
+  pub room : n ≤ length tallies
+  pub is : (i : ℕ) → i < n → getD tallies i 0 ≡ tallyOf document text (membersOf (suc i) (rowsOf k ws))
+
+-- zeros, so many
+pub record Zeros (n : ℕ) (tallies : List ℕ) : Type 0 where
+  pub long : length tallies ≡ n
+  pub is : (i : ℕ) → getD tallies i 0 ≡ 0
+
+-- by its tally t, row i has the members that its kind needs
+abbrev pub countedBy : ℕ → ℕ → Bool
+countedBy k t = if (eqb k kinds.struct) (not (eqb t 0)) (if (eqb k kinds.mapping) (eqb t 3) true)
+
+pub record ByTally (ws : List ℕ) (i t : ℕ) (r : Bool) : Type 0 where
+  pub is : r ≡ countedBy (rowOf (drop (i * 16) ws) .kind) t
+
+-- n rows are in document order, or there is a tally for each
+pub record Prepared (document text ws : List ℕ) (n : ℕ) (ordered : Bool) (tallies : List ℕ) : Type 0 where
+  pub order : ordered ≡ true → DocumentOrder ws n
+  pub tally : ordered ≡ false → Tallied document text ws n n tallies
+
+-- row i of n is sound
 pub record RowSound (document text ws : List ℕ) (n i : ℕ) (r : Bool) : Type 0 where
-  pub is : ((k : ℕ) → k < i → parentAt ws k ≤ k) → r ≡ soundRow document text (rowsOf n ws) i (rowOf (drop (i * 16) ws))
+  pub is : r ≡ soundRow document text (rowsOf n ws) i (rowOf (drop (i * 16) ws))
 
 -- what the check says of n rows
 abbrev pub soundnessOf : Soundness → definition.Soundness

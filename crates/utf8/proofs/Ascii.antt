@@ -24,7 +24,7 @@ module _ {s : List ℕ} {from i m : ℕ} (a : AtMost s from i m) where
   pub most-kept : {n : ℕ} → getD s (from + i) 0 ≤ m → n ≡ m → AtMost s from (i + 1) n
   most-kept h e = most-more _ (omega arith) (omega arith)
 
-pub most-all : {s : List ℕ} {from i m : ℕ} → AtMost s from i m → 32 ≤ i → AtMost s from 32 m
+pub most-all : {s : List ℕ} {from i n m : ℕ} → AtMost s from i m → n ≤ i → AtMost s from n m
 most-all a h = record { least = λ j l. a .least j (omega arith) }
 
 pub ruleset mosts = (most-none, most-larger, most-kept, most-all, needs)
@@ -33,8 +33,8 @@ pub ascii-none : {s : List ℕ} {from : ℕ} → from ≤ length s → Ascii s f
 ascii-none h = record { onward = omega arith; inside = h; low = λ i g l. absurd (omega arith) }
 
 module _ {s : List ℕ} {from at : ℕ} (a : Ascii s from at) where
-  pub ascii-block : {m : ℕ} → at + 32 ≤ length s → AtMost s at 32 m → m ≤ 127 → Ascii s from (at + 32)
-  ascii-block {m} h b l = record {
+  pub ascii-block : {n m : ℕ} → at + n ≤ length s → AtMost s at n m → m ≤ 127 → Ascii s from (at + n)
+  ascii-block {n} {m} h b l = record {
     onward = omega (arith, a .onward);
     inside = h;
     low = λ i g k.
@@ -48,6 +48,13 @@ module _ {s : List ℕ} {from at : ℕ} (a : Ascii s from at) where
     inside = omega arith;
     low = λ i g k.
         below i at (λ j. a .low i g j) (λ j. let e : i ≡ at = omega arith in rw e (omega arith));
+  }
+
+  pub ascii-join : {r : ℕ} → Ascii s at r → Ascii s from r
+  ascii-join b = record {
+    onward = omega (arith, a .onward, b .onward);
+    inside = b .inside;
+    low = λ i g k. below i at (λ j. a .low i g j) (λ j. b .low i (omega arith) k);
   }
 
 pub ruleset asciis = (ascii-none, ascii-block, ascii-more, needs)

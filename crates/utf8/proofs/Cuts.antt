@@ -12,7 +12,7 @@ use Rattle.utf8.proofs.Sequences.{Followed, Char, char-shape, below}
 use Rattle.utf8.proofs.Texts.{All, joined, Whole, none-whole, whole, formed, whole-append, whole-char, after-whole, append-formed, ascii-char}
 
 -- a byte that continues no character
-abbrev Lead : ℕ → Type 0
+abbrev pub Lead : ℕ → Type 0
 Lead b = 0x80 ≤ b → b ≤ 0xbf → ⊥
 
 pub followed-byte : (n : ℕ) (l : List ℕ) (i : ℕ) → Followed n l → i < n → (0x80 ≤ getD l i 0) × (getD l i 0 ≤ 0xbf)
@@ -43,7 +43,7 @@ split (c ∷ cs) (suc k) h l g =
     rw (e, take-append-add c (joined cs) (suc k - length c), drop-append-add c (joined cs) (suc k - length c)) (whole-append (whole-char (h .0)) (r .0), r .1))
 
 -- a well-formed text may be cut before a byte that continues no character
-cut-lead : (s : List ℕ) (k : ℕ) → illFormed s ≡ length s → k < length s → Lead (getD s k 0) → Boundary s k
+pub cut-lead : (s : List ℕ) (k : ℕ) → illFormed s ≡ length s → k < length s → Lead (getD s k 0) → Boundary s k
 cut-lead s k h l g =
     let w = whole s h in
     let r = split (w .parts) k (w .all) (rw (w .is) l) (rw (w .is) g) in

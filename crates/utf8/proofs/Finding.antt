@@ -12,7 +12,9 @@ use lib.ListN.{length, take, drop, length-drop, take-append-drop, drop-of-length
 use lib.Seq.{drop-drop, length-take-le, getD-take, getD-drop}
 use Rattle.utf8.specs.WellFormed.{sequence, illFormed}
 use Rattle.utf8.specs.Ascii.{Ascii}
-use Rattle.utf8.proofs.Texts.{Whole, whole-char, after-whole, sequence-char, sequence-none, ascii-whole}
+use Rattle.utf8.specs.Trim.{Start}
+use Rattle.utf8.proofs.Ascii.{ascii-join}
+use Rattle.utf8.proofs.Texts.{Whole, formed, whole-char, after-whole, sequence-char, sequence-none, ascii-whole}
 
 -- the search has come to a place: what it asks is what is left from there
 pub record Found (s : List ℕ) (at : ℕ) : Type 0 where
@@ -34,8 +36,15 @@ past-ascii s at r a =
     (λ i h. let g : i < r - at = rw k at h in
     rw (getD-take (r - at) (drop at s) i 0 g, getD-drop at s i 0) (a .low (at + i) (omega arith) (omega arith)))))
 
-pub found-first : {s : List ℕ} {r : ℕ} → Ascii s 0 r → Found s r
-found-first {s} {r} a = record { left = past-ascii s 0 r a ∙ ap (λ (n : ℕ). n + illFormed (drop r s)) (omega arith); inside = a .inside }
+pub found-first : {s : List ℕ} {at r : ℕ} → Ascii s 0 at → Ascii s at r → Found s r
+found-first {s} {at} {r} b a = record { left = past-ascii s 0 r (ascii-join b a) ∙ ap (λ (n : ℕ). n + illFormed (drop r s)) (omega arith); inside = a .inside }
+
+-- bytes below 128 are well-formed
+pub start-ascii : {s : List ℕ} {at r : ℕ} → Ascii s 0 at → Ascii s at r → Start s r
+start-ascii {s} {at} {r} b a =
+    let k : length (take r s) ≡ r = length-take-le r s (a .inside) in
+    let w : Whole (take r s) = ascii-whole (take r s) (λ i h. let g : i < r = rw k at h in rw (getD-take r s i 0 g) (ascii-join b a .low i (omega arith) g)) in
+    record { inside = a .inside; is = formed w ∙ k }
 
 module _ {s : List ℕ} {at : ℕ} (f : Found s at) where
   pub found-end : length s ≤ at → at ≡ illFormed s
@@ -63,4 +72,4 @@ module _ {s : List ℕ} {at : ℕ} (f : Found s at) where
         inside = a .inside;
       }
 
-pub ruleset finds = (found-first, found-end, found-stop, room, sum-fits, found-more, needs)
+pub ruleset finds = (found-first, start-ascii, found-end, found-stop, room, sum-fits, found-more, needs)

@@ -8,6 +8,7 @@ pub mod Follows
 pub mod Finding
 pub mod WhiteSpaces
 pub mod Cuts
+pub mod Parts
 pub mod Trims
 pub mod Points
 pub mod Ends

@@ -124,6 +124,16 @@ whole s e =
     ends l [] z = sym (append-nil l)
     ends l (a ∷ x) z = absurd (omega arith)
 
+-- what stands before the first ill-formed sequence
+pub start-whole : (s : List ℕ) → Whole (take (illFormed s) s)
+unfolding illFormed
+start-whole s = let p = parse (length s) s (omega arith) in rw (p .is) at (go (p .parts) (p .end) (p .all) (p .stops))
+  where
+    go : (cs : List (List ℕ)) (x : List ℕ) → All cs → sequence x ≡ 0 → Whole (take (illFormed (joined cs ++ x)) (joined cs ++ x))
+    go cs x h k =
+        let i : illFormed (joined cs ++ x) ≡ length (joined cs) = past-chars cs x 0 h ∙ stopped x (0 + length (joined cs)) k ∙ omega arith in
+        record { parts = cs; all = h; is = rw (i, take-append-seam (joined cs) x) }
+
 -- the characters that the definition finds are those that the text is made of
 over : (c x : List ℕ) → charactersFrom (length c) (c ++ x) ≡ charactersFrom 0 x
 over [] x = refl

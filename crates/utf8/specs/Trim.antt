@@ -14,6 +14,11 @@ pub record Boundary (s : List ℕ) (at : ℕ) : Type 0 where
   pub before : illFormed (take at s) ≡ length (take at s)
   pub after : illFormed (drop at s) ≡ length (drop at s)
 
+-- the first u bytes are well-formed
+pub record Start (s : List ℕ) (u : ℕ) : Type 0 where
+  pub inside : u ≤ length s
+  pub is : illFormed (take u s) ≡ u
+
 -- how many bytes the first character takes if it is White_Space, or 0
 unfoldable pub white : List ℕ → ℕ
 white l = if (whiteSpace (codePoint (take (sequence l) l))) (sequence l) 0

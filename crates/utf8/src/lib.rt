@@ -7,7 +7,7 @@ ghost use Rattle.utf8.specs.WellFormed.{to, begins, sequence, illFormed}
 ghost use Rattle.utf8.specs.WhiteSpace.{codePoint, whiteSpace, Trims};
 ghost use Rattle.utf8.specs.Sequence.{continuation, taken};
 ghost use Rattle.utf8.specs.Ascii.{AtMost, Ascii};
-ghost use Rattle.utf8.specs.Trim.{Boundary, Last, Starts, Ends, white};
+ghost use Rattle.utf8.specs.Trim.{Boundary, Start, Last, Starts, Ends, white};
 
 // Where a text begins and ends once it is trimmed.
 pub struct Trimmed {
@@ -15,14 +15,14 @@ pub struct Trimmed {
     pub end: usize,
 }
 
-// The largest of the 32 bytes from a place.
-fn largest(s: &[u8], from: usize) -> u8
-    requires { ⌜ from + 32 ≤ length (now s) ⌝ }
-    ensures { λ r. ⌜ AtMost (now (s .entry)) from 32 r ⌝ }
+// The largest of the n bytes from a place.
+fn largest(s: &[u8], from: usize, n: usize) -> u8
+    requires { ⌜ from + n ≤ length (now s) ⌝ }
+    ensures { λ r. ⌜ AtMost (now (s .entry)) from n r ⌝ }
 {
     let mut m = 0u8;
     let mut i = 0;
-    while i < 32 {
+    while i < n {
         let b = s[from + i];
         if m < b {
             m = b;
@@ -32,17 +32,17 @@ fn largest(s: &[u8], from: usize) -> u8
     m
 }
 
-// Past whole blocks of bytes below 128.
-fn blocks(s: &[u8], from: usize) -> usize
-    requires { ⌜ from ≤ length (now s) ⌝ }
+// Past whole blocks of n bytes below 128.
+fn blocks(s: &[u8], from: usize, n: usize) -> usize
+    requires { ⌜ (from ≤ length (now s)) × (0 < n) × (n ≤ 128) ⌝ }
     ensures { λ r. ⌜ Ascii (now (s .entry)) from r ⌝ }
 {
     let mut at = from;
-    while at + 32 <= s.len() {
-        if 127 < largest(s, at) {
+    while at + n <= s.len() {
+        if 127 < largest(s, at, n) {
             return at;
         }
-        at += 32;
+        at += n;
     }
     at
 }
@@ -52,7 +52,7 @@ fn ascii_run(s: &[u8], from: usize) -> usize
     requires { ⌜ from ≤ length (now s) ⌝ }
     ensures { λ r. ⌜ Ascii (now (s .entry)) from r ⌝ }
 {
-    let mut at = blocks(s, from);
+    let mut at = blocks(s, from, 32);
     while at < s.len() {
         if 127 < s[at] {
             return at;
@@ -141,11 +141,18 @@ fn sequence(s: &[u8], at: usize) -> usize
     0
 }
 
+// How many bytes from the beginning on are below 128.
+pub fn ascii_start(s: &[u8]) -> usize
+    ensures { λ r. ⌜ Start (now (s .entry)) r ⌝ }
+{
+    ascii_run(s, blocks(s, 0, 128))
+}
+
 // The place of the first ill-formed sequence, or the length.
 pub fn ill_formed(s: &[u8]) -> usize
     ensures { λ r. ⌜ r ≡ illFormed (now (s .entry)) ⌝ }
 {
-    let mut at = ascii_run(s, 0);
+    let mut at = ascii_run(s, blocks(s, 0, 128));
     while at < s.len() {
         let n = sequence(s, at);
         if n == 0 {

@@ -22,4 +22,5 @@ answer-spec =
     (λ c. search entry)
     (λ c. search entry)
     (λ c. search entry)
+    (λ c. search entry)
     (λ c. search entry))

@@ -9,10 +9,10 @@ use Rattle.slices.proofs.find.Statement.{statement}
 use Rattle.slices.proofs.find.Tie as tie
 
 abbrev Inv-loop : tie.InvT-loop
-Inv-loop s from b at₀ at = Running (other b) s from at
+Inv-loop s from b start at₀ at = Running (other b) s from at
 
 abbrev μ-loop : tie.MeasureT-loop
-μ-loop s from b at₀ at = length s - at
+μ-loop s from b start at₀ at = length s - at
 
 pub find-spec : {M : Type 1} → statement M
 find-spec =
@@ -20,6 +20,8 @@ find-spec =
     (tie.spec
     Inv-loop
     μ-loop
+    (λ c κs. search finds)
+    (λ c. search finds)
     (λ c κs. search finds)
     (λ c. search finds)
     (λ c. search finds)

@@ -10,6 +10,6 @@ check-spec =
     (tie.spec
     (λ c. search judges)
     (λ c. search judges)
-    (λ c. search judges)
+    (λ c κs. search judges)
     (λ c. search judges)
     (λ c. search judges))

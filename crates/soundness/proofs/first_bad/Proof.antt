@@ -1,27 +1,18 @@
--- `soundness::first_bad` meets its contract: what is left of the rows decides.
+-- `soundness::first_bad` meets its contract.
 -- Assumes nothing.
-use Prim.Native.Nat.{_-_}
-use Rattle.soundness.proofs.Rows.{Checking, checks}
+use Rattle.soundness.proofs.Rows.{ways}
 use Rattle.soundness.proofs.first_bad.Statement.{statement}
 use Rattle.soundness.proofs.first_bad.Tie as tie
-
-abbrev Inv-loop : tie.InvT-loop
-Inv-loop document text rows n ordered i₀ i = Checking document text rows n i
-
-abbrev μ-loop : tie.MeasureT-loop
-μ-loop document text rows n ordered i₀ i = n - i
 
 pub first-bad-spec : {M : Type 1} → statement M
 first-bad-spec =
     tie.close
     (tie.spec
-    Inv-loop
-    μ-loop
-    (λ c κs. search checks)
-    (λ c. search checks)
-    (λ c κs. search checks)
-    (λ c. search checks)
-    (λ c. search checks)
-    (λ c. search checks)
-    (λ c. search checks)
-    (λ c. search checks))
+    (λ c κs. search ways)
+    (λ c. search ways)
+    (λ c κs. search ways)
+    (λ c. search ways)
+    (λ c κs. search ways)
+    (λ c. search ways)
+    (λ c κs. search ways)
+    (λ c. search ways))

@@ -11,4 +11,7 @@ sound-row-spec =
     (λ c κs. search sound-rows)
     (λ c. search sound-rows)
     (λ c κs. search sound-rows)
+    (λ c. search sound-rows)
+    (λ c. search sound-rows)
+    (λ c κs. search sound-rows)
     (λ c. search sound-rows))

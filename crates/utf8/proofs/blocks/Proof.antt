@@ -8,10 +8,10 @@ use Rattle.utf8.proofs.blocks.Statement.{statement}
 use Rattle.utf8.proofs.blocks.Tie as tie
 
 abbrev Inv-loop : tie.InvT-loop
-Inv-loop s from at₀ at = Ascii s from at
+Inv-loop s from n at₀ at = Ascii s from at
 
 abbrev μ-loop : tie.MeasureT-loop
-μ-loop s from at₀ at = length s - at
+μ-loop s from n at₀ at = length s - at
 
 pub blocks-spec : {M : Type 1} → statement M
 blocks-spec =

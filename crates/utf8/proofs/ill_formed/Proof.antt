@@ -18,6 +18,7 @@ ill-formed-spec =
     (tie.spec
     Inv-loop
     μ-loop
+    (λ c κs. search finds)
     (λ c. search finds)
     (λ c. search finds)
     (λ c. search finds)

@@ -8,10 +8,10 @@ use Rattle.utf8.proofs.largest.Statement.{statement}
 use Rattle.utf8.proofs.largest.Tie as tie
 
 abbrev Inv-loop : tie.InvT-loop
-Inv-loop s from m₀ i₀ m i = AtMost s from i m
+Inv-loop s from n m₀ i₀ m i = AtMost s from i m
 
 abbrev μ-loop : tie.MeasureT-loop
-μ-loop s from m₀ i₀ m i = 32 - i
+μ-loop s from n m₀ i₀ m i = n - i
 
 pub largest-spec : {M : Type 1} → statement M
 largest-spec =

@@ -6,10 +6,10 @@ use Rattle.soundness.proofs.members.next_member.Statement.{statement}
 use Rattle.soundness.proofs.members.next_member.Tie as tie
 
 abbrev Inv-loop : tie.InvT-loop
-Inv-loop rows n i from ordered k₀ k = Seeking rows n i from k
+Inv-loop rows n i from k₀ k = Seeking rows n i from k
 
 abbrev μ-loop : tie.MeasureT-loop
-μ-loop rows n i from ordered k₀ k = n - k
+μ-loop rows n i from k₀ k = n - k
 
 pub next-member-spec : {M : Type 1} → statement M
 next-member-spec =
