@@ -22,12 +22,12 @@ use Rattle.order.specs.Relation.{Chain, one}
 use Rattle.order.specs.Types.{definitions, memberIn, uses, isUndefined}
 use Rattle.order.specs.Lookup.{listed, referredBy, targetsIn, targets}
 use Rattle.order.specs.Steps.{Held, shownAt, Defines, MemberIn, target, Target, IsUndefined, Adds}
-use Rattle.order.specs.Certificate.{Wide, Got, memberOf, MemberOf, Falls, EdgeFalls, Late, RowFalls, Members, Follows, IsCircle, runOf, RunIs, Runs, Above, IsNoted, Placed, IsNext, PlacedBefore, IsAscending, Stands, IsPlaced, ArePlaced, IsOrder}
+use Rattle.order.specs.Certificate.{Wide, Got, memberOf, MemberOf, Falls, EdgeFalls, Late, Tells, RowFalls, Members, Follows, IsCircle, runOf, RunIs, Runs, Above, IsNoted, Placed, IsNext, PlacedBefore, IsAscending, Stands, IsPlaced, ArePlaced, IsOrder}
 use Rattle.order.proofs.Lists.{clash, orElse, first-true, second-true, both}
 use Rattle.order.proofs.Circles.{chained}
 use Rattle.order.proofs.Lookups.{among-append, listed-is, is-listed, uses-targets}
 use Rattle.order.proofs.Finding.{shown-at, shown-past}
-use Rattle.order.proofs.Counting.{undefined-absent, undefined-whole, undefined-less, Missing, missing-begins, missing-ends, missing-more}
+use Rattle.order.proofs.Counting.{undefined-other, undefined-absent, undefined-whole, undefined-less, Missing, missing-begins, missing-ends, missing-more}
 use Rattle.order.proofs.Waiting.{referred-targets, defined-at, defined-below, row-held, held-few}
 
 -- ---- uses by members
@@ -123,6 +123,21 @@ module _ {work : List ℕ} {n p i e j : ℕ} where
 
 pub ruleset edges = (edge-never, edge-none, edge-circle, edge-past, edge-other, edge-noted, needs)
 
+-- the tp type of a member bears a name of some row, or of none
+module _ {d x ws : List ℕ} {n m : ℕ} where
+  told-few : {r : ℕ} → Tells d x ws n m r → r ≤ 2
+  told-few {r} k = go (isUndefined (rowsShown d x ws n) (shownAt d x ws m)) (k .is)
+    where
+      go : (b : Bool) → r ≡ 1 + if b 1 0 → r ≤ 2
+      go true e = omega arith
+      go false e = omega arith
+
+  pub told-found : IsUndefined d x ws n m false → Tells d x ws n m 1
+  told-found k = record { is = rw (sym (k .is)) }
+
+  pub told-undefined : IsUndefined d x ws n m true → Tells d x ws n m 2
+  told-undefined k = record { is = rw (sym (k .is)) }
+
 module _ {d x ws work : List ℕ} {n p m : ℕ} where
   pub row-never : RowFalls d x ws n work p m 0
   row-never = record { falls = λ z. absurd (omega arith); noted = λ z. absurd (omega arith); count = λ z. absurd (omega arith); few = omega arith }
@@ -172,11 +187,8 @@ module _ {d x ws work : List ℕ} {n p m : ℕ} where
         let n = x q in
         late i f true a (t .finds .some (n .0)) (n .1))
 
-    pub row-found : IsUndefined d x ws n m false → RowFalls d x ws n work p m 1
-    row-found k = record { falls = λ z. row-falls; noted = λ z. row-noted; count = λ z. rw (sym (k .is)); few = omega arith }
-
-    pub row-undefined : IsUndefined d x ws n m true → RowFalls d x ws n work p m 2
-    row-undefined k = record { falls = λ z. row-falls; noted = λ z. row-noted; count = λ z. rw (sym (k .is)); few = omega arith }
+    pub row-told : {r : ℕ} → Tells d x ws n m r → RowFalls d x ws n work p m r
+    row-told k = record { falls = λ z. row-falls; noted = λ z. row-noted; count = λ z. k .is; few = told-few k }
 
 module _ {d x ws : List ℕ} {n m k r s : ℕ} {b : Bool} {p : Triple} (a : Word ws m 0 k) (e : k ≡ kinds.member) (t : TripleIs ws m 8 p) (f : b ≡ absent p) (q : b ≡ false) (w : Target d x ws n false m r) (l : n ≤ r) (v : Target d x ws n true m s) where
   pub less-found : s < n → IsUndefined d x ws n m false
@@ -191,7 +203,9 @@ up-below h l = omega arith
 pub target-within : {d x ws : List ℕ} {n m j : ℕ} {less : Bool} → Target d x ws n less m j → j ≤ n
 target-within f = f .finds .within
 
-pub ruleset row-falling = (row-never, row-other, row-found, row-undefined, undefined-whole, undefined-absent, less-found, less-none, up-below, target-within, row-held, held-few, needs)
+pub ruleset row-falling = (row-never, row-other, row-told, up-below, target-within, row-held, held-few, needs)
+
+pub ruleset tellings = (told-found, told-undefined, undefined-other, undefined-absent, undefined-whole, less-found, less-none, needs)
 
 pub record Fallen (d x ws : List ℕ) (n : ℕ) (work : List ℕ) (p k c : ℕ) : Type 0 where
   pub falls : (m : ℕ) → m < k → (i j : ℕ) → memberIn i (shownAt d x ws m) ≡ true → among j (referredBy (rowsShown d x ws n) (shownAt d x ws m .tp)) ≡ true → Falls n work p i j

@@ -69,6 +69,10 @@ pub record EdgeFalls (n : ℕ) (work : List ℕ) (p i e j : ℕ) (b : Bool) : Ty
 abbrev pub Late : List Row → ℕ → List ℕ → ℕ → Type 0
 Late t n work i = (k : ℕ) → ((j : ℕ) → uses t i j ≡ true → number n work j < k) → runOf n work i ≤ k
 
+-- r is one more than the number of tp types of row m, if it is a member, that bear names of no row
+pub record Tells (d x ws : List ℕ) (n m r : ℕ) : Type 0 where
+  pub is : r ≡ 1 + if (isUndefined (rowsShown d x ws n) (shownAt d x ws m)) 1 0
+
 -- of both edges of row m, if it is a member; r is 0 if not so, else one more than the number of its tp types that bear names of no row
 pub record RowFalls (d x ws : List ℕ) (n : ℕ) (work : List ℕ) (p m r : ℕ) : Type 0 where
   pub falls :

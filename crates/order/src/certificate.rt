@@ -7,11 +7,12 @@ use super::index;
 use super::words;
 use document::kinds;
 ghost use Prim.Native.Nat.{_+_, _*_, _≤_, _<_};
+ghost use mathlib.Core.Bool.{true, false};
 ghost use lib.ListN.{length};
 ghost use Rattle.items.specs.Words.{rowsShown};
-ghost use Rattle.order.specs.Steps.{Held};
+ghost use Rattle.order.specs.Steps.{Held, Target};
 ghost use Rattle.order.specs.Index.{Indexed};
-ghost use Rattle.order.specs.Certificate.{EdgeFalls, RowFalls, Members, Follows, IsCircle, RunIs, Runs, Above, IsNoted, IsNext, PlacedBefore, IsAscending, IsPlaced, ArePlaced, IsOrder};
+ghost use Rattle.order.specs.Certificate.{EdgeFalls, Tells, RowFalls, Members, Follows, IsCircle, RunIs, Runs, Above, IsNoted, IsNext, PlacedBefore, IsAscending, IsPlaced, ArePlaced, IsOrder};
 
 // ---- numbers
 
@@ -45,7 +46,35 @@ fn edge_falls(n: usize, work: &[u32], p: usize, i: usize, e: usize, j: usize) ->
     false
 }
 
-// The same for both edges of row m, if it is a member: 0 if not, else 1, or 2 where its tp type bears the name of no row.
+// 2 if row m is a member whose tp type bears the name of no row, which is told by the rows that it refers to; else 1.
+fn told<'a>(
+    document: &'a [u8],
+    text: &'a [u8],
+    rows: &[u32],
+    n: usize,
+    m: usize,
+    whole: usize,
+    less: usize,
+) -> usize
+    requires { ⌜ m * 16 + 16 ≤ length (now rows) ⌝ ∗ ⌜ Target (now document) (now text) (now rows) n false m whole ⌝ ∗ ⌜ Target (now document) (now text) (now rows) n true m less ⌝ }
+    ensures { λ r. ⌜ Tells (now (document .entry)) (now (text .entry)) (now (rows .entry)) n m r ⌝ }
+{
+    if items::word(rows, m, 0) != kinds::MEMBER {
+        return 1;
+    }
+    if items::is_absent(items::triple(rows, m, 8)) {
+        return 1;
+    }
+    if whole < n {
+        return 1;
+    }
+    if less < n {
+        return 1;
+    }
+    2
+}
+
+// Whether both edges of row m, if it is a member, lead so: 0 if not, else 1, or 2 where its tp type bears the name of no row.
 fn row_falls<'a>(
     document: &'a [u8],
     text: &'a [u8],
@@ -71,7 +100,6 @@ fn row_falls<'a>(
     if n < up {
         return 0;
     }
-    let absent = items::is_absent(items::triple(rows, m, 8));
     let whole = index::find_target(document, text, rows, n, heads, work, false, m);
     let less = index::find_target(document, text, rows, n, heads, work, true, m);
     if !edge_falls(n, work, p, up - 1, first, whole) {
@@ -80,16 +108,7 @@ fn row_falls<'a>(
     if !edge_falls(n, work, p, up - 1, second, less) {
         return 0;
     }
-    if absent {
-        return 1;
-    }
-    if whole < n {
-        return 1;
-    }
-    if less < n {
-        return 1;
-    }
-    2
+    told(document, text, rows, n, m, whole, less)
 }
 
 // The number of members whose tp type bears the name of no row, if the numbers are as said; else n + 1.

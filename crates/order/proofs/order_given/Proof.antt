@@ -11,7 +11,7 @@ order-given-spec =
     (λ c κs. search decides)
     (λ c κs. search decides)
     (λ c κs. search decides)
-    (λ c κs. search decides)
+    (λ c κs. (search decides, (c .before .before .before .before .before .before .before .before .before .before .before .before .before .before .before .before .before .before .before .before .pre .1 .1 .1, search decides)))
     (λ c. search decides)
     (λ c. search decides)
     (λ c. search decides)
