@@ -6,26 +6,28 @@ use mathlib.Core.List.{List, [], _∷_, _++_}
 use mathlib.Core.Option.{Option, none, some}
 use mathlib.Core.Bool.{Bool, true, false, not, _&&_}
 use borrow.Author.Needs.{needs}
-use borrow.Author.Tests.{eq-eqb, ne-eqb, eqb-true, not-true, not-false}
+use borrow.Author.Tests.{ne-eqb, eqb-true, eqb-false, ltb-true, lt-leb, le-leb, not-true, not-false}
 use native.Mathlib.Omega.{arith}
-use lib.Dec.{eqb}
+use lib.Dec.{eqb, ltb}
 use lib.ListN.{length, drop, getD}
 use Rattle.slices.specs.Bytes.{if}
 use Rattle.utf8.proofs.Sequences.{below}
 use Rattle.document.specs.Kinds as kinds
 use Rattle.document.specs.Elements.{among}
-use Rattle.items.specs.Words.{Word, rowsShown}
+use Rattle.tables.specs.declared.Triple.{Triple}
+use Rattle.items.specs.Words.{Word, TripleIs, absent, rowsShown}
 use Rattle.items.specs.Content.{Row}
 use Rattle.items.proofs.Words.{word-in}
 use Rattle.order.specs.Relation.{Chain, one}
-use Rattle.order.specs.Types.{definitions, defines, memberIn, uses}
+use Rattle.order.specs.Types.{definitions, memberIn, uses, isUndefined}
 use Rattle.order.specs.Lookup.{listed, referredBy, targetsIn, targets}
-use Rattle.order.specs.Steps.{Held, shownAt, Defines, MemberIn, target, Target}
-use Rattle.order.specs.Certificate.{Wide, Got, Falls, TargetFalls, RowFalls, Monotone, Follows, IsCircle, runOf, RunIs, Runs, Above, ReadyFrom, Placed, IsNext, PlacedBefore, IsAscending, Stands, IsPlaced, ArePlaced, IsOrder}
+use Rattle.order.specs.Steps.{Held, shownAt, Defines, MemberIn, target, Target, IsUndefined, Adds}
+use Rattle.order.specs.Certificate.{Wide, Got, memberOf, MemberOf, Falls, EdgeFalls, Late, Tells, RowFalls, Members, Follows, IsCircle, runOf, RunIs, Runs, Above, IsNoted, Placed, IsNext, PlacedBefore, IsAscending, Stands, IsPlaced, ArePlaced, IsOrder}
 use Rattle.order.proofs.Lists.{clash, orElse, first-true, second-true, both}
 use Rattle.order.proofs.Circles.{chained}
 use Rattle.order.proofs.Lookups.{among-append, listed-is, is-listed, uses-targets}
 use Rattle.order.proofs.Finding.{shown-at, shown-past}
+use Rattle.order.proofs.Counting.{undefined-other, undefined-absent, undefined-whole, undefined-less, Missing, missing-begins, missing-ends, missing-more}
 use Rattle.order.proofs.Waiting.{referred-targets, defined-at, defined-below, row-held, held-few}
 
 -- ---- uses by members
@@ -86,77 +88,158 @@ referred-cases t tp j e f =
 
 -- ---- numbers
 
-pub falls-never : {d x ws work : List ℕ} {n p i m : ℕ} {less : Bool} → TargetFalls d x ws n work p i less m false
-falls-never = record { is = λ e. clash e refl }
+strict : {work : List ℕ} {n p i j a b : ℕ} → Got work (n + j) a → Got work (n + i) b → ltb a b ≡ true → Falls n work p i j
+strict {a = a} {b = b} s t z = record { most = omega (arith, s .is, t .is, ltb-true a b z); less = λ q. omega (arith, s .is, t .is, ltb-true a b z) }
 
-module _ {d x ws work : List ℕ} {n p i m j : ℕ} {less : Bool} (f : Target d x ws n less m j) where
-  pub falls-none : n ≤ j → TargetFalls d x ws n work p i less m true
-  falls-none h = record { is = λ e k q. let z : _≡_ {A = ℕ} 0 1 = cc (f .finds .none h, q) in absurd (omega arith) }
+module _ {work : List ℕ} {n p i e j : ℕ} where
+  pub edge-never : EdgeFalls n work p i e j false
+  edge-never = record { falls = λ z. clash z refl; noted = λ z. clash z refl }
 
-  falls-of : j < n → Falls n work p i j → (k : ℕ) → target (rowsShown d x ws n) less (shownAt d x ws m .tp) ≡ some k → Falls n work p i k
-  falls-of h g k q = let e : j ≡ k = cc (f .finds .some h, q) in rw e at g
-
-  module _ {a b : ℕ} (h : j < n) (s : Got work (n + j) a) (t : Got work (n + i) b) where
-    pub falls-less : a < b → TargetFalls d x ws n work p i less m true
-    falls-less l = record {
-      is = λ e. falls-of h record { most = omega (arith, s .is, t .is); less = λ o. omega (arith, s .is, t .is) };
+  module _ {g : ℕ} (o : Got work (n + n + i) g) where
+    pub edge-none : n ≤ j → EdgeFalls n work p i e j (not (eqb g e))
+    edge-none h = record {
+      falls = λ z l. absurd (omega arith);
+      noted = λ z l q. absurd (eqb-false g e (not-true (eqb g e) z) (o .is ∙ q));
     }
 
-    pub falls-same : p ≤ i → TargetFalls d x ws n work p i less m (eqb a b)
-    falls-same l = record {
-      is = λ e. falls-of h record { most = omega (arith, s .is, t .is, eqb-true a b e); less = λ o. absurd (omega arith) };
-    }
+    module _ {a b : ℕ} (h : j < n) (s : Got work (n + j) a) (t : Got work (n + i) b) where
+      pub edge-circle : a ≤ b → p < n → i < p → EdgeFalls n work p i e j (ltb a b)
+      edge-circle l m k = record {
+        falls = λ z y. record { most = omega (arith, s .is, t .is); less = λ q. omega (arith, s .is, t .is, ltb-true a b z) };
+        noted = λ z y q. absurd (omega arith);
+      }
 
-pub sum-fits : {ws : List ℕ} {n i : ℕ} → Held ws n → i < n → n + i ≤ 524288
-sum-fits h l = omega (arith, h .few)
+      pub edge-past : a ≤ b → p < n → p ≤ i → EdgeFalls n work p i e j true
+      edge-past l m k = record {
+        falls = λ z y. record { most = omega (arith, s .is, t .is); less = λ q. absurd (omega arith) };
+        noted = λ z y q. absurd (omega arith);
+      }
 
-pub ruleset falling = (falls-never, falls-none, falls-less, falls-same, row-held, sum-fits, needs)
+      pub edge-other : (g ≡ e → ⊥) → EdgeFalls n work p i e j (ltb a b)
+      edge-other k = record { falls = λ z y. strict s t z; noted = λ z y q. absurd (k (o .is ∙ q)) }
+
+      pub edge-noted : {r : ℕ} → RunIs n work i r → r ≤ a + 1 → EdgeFalls n work p i e j (ltb a b)
+      edge-noted q k = record { falls = λ z y. strict s t z; noted = λ z y x. (h, omega (arith, q .is, s .is)) }
+
+pub ruleset edges = (edge-never, edge-none, edge-circle, edge-past, edge-other, edge-noted, needs)
+
+-- the tp type of a member bears a name of some row, or of none
+module _ {d x ws : List ℕ} {n m : ℕ} where
+  told-few : {r : ℕ} → Tells d x ws n m r → r ≤ 2
+  told-few {r} k = go (isUndefined (rowsShown d x ws n) (shownAt d x ws m)) (k .is)
+    where
+      go : (b : Bool) → r ≡ 1 + if b 1 0 → r ≤ 2
+      go true e = omega arith
+      go false e = omega arith
+
+  pub told-found : IsUndefined d x ws n m false → Tells d x ws n m 1
+  told-found k = record { is = rw (sym (k .is)) }
+
+  pub told-undefined : IsUndefined d x ws n m true → Tells d x ws n m 2
+  told-undefined k = record { is = rw (sym (k .is)) }
 
 module _ {d x ws work : List ℕ} {n p m : ℕ} where
-  pub row-never : RowFalls d x ws n work p m false
-  row-never = record { is = λ e. clash e refl }
+  pub row-never : RowFalls d x ws n work p m 0
+  row-never = record { falls = λ z. absurd (omega arith); noted = λ z. absurd (omega arith); count = λ z. absurd (omega arith); few = omega arith }
 
-  pub row-other : {k : ℕ} → Word ws m 0 k → (k ≡ kinds.member → ⊥) → RowFalls d x ws n work p m true
-  row-other {k} w h = record {
-    is = λ e i j a. clash a (rw (← word-in w, ne-eqb k kinds.member h));
-  }
+  pub row-other : {k : ℕ} → Word ws m 0 k → (k ≡ kinds.member → ⊥) → RowFalls d x ws n work p m 1
+  row-other {k} w h =
+      let o : eqb (shownAt d x ws m .kind) kinds.member ≡ false = rw (← word-in w) (ne-eqb k kinds.member h) in
+      record {
+        falls = λ z i j a. clash a (rw o);
+        noted = λ z y i a. clash a (rw o);
+        count = λ z. rw o;
+        few = omega arith;
+      }
 
-  pub row-both : {q u : ℕ} {b c : Bool} → Word ws m 1 q → Wide q u → TargetFalls d x ws n work p (u - 1) false m b → not b ≡ false → TargetFalls d x ws n work p (u - 1) true m c → RowFalls d x ws n work p m c
-  row-both {q} {u} {b} {c} w v f h g = record {
-    is = λ e i j a r.
+  module _ {q u e f : ℕ} {b c : Bool} (w : Word ws m 1 q) (v : Wide q u) (l : m < n) (s : Target d x ws n false m e) (t : Target d x ws n true m f) (y : EdgeFalls n work p (u - 1) (m + m + 1) e b) (yb : not b ≡ false) (z : EdgeFalls n work p (u - 1) (m + m + 2) f c) (zc : not c ≡ false) where
+    owner : (i : ℕ) → memberIn i (shownAt d x ws m) ≡ true → u - 1 ≡ i
+    owner i a =
         let o = both (eqb (shownAt d x ws m .kind) 12) (eqb (shownAt d x ws m .parent) (suc i)) a .1 in
-        let z : u - 1 ≡ i = omega (arith, v .is, word-in w, eqb-true (shownAt d x ws m .parent) (suc i) o) in
-        referred-cases (rowsShown d x ws n) (shownAt d x ws m .tp) j r (λ less y. rw z at (go e j less y));
-  }
-    where
-      go : c ≡ true → (j : ℕ) (less : Bool) → target (rowsShown d x ws n) less (shownAt d x ws m .tp) ≡ some j → Falls n work p (u - 1) j
-      go e j false y = f .is (not-false b h) j y
-      go e j true y = g .is e j y
+        omega (arith, v .is, word-in w, eqb-true (shownAt d x ws m .parent) (suc i) o)
+
+    falls-to : (less : Bool) (j : ℕ) → target (rowsShown d x ws n) less (shownAt d x ws m .tp) ≡ some j → Falls n work p (u - 1) j
+    falls-to false j o = below e n
+        (λ k. let r : e ≡ j = cc (s .finds .some k, o) in rw r at (y .falls (not-false b yb) k))
+        (λ k. let r : _≡_ {A = ℕ} 0 1 = cc (s .finds .none k, o) in absurd (omega arith))
+    falls-to true j o = below f n
+        (λ k. let r : f ≡ j = cc (t .finds .some k, o) in rw r at (z .falls (not-false c zc) k))
+        (λ k. let r : _≡_ {A = ℕ} 0 1 = cc (t .finds .none k, o) in absurd (omega arith))
+
+    row-falls : (i j : ℕ) → memberIn i (shownAt d x ws m) ≡ true → among j (referredBy (rowsShown d x ws n) (shownAt d x ws m .tp)) ≡ true → Falls n work p i j
+    row-falls i j a r = referred-cases (rowsShown d x ws n) (shownAt d x ws m .tp) j r (λ less o. rw (owner i a) at (falls-to less j o))
+
+    late : (i j : ℕ) (less : Bool) → memberIn i (shownAt d x ws m) ≡ true → target (rowsShown d x ws n) less (shownAt d x ws m .tp) ≡ some j → runOf n work i ≤ getD work (n + j) 0 + 1 → Late (rowsShown d x ws n) n work i
+    late i j less a o k r f = omega (arith, k, f j (by-member d x ws n i j m l a (target-referred (rowsShown d x ws n) less (shownAt d x ws m .tp) j o)))
+
+    row-noted : n ≤ p → (i : ℕ) → memberIn i (shownAt d x ws m) ≡ true → 0 < getD work (n + n + i) 0 → memberOf (getD work (n + n + i) 0) ≡ m → Late (rowsShown d x ws n) n work i
+    row-noted k i a pos o =
+        let r : u - 1 ≡ i = owner i a in
+        below (getD work (n + n + i) 0) (m + m + 2)
+        (λ small.
+        let q : getD work (n + n + i) 0 ≡ m + m + 1 = omega (arith, o, pos) in
+        let x = rw r at (y .noted (not-false b yb) k) in
+        let n = x q in
+        late i e false a (s .finds .some (n .0)) (n .1))
+        (λ large.
+        let q : getD work (n + n + i) 0 ≡ m + m + 2 = omega (arith, o, pos) in
+        let x = rw r at (z .noted (not-false c zc) k) in
+        let n = x q in
+        late i f true a (t .finds .some (n .0)) (n .1))
+
+    pub row-told : {r : ℕ} → Tells d x ws n m r → RowFalls d x ws n work p m r
+    row-told k = record { falls = λ z. row-falls; noted = λ z. row-noted; count = λ z. k .is; few = told-few k }
+
+module _ {d x ws : List ℕ} {n m k r s : ℕ} {b : Bool} {p : Triple} (a : Word ws m 0 k) (e : k ≡ kinds.member) (t : TripleIs ws m 8 p) (f : b ≡ absent p) (q : b ≡ false) (w : Target d x ws n false m r) (l : n ≤ r) (v : Target d x ws n true m s) where
+  pub less-found : s < n → IsUndefined d x ws n m false
+  less-found o = record { is = sym (lt-leb n s o) ∙ undefined-less a e t f q w l v .is }
+
+  pub less-none : n ≤ s → IsUndefined d x ws n m true
+  less-none o = record { is = sym (le-leb n s o) ∙ undefined-less a e t f q w l v .is }
 
 pub up-below : {u n : ℕ} → (u ≡ 0 → ⊥) → u ≤ n → u - 1 < n
 up-below h l = omega arith
 
-pub ruleset row-falling = (row-never, row-other, row-both, up-below, row-held, needs)
+pub target-within : {d x ws : List ℕ} {n m j : ℕ} {less : Bool} → Target d x ws n less m j → j ≤ n
+target-within f = f .finds .within
 
-pub record Fallen (d x ws : List ℕ) (n : ℕ) (work : List ℕ) (p k : ℕ) : Type 0 where
-  pub is : (m : ℕ) → m < k → (i j : ℕ) → memberIn i (shownAt d x ws m) ≡ true → among j (referredBy (rowsShown d x ws n) (shownAt d x ws m .tp)) ≡ true → Falls n work p i j
+pub ruleset row-falling = (row-never, row-other, row-told, up-below, target-within, row-held, held-few, needs)
 
-pub fallen-begins : {d x ws work : List ℕ} {n p : ℕ} → Fallen d x ws n work p 0
-fallen-begins = record { is = λ m l. absurd (omega arith) }
+pub ruleset tellings = (told-found, told-undefined, undefined-other, undefined-absent, undefined-whole, less-found, less-none, needs)
 
-pub fallen-never : {d x ws work : List ℕ} {n p : ℕ} → Monotone d x ws n work p false
-fallen-never = record { is = λ e. clash e refl }
+pub record Fallen (d x ws : List ℕ) (n : ℕ) (work : List ℕ) (p k c : ℕ) : Type 0 where
+  pub falls : (m : ℕ) → m < k → (i j : ℕ) → memberIn i (shownAt d x ws m) ≡ true → among j (referredBy (rowsShown d x ws n) (shownAt d x ws m .tp)) ≡ true → Falls n work p i j
+  pub noted : n ≤ p → (m : ℕ) → m < k → (i : ℕ) → memberIn i (shownAt d x ws m) ≡ true → 0 < getD work (n + n + i) 0 → memberOf (getD work (n + n + i) 0) ≡ m → Late (rowsShown d x ws n) n work i
+  pub counted : Missing d x ws n k c
 
-module _ {d x ws work : List ℕ} {n p k : ℕ} (g : Fallen d x ws n work p k) where
-  pub fallen-ends : n ≤ k → Monotone d x ws n work p true
-  fallen-ends h = record { is = λ e i j u. used-by d x ws n i j u (λ m l. g .is m (omega arith) i j) }
+pub fallen-begins : {d x ws work : List ℕ} {n p : ℕ} → Fallen d x ws n work p 0 0
+fallen-begins = record { falls = λ m l. absurd (omega arith); noted = λ h m l. absurd (omega arith); counted = missing-begins }
 
-  pub fallen-more : {b : Bool} → RowFalls d x ws n work p k b → not b ≡ false → Fallen d x ws n work p (k + 1)
-  fallen-more {b} f h = record {
-    is = λ m l. below m k (g .is m) (λ o. let e : k ≡ m = omega arith in rw e at (f .is (not-false b h)));
+pub fallen-never : {d x ws work : List ℕ} {n p : ℕ} → Members d x ws n work p (n + 1)
+fallen-never = record { falls = λ l. absurd (omega arith); noted = λ l. absurd (omega arith); count = λ l. absurd (omega arith) }
+
+module _ {d x ws work : List ℕ} {n p k c : ℕ} (g : Fallen d x ws n work p k c) where
+  pub fallen-ends : n ≤ k → Members d x ws n work p c
+  fallen-ends h = record {
+    falls = λ l i j u. used-by d x ws n i j u (λ m o. g .falls m (omega arith) i j);
+    noted = λ l q i o a e. g .noted q (memberOf (getD work (n + n + i) 0)) (omega arith) i a e refl;
+    count = λ l. missing-ends (g .counted) h .is;
   }
 
-pub ruleset fallings = (fallen-begins, fallen-never, fallen-ends, fallen-more, needs)
+  pub fallen-more : {r : ℕ} → k < n → RowFalls d x ws n work p k r → (r ≡ 0 → ⊥) → Fallen d x ws n work p (k + 1) (c + r - 1)
+  fallen-more {r} l f h =
+      let z : 0 < r = omega arith in
+      let y : c + r - 1 ≡ c + if (isUndefined (rowsShown d x ws n) (shownAt d x ws k)) 1 0 = omega (arith, f .count z) in
+      record {
+        falls = λ m o. below m k (g .falls m) (λ q. let e : k ≡ m = omega arith in rw e at (f .falls z));
+        noted = λ q m o. below m k (g .noted q m) (λ w. let e : k ≡ m = omega arith in rw e at (f .noted z q));
+        counted = missing-more (g .counted) l record { is = refl } record { is = y };
+      }
+
+pub fallen-few : {d x ws work : List ℕ} {n p k c : ℕ} → Fallen d x ws n work p k c → c ≤ k
+fallen-few g = g .counted .most
+
+pub ruleset fallings = (fallen-begins, fallen-never, fallen-ends, fallen-more, fallen-few, row-held, needs)
 
 -- ---- a circle
 
@@ -220,51 +303,51 @@ module _ {out : List ℕ} {k r j : ℕ} (g : Rising out k r j) where
 
 pub ruleset rising = (rising-begins, above-never, rising-ends, rising-on, needs)
 
-pub from-start : {t : List Row} {work : List ℕ} {n r : ℕ} → ReadyFrom t n work r 0
-from-start = record { most = λ k f. omega arith }
+pub noted-start : {d x ws work : List ℕ} {n r from : ℕ} → from ≡ 0 → IsNoted d x ws n work r from true
+noted-start h = record { within = λ e l. absurd (omega arith); member = λ e l. absurd (omega arith) }
 
-pub from-used : {t : List Row} {work : List ℕ} {n r j a : ℕ} → Follows t n r j → j < n → Got work (n + j) a → ReadyFrom t n work r (a + 1)
-from-used {j = j} f h g = record { most = λ k y. omega (arith, y j (f .is h), g .is) }
+pub noted-never : {d x ws work : List ℕ} {n r from : ℕ} → IsNoted d x ws n work r from false
+noted-never = record { within = λ e. clash e refl; member = λ e. clash e refl }
 
-pub ruleset readying = (from-start, from-used, needs)
+pub noted-member : {d x ws work : List ℕ} {n r from g m : ℕ} {b : Bool} → Got work (n + n + r) g → MemberOf g m → m < n → MemberIn d x ws r m b → IsNoted d x ws n work r from b
+noted-member {work = work} {n = n} {r = r} {m = m} o q l a =
+    let e : m ≡ memberOf (getD work (n + n + r) 0) = q .is ∙ ap memberOf (o .is) in
+    record { within = λ z k. rw (← e) l; member = λ z k. rw (← e) (sym (a .is) ∙ z) }
 
-pub next-never : {t : List Row} {work out : List ℕ} {n k : ℕ} → IsNext t n work out k false
+pub ruleset noting = (noted-start, noted-never, noted-member, row-held, held-few, needs)
+
+pub next-never : {d x ws work out : List ℕ} {n k : ℕ} → IsNext d x ws n work out k false
 next-never = record { is = λ e. clash e refl }
 
-pub placed-runs : {t : List Row} {work out : List ℕ} {n k : ℕ} → PlacedBefore t n work out k → Runs n work out k
+pub placed-runs : {d x ws work out : List ℕ} {n k : ℕ} → PlacedBefore d x ws n work out k → Runs n work out k
 placed-runs f = record { is = λ i l. f .is i l .run }
 
-pub next-is : {d x ws work out : List ℕ} {n k r a s q : ℕ} {b c : Bool} → r < n → Got out k r → Defines d x ws r b → not b ≡ false → Got work (n + r) a → a ≡ k → RunIs n work r s → ReadyFrom (rowsShown d x ws n) n work r q → s ≤ q → Above out k r s c → IsNext (rowsShown d x ws n) n work out k c
-next-is {d} {x} {ws} {work} {out} {n} {k} {r} {a} {s} {q} {b} {c} l g f h v y m w o p = record {
-  is = all;
-}
+pub next-is : {d x ws work out : List ℕ} {n k r a s : ℕ} {b c q : Bool} → r < n → Got out k r → Defines d x ws r b → not b ≡ false → Got work (n + r) a → a ≡ k → RunIs n work r s → IsNoted d x ws n work r s q → not q ≡ false → Above out k r s c → IsNext d x ws n work out k c
+next-is {d} {x} {ws} {work} {out} {n} {k} {r} {a} {s} {b} {c} {q} l g f h v y m w o p = record { is = all }
   where
-    all : c ≡ true → Placed (rowsShown d x ws n) n work out k
+    all : c ≡ true → Placed d x ws n work out k
     all e =
         let z : r ≡ getD out k 0 = g .is in
         record {
           definition = rw (← z) (defined-at d x ws n r l ∙ sym (f .is) ∙ not-false b h);
           numbered = rw (← z) (sym (v .is) ∙ y);
           run = rw (← z, ← m .is) (p .is e);
-          ready = rw (← z, ← m .is) (λ i t. omega (arith, w .most i t));
+          noted = rw (← z, ← m .is) (rw (not-false q o) at w);
         }
-
-pub row-number : {out : List ℕ} {k r : ℕ} → Got out k r → r ≤ 4294967295
-row-number g = g .most
 
 pub ruleset nexts = (next-never, placed-runs, next-is, row-held, needs)
 
-pub placed-begins : {t : List Row} {work out : List ℕ} {n : ℕ} → PlacedBefore t n work out 0
+pub placed-begins : {d x ws work out : List ℕ} {n : ℕ} → PlacedBefore d x ws n work out 0
 placed-begins = record { is = λ i l. absurd (omega arith) }
 
-pub ascending-never : {t : List Row} {work out : List ℕ} {n count : ℕ} → IsAscending t n work out count false
+pub ascending-never : {d x ws work out : List ℕ} {n count : ℕ} → IsAscending d x ws n work out count false
 ascending-never = record { is = λ e. clash e refl }
 
-module _ {t : List Row} {work out : List ℕ} {n k : ℕ} (g : PlacedBefore t n work out k) where
-  pub placed-ends : {count : ℕ} → count ≤ k → IsAscending t n work out count true
+module _ {d x ws work out : List ℕ} {n k : ℕ} (g : PlacedBefore d x ws n work out k) where
+  pub placed-ends : {count : ℕ} → count ≤ k → IsAscending d x ws n work out count true
   placed-ends h = record { is = λ e. record { is = λ i l. g .is i (omega arith) } }
 
-  pub placed-more : {b : Bool} → IsNext t n work out k b → not b ≡ false → PlacedBefore t n work out (k + 1)
+  pub placed-more : {b : Bool} → IsNext d x ws n work out k b → not b ≡ false → PlacedBefore d x ws n work out (k + 1)
   placed-more {b} f h = record { is = λ i l. below i k (g .is i) (λ o. let e : k ≡ i = omega arith in rw e at (f .is (not-false b h))) }
 
 pub ruleset ascending = (placed-begins, ascending-never, placed-ends, placed-more, needs)
@@ -301,11 +384,11 @@ module _ {d x ws work out : List ℕ} {n count k : ℕ} (g : PlacedRows d x ws n
 
 pub ruleset placings = (rows-begin, rows-never, rows-end, rows-more, needs)
 
-module _ {t : List Row} {work out : List ℕ} {n count : ℕ} where
-  pub order-never : IsOrder t n work out count false
+module _ {d x ws work out : List ℕ} {n count : ℕ} where
+  pub order-never : IsOrder d x ws n work out count false
   order-never = record { before = λ e. clash e refl; stands = λ e. clash e refl }
 
-  pub order-both : {b c : Bool} → ArePlaced t n work out count b → not b ≡ false → IsAscending t n work out count c → IsOrder t n work out count c
+  pub order-both : {b c : Bool} → ArePlaced (rowsShown d x ws n) n work out count b → not b ≡ false → IsAscending d x ws n work out count c → IsOrder d x ws n work out count c
   order-both {b} f h g = record { before = g .is; stands = λ e. f .is (not-false b h) }
 
 pub ruleset whole-order = (order-never, order-both, needs)

@@ -7,6 +7,8 @@ use mathlib.Core.Bool.{Bool, true, false}
 use borrow.Author.Needs.{needs}
 use borrow.Author.Tests.{eq-eqb, ne-eqb}
 use native.Mathlib.Omega.{arith}
+use lib.Dec.{eqb}
+use Rattle.slices.specs.Bytes.{if}
 use lib.ListN.{length, getD, set, length-set, List·getD-eq-default}
 use lib.Seq.{getD-set-other}
 use Rattle.tables.specs.Table.{Wiped, cleared}
@@ -93,5 +95,14 @@ run-none {work} {n} {r} {e} g z = record { is = rw (← g .is, eq-eqb e 0 z); mo
 pub run-noted : {work : List ℕ} {n r e m s : ℕ} → Got work (n + n + r) e → (e ≡ 0 → ⊥) → MemberOf e m → Got work (n + m) s → RunIs n work r s
 unfolding runOf
 run-noted {work} {n} {r} {e} {m} {s} g z q f = record { is = f .is ∙ rw (← g .is, ne-eqb e 0 z, q .is); most = f .most }
+
+-- a run that does not begin at the first place has an edge
+pub run-some : (work : List ℕ) (n r : ℕ) → 0 < runOf n work r → 0 < getD work (n + n + r) 0
+unfolding runOf
+run-some work n r h = go (getD work (n + n + r) 0) refl h
+  where
+    go : (e : ℕ) → getD work (n + n + r) 0 ≡ e → 0 < if (eqb e 0) 0 (getD work (n + memberOf e) 0) → 0 < getD work (n + n + r) 0
+    go zero q l = absurd (omega arith)
+    go (suc e) q l = omega arith
 
 pub ruleset runs = (run-none, run-noted, needs)

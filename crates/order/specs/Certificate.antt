@@ -3,7 +3,6 @@
 use Prim.Native.Nat.{ℕ, _+_, _-_, _/_, _%_, _≤_, _<_}
 use mathlib.Core.Path.{_≡_}
 use mathlib.Core.List.{List}
-use mathlib.Core.Option.{some}
 use mathlib.Core.Bool.{Bool, true}
 use lib.Dec.{eqb}
 use lib.ListN.{length, getD}
@@ -13,9 +12,9 @@ use Rattle.document.specs.Elements.{among}
 use Rattle.items.specs.Words.{rowsShown}
 use Rattle.items.specs.Content.{Row}
 use Rattle.order.specs.Relation.{order, Chain, FirstOnCircle}
-use Rattle.order.specs.Types.{definitions, memberIn, uses}
+use Rattle.order.specs.Types.{definitions, memberIn, uses, isUndefined, undefined}
 use Rattle.order.specs.Lookup.{referredBy}
-use Rattle.order.specs.Steps.{shownAt, target}
+use Rattle.order.specs.Steps.{shownAt}
 
 -- ---- words
 
@@ -53,20 +52,58 @@ pub record Falls (n : ℕ) (work : List ℕ) (p i j : ℕ) : Type 0 where
   pub most : number n work j ≤ number n work i
   pub less : i < p → number n work j < number n work i
 
--- b says so only if it is so: of the row that a tp type names; of those that row m refers to as a member; of all that are used
-pub record TargetFalls (d x ws : List ℕ) (n : ℕ) (work : List ℕ) (p i : ℕ) (less : Bool) (m : ℕ) (b : Bool) : Type 0 where
-  pub is : b ≡ true → (j : ℕ) → target (rowsShown d x ws n) less (shownAt d x ws m .tp) ≡ some j → Falls n work p i j
+-- where the run of smaller rows before row r begins, as it is noted
+unfoldable pub runOf : ℕ → List ℕ → ℕ → ℕ
+runOf n work r = let e = getD work (n + n + r) 0 in let k = getD work (n + memberOf e) 0 in if (eqb e 0) 0 k
 
-pub record RowFalls (d x ws : List ℕ) (n : ℕ) (work : List ℕ) (p m : ℕ) (b : Bool) : Type 0 where
-  pub is :
-      b ≡ true →
+pub record RunIs (n : ℕ) (work : List ℕ) (r s : ℕ) : Type 0 where
+  pub is : s ≡ runOf n work r
+  pub most : s ≤ 4294967295
+
+-- edge e of row i leads to row j, or to none of n rows; if it is the one noted, and p is n, row j is given out just before row i's run or later
+pub record EdgeFalls (n : ℕ) (work : List ℕ) (p i e j : ℕ) (b : Bool) : Type 0 where
+  pub falls : b ≡ true → j < n → Falls n work p i j
+  pub noted : b ≡ true → n ≤ p → getD work (n + n + i) 0 ≡ e → (j < n) × (runOf n work i ≤ number n work j + 1)
+
+-- where all that row i uses has numbers below k, its run begins no later than there
+abbrev pub Late : List Row → ℕ → List ℕ → ℕ → Type 0
+Late t n work i = (k : ℕ) → ((j : ℕ) → uses t i j ≡ true → number n work j < k) → runOf n work i ≤ k
+
+-- r is one more than the number of tp types of row m, if it is a member, that bear names of no row
+pub record Tells (d x ws : List ℕ) (n m r : ℕ) : Type 0 where
+  pub is : r ≡ 1 + if (isUndefined (rowsShown d x ws n) (shownAt d x ws m)) 1 0
+
+-- of both edges of row m, if it is a member; r is 0 if not so, else one more than the number of its tp types that bear names of no row
+pub record RowFalls (d x ws : List ℕ) (n : ℕ) (work : List ℕ) (p m r : ℕ) : Type 0 where
+  pub falls :
+      0 < r →
       (i j : ℕ) →
       memberIn i (shownAt d x ws m) ≡ true →
       among j (referredBy (rowsShown d x ws n) (shownAt d x ws m .tp)) ≡ true →
       Falls n work p i j
+  pub noted :
+      0 < r →
+      n ≤ p →
+      (i : ℕ) →
+      memberIn i (shownAt d x ws m) ≡ true →
+      0 < getD work (n + n + i) 0 →
+      memberOf (getD work (n + n + i) 0) ≡ m →
+      Late (rowsShown d x ws n) n work i
+  pub few : r ≤ 2
+  pub count : 0 < r → r ≡ 1 + if (isUndefined (rowsShown d x ws n) (shownAt d x ws m)) 1 0
 
-pub record Monotone (d x ws : List ℕ) (n : ℕ) (work : List ℕ) (p : ℕ) (b : Bool) : Type 0 where
-  pub is : b ≡ true → (i j : ℕ) → uses (rowsShown d x ws n) i j ≡ true → Falls n work p i j
+-- of all members; r is the number of tp types that bear names of no row, or greater than n if not so
+pub record Members (d x ws : List ℕ) (n : ℕ) (work : List ℕ) (p r : ℕ) : Type 0 where
+  pub falls : r ≤ n → (i j : ℕ) → uses (rowsShown d x ws n) i j ≡ true → Falls n work p i j
+  pub noted :
+      r ≤ n →
+      n ≤ p →
+      (i : ℕ) →
+      memberOf (getD work (n + n + i) 0) < n →
+      memberIn i (shownAt d x ws (memberOf (getD work (n + n + i) 0))) ≡ true →
+      0 < getD work (n + n + i) 0 →
+      Late (rowsShown d x ws n) n work i
+  pub count : r ≤ n → r ≡ undefined (rowsShown d x ws n)
 
 -- ---- a circle
 
@@ -84,14 +121,6 @@ pub record IsFirst (t : List Row) (p : ℕ) (b : Bool) : Type 0 where
 
 -- ---- an order
 
--- where the run of smaller rows before row r begins, as it is noted
-unfoldable pub runOf : ℕ → List ℕ → ℕ → ℕ
-runOf n work r = let e = getD work (n + n + r) 0 in let k = getD work (n + memberOf e) 0 in if (eqb e 0) 0 k
-
-pub record RunIs (n : ℕ) (work : List ℕ) (r s : ℕ) : Type 0 where
-  pub is : s ≡ runOf n work r
-  pub most : s ≤ 4294967295
-
 -- the rows of a run are smaller than the row at its end: for each place before k
 pub record Runs (n : ℕ) (work out : List ℕ) (k : ℕ) : Type 0 where
   pub is : (i : ℕ) → i < k → (j : ℕ) → runOf n work (getD out i 0) ≤ j → j < i → getD out j 0 < getD out i 0
@@ -99,25 +128,26 @@ pub record Runs (n : ℕ) (work out : List ℕ) (k : ℕ) : Type 0 where
 pub record Above (out : List ℕ) (k r from : ℕ) (b : Bool) : Type 0 where
   pub is : b ≡ true → (j : ℕ) → from ≤ j → j < k → getD out j 0 < r
 
--- where all that row r uses has numbers below k, s is no greater
-pub record ReadyFrom (t : List Row) (n : ℕ) (work : List ℕ) (r s : ℕ) : Type 0 where
-  pub most : (k : ℕ) → ((j : ℕ) → uses t r j ≡ true → number n work j < k) → s ≤ k
+-- the edge that is noted for row r is one of its own, if its run does not begin at the first place
+pub record IsNoted (d x ws : List ℕ) (n : ℕ) (work : List ℕ) (r from : ℕ) (b : Bool) : Type 0 where
+  pub within : b ≡ true → 0 < from → memberOf (getD work (n + n + r) 0) < n
+  pub member : b ≡ true → 0 < from → memberIn r (shownAt d x ws (memberOf (getD work (n + n + r) 0))) ≡ true
 
--- the row at place k is a definition with that number; the run before it is of smaller rows; and it was not ready before that run
-pub record Placed (t : List Row) (n : ℕ) (work out : List ℕ) (k : ℕ) : Type 0 where
-  pub definition : among (getD out k 0) (definitions t) ≡ true
+-- the row at place k is a definition with that number; the run before it is of smaller rows; and its edge is noted
+pub record Placed (d x ws : List ℕ) (n : ℕ) (work out : List ℕ) (k : ℕ) : Type 0 where
+  pub definition : among (getD out k 0) (definitions (rowsShown d x ws n)) ≡ true
   pub numbered : number n work (getD out k 0) ≡ k
   pub run : (j : ℕ) → runOf n work (getD out k 0) ≤ j → j < k → getD out j 0 < getD out k 0
-  pub ready : (i : ℕ) → ((j : ℕ) → uses t (getD out k 0) j ≡ true → number n work j < i) → runOf n work (getD out k 0) ≤ i
+  pub noted : IsNoted d x ws n work (getD out k 0) (runOf n work (getD out k 0)) true
 
-pub record IsNext (t : List Row) (n : ℕ) (work out : List ℕ) (k : ℕ) (b : Bool) : Type 0 where
-  pub is : b ≡ true → Placed t n work out k
+pub record IsNext (d x ws : List ℕ) (n : ℕ) (work out : List ℕ) (k : ℕ) (b : Bool) : Type 0 where
+  pub is : b ≡ true → Placed d x ws n work out k
 
-pub record PlacedBefore (t : List Row) (n : ℕ) (work out : List ℕ) (k : ℕ) : Type 0 where
-  pub is : (i : ℕ) → i < k → Placed t n work out i
+pub record PlacedBefore (d x ws : List ℕ) (n : ℕ) (work out : List ℕ) (k : ℕ) : Type 0 where
+  pub is : (i : ℕ) → i < k → Placed d x ws n work out i
 
-pub record IsAscending (t : List Row) (n : ℕ) (work out : List ℕ) (count : ℕ) (b : Bool) : Type 0 where
-  pub is : b ≡ true → PlacedBefore t n work out count
+pub record IsAscending (d x ws : List ℕ) (n : ℕ) (work out : List ℕ) (count : ℕ) (b : Bool) : Type 0 where
+  pub is : b ≡ true → PlacedBefore d x ws n work out count
 
 -- row r stands at the place of its number
 pub record Stands (n : ℕ) (work out : List ℕ) (count r : ℕ) : Type 0 where
@@ -130,14 +160,15 @@ pub record IsPlaced (t : List Row) (n : ℕ) (work out : List ℕ) (count r : �
 pub record ArePlaced (t : List Row) (n : ℕ) (work out : List ℕ) (count : ℕ) (b : Bool) : Type 0 where
   pub is : b ≡ true → (r : ℕ) → among r (definitions t) ≡ true → Stands n work out count r
 
-pub record IsOrder (t : List Row) (n : ℕ) (work out : List ℕ) (count : ℕ) (b : Bool) : Type 0 where
-  pub before : b ≡ true → PlacedBefore t n work out count
-  pub stands : b ≡ true → (r : ℕ) → among r (definitions t) ≡ true → Stands n work out count r
+pub record IsOrder (d x ws : List ℕ) (n : ℕ) (work out : List ℕ) (count : ℕ) (b : Bool) : Type 0 where
+  pub before : b ≡ true → PlacedBefore d x ws n work out count
+  pub stands : b ≡ true → (r : ℕ) → among r (definitions (rowsShown d x ws n)) ≡ true → Stands n work out count r
 
--- no row is on a circle, and with room for them the first words are the order
-pub record Certain (t : List Row) (out : List ℕ) (count : ℕ) : Type 0 where
+-- no row is on a circle, with room for them the first words are the order, and u members bear names of no row
+pub record Certain (t : List Row) (out : List ℕ) (count u : ℕ) : Type 0 where
   pub free : (i : ℕ) → Chain (uses t) i i → ⊥
   pub order : count ≤ length out → Rep 1 out count (order (uses t) (definitions t))
+  pub undefined : u ≡ undefined t
 
-pub record IsCertain (t : List Row) (out : List ℕ) (count : ℕ) (b : Bool) : Type 0 where
-  pub is : b ≡ true → Certain t out count
+pub record IsCertain (t : List Row) (out : List ℕ) (count u : ℕ) (b : Bool) : Type 0 where
+  pub is : b ≡ true → Certain t out count u

@@ -144,11 +144,13 @@ fn start_row<'a>(
 )
     requires { ⌜ Held (now rows) n ⌝ ∗ ⌜ r < n ⌝ }
 {
+    if !definitions::is_definition(document, text, rows, r) {
+        words::put(work, r, words::parent(rows, n, r));
+        return;
+    }
     words::put(work, r, 0);
-    if definitions::is_definition(document, text, rows, r) {
-        if words::get(work, words::third(n, r)) == 0 {
-            mark(ready, r);
-        }
+    if words::get(work, words::third(n, r)) == 0 {
+        mark(ready, r);
     }
 }
 
@@ -193,7 +195,7 @@ fn release_all(rows: &[u32], n: usize, work: &mut [u32], ready: &mut [u64; 4161]
         if e == 0 {
             return;
         }
-        let u = words::parent(rows, n, words::member(e));
+        let u = words::get(work, words::member(e));
         let next = words::after(work, n, e);
         release(work, n, ready, u, e);
         e = next;

@@ -7,46 +7,74 @@ use super::index;
 use super::words;
 use document::kinds;
 ghost use Prim.Native.Nat.{_+_, _*_, _≤_, _<_};
+ghost use mathlib.Core.Bool.{true, false};
 ghost use lib.ListN.{length};
 ghost use Rattle.items.specs.Words.{rowsShown};
-ghost use Rattle.order.specs.Steps.{Held};
+ghost use Rattle.order.specs.Steps.{Held, Target};
 ghost use Rattle.order.specs.Index.{Indexed};
-ghost use Rattle.order.specs.Certificate.{TargetFalls, RowFalls, Monotone, Follows, IsCircle, RunIs, Runs, Above, ReadyFrom, IsNext, PlacedBefore, IsAscending, IsPlaced, ArePlaced, IsOrder};
+ghost use Rattle.order.specs.Certificate.{EdgeFalls, Tells, RowFalls, Members, Follows, IsCircle, RunIs, Runs, Above, IsNoted, IsNext, PlacedBefore, IsAscending, IsPlaced, ArePlaced, IsOrder};
 
 // ---- numbers
 
-// Whether the number of what member m of row i refers to is smaller than that of row i, or equal where i is p or greater.
-fn falls<'a>(
+// Whether edge e of row i, which leads to row j or to n for none, leads to a smaller number, or to an equal one where i is p or greater. Where p
+// is n, the edge that is noted for row i also has to lead to a row no place before the run of row i.
+fn edge_falls(n: usize, work: &[u32], p: usize, i: usize, e: usize, j: usize) -> bool
+    requires { ⌜ n ≤ 262144 ⌝ ∗ ⌜ i < n ⌝ ∗ ⌜ j ≤ n ⌝ }
+    ensures { λ b. ⌜ EdgeFalls n (now (work .entry)) p i e j b ⌝ }
+{
+    let noted = words::get(work, n + n + i);
+    if n <= j {
+        return noted != e;
+    }
+    let below = words::get(work, n + j);
+    let own = words::get(work, n + i);
+    if own < below {
+        return false;
+    }
+    if p < n {
+        if i < p {
+            return below < own;
+        }
+        return true;
+    }
+    if noted != e {
+        return below < own;
+    }
+    if run(work, n, i) <= below + 1 {
+        return below < own;
+    }
+    false
+}
+
+// 2 if row m is a member whose tp type bears the name of no row, which is told by the rows that it refers to; else 1.
+fn told<'a>(
     document: &'a [u8],
     text: &'a [u8],
     rows: &[u32],
     n: usize,
-    heads: &[u32],
-    work: &[u32],
-    p: usize,
-    i: usize,
-    less: bool,
     m: usize,
-) -> bool
-    requires { ⌜ Held (now rows) n ⌝ ∗ ⌜ Indexed (now document) (now text) (now rows) n (now heads) (now work) ⌝ ∗ ⌜ i < n ⌝ ∗ ⌜ m < n ⌝ }
-    ensures { λ r. ⌜ TargetFalls (now (document .entry)) (now (text .entry)) (now (rows .entry)) n (now (work .entry)) p i less m r ⌝ }
+    whole: usize,
+    less: usize,
+) -> usize
+    requires { ⌜ m * 16 + 16 ≤ length (now rows) ⌝ ∗ ⌜ Target (now document) (now text) (now rows) n false m whole ⌝ ∗ ⌜ Target (now document) (now text) (now rows) n true m less ⌝ }
+    ensures { λ r. ⌜ Tells (now (document .entry)) (now (text .entry)) (now (rows .entry)) n m r ⌝ }
 {
-    let j = index::find_target(document, text, rows, n, heads, work, less, m);
-    if n <= j {
-        return true;
+    if items::word(rows, m, 0) != kinds::MEMBER {
+        return 1;
     }
-    let below = words::get(work, n + j);
-    let own = words::get(work, n + i);
-    if below < own {
-        return true;
+    if items::is_absent(items::triple(rows, m, 8)) {
+        return 1;
     }
-    if i < p {
-        return false;
+    if whole < n {
+        return 1;
     }
-    below == own
+    if less < n {
+        return 1;
+    }
+    2
 }
 
-// The same for both, if row m is a member.
+// Whether both edges of row m, if it is a member, lead so: 0 if not, else 1, or 2 where its tp type bears the name of no row.
 fn row_falls<'a>(
     document: &'a [u8],
     text: &'a [u8],
@@ -56,28 +84,35 @@ fn row_falls<'a>(
     work: &[u32],
     p: usize,
     m: usize,
-) -> bool
+) -> usize
     requires { ⌜ Held (now rows) n ⌝ ∗ ⌜ Indexed (now document) (now text) (now rows) n (now heads) (now work) ⌝ ∗ ⌜ m < n ⌝ }
     ensures { λ r. ⌜ RowFalls (now (document .entry)) (now (text .entry)) (now (rows .entry)) n (now (work .entry)) p m r ⌝ }
 {
+    let first = m + m + 1;
+    let second = m + m + 2;
     if items::word(rows, m, 0) != kinds::MEMBER {
-        return true;
+        return 1;
     }
     let up = words::wide(items::word(rows, m, 1));
     if up == 0 {
-        return false;
+        return 0;
     }
     if n < up {
-        return false;
+        return 0;
     }
-    if !falls(document, text, rows, n, heads, work, p, up - 1, false, m) {
-        return false;
+    let whole = index::find_target(document, text, rows, n, heads, work, false, m);
+    let less = index::find_target(document, text, rows, n, heads, work, true, m);
+    if !edge_falls(n, work, p, up - 1, first, whole) {
+        return 0;
     }
-    falls(document, text, rows, n, heads, work, p, up - 1, true, m)
+    if !edge_falls(n, work, p, up - 1, second, less) {
+        return 0;
+    }
+    told(document, text, rows, n, m, whole, less)
 }
 
-// The same for all rows: then no row before p is on a circle.
-pub fn is_monotone<'a>(
+// The number of members whose tp type bears the name of no row, if the numbers are as said; else n + 1.
+pub fn check_members<'a>(
     document: &'a [u8],
     text: &'a [u8],
     rows: &[u32],
@@ -85,18 +120,21 @@ pub fn is_monotone<'a>(
     heads: &[u32],
     work: &[u32],
     p: usize,
-) -> bool
+) -> usize
     requires { ⌜ Held (now rows) n ⌝ ∗ ⌜ Indexed (now document) (now text) (now rows) n (now heads) (now work) ⌝ }
-    ensures { λ r. ⌜ Monotone (now (document .entry)) (now (text .entry)) (now (rows .entry)) n (now (work .entry)) p r ⌝ }
+    ensures { λ r. ⌜ Members (now (document .entry)) (now (text .entry)) (now (rows .entry)) n (now (work .entry)) p r ⌝ }
 {
+    let mut count = 0;
     let mut m = 0;
     while m < n {
-        if !row_falls(document, text, rows, n, heads, work, p, m) {
-            return false;
+        let r = row_falls(document, text, rows, n, heads, work, p, m);
+        if r == 0 {
+            return n + 1;
         }
+        count = count + r - 1;
         m += 1;
     }
-    true
+    count
 }
 
 // ---- a circle
@@ -187,24 +225,27 @@ fn is_above(work: &[u32], n: usize, out: &[u32], k: usize, r: usize, from: usize
     true
 }
 
-// A place before which not all that row r uses was given out, or 0.
-fn ready_from<'a>(
+// Whether the edge that is noted for row r is one of its own, if its run does not begin at the first place.
+fn is_noted<'a>(
     document: &'a [u8],
     text: &'a [u8],
     rows: &[u32],
     n: usize,
-    heads: &[u32],
     work: &[u32],
     r: usize,
-) -> usize
-    requires { ⌜ Held (now rows) n ⌝ ∗ ⌜ Indexed (now document) (now text) (now rows) n (now heads) (now work) ⌝ ∗ ⌜ r < n ⌝ }
-    ensures { λ s. ⌜ ReadyFrom (rowsShown (now (document .entry)) (now (text .entry)) (now (rows .entry)) n) n (now (work .entry)) r s ⌝ }
+    from: usize,
+) -> bool
+    requires { ⌜ Held (now rows) n ⌝ ∗ ⌜ r < n ⌝ }
+    ensures { λ b. ⌜ IsNoted (now (document .entry)) (now (text .entry)) (now (rows .entry)) n (now (work .entry)) r from b ⌝ }
 {
-    let j = follow(document, text, rows, n, heads, work, r);
-    if n <= j {
-        return 0;
+    if from == 0 {
+        return true;
     }
-    words::get(work, n + j) + 1
+    let m = words::member(words::get(work, n + n + r));
+    if n <= m {
+        return false;
+    }
+    definitions::is_member(document, text, rows, r, m)
 }
 
 // Whether the row at place k is a definition, has that number, and could not be given out before a greater one.
@@ -213,13 +254,12 @@ fn is_next<'a>(
     text: &'a [u8],
     rows: &[u32],
     n: usize,
-    heads: &[u32],
     work: &[u32],
     out: &[u32],
     k: usize,
 ) -> bool
-    requires { ⌜ Held (now rows) n ⌝ ∗ ⌜ Indexed (now document) (now text) (now rows) n (now heads) (now work) ⌝ ∗ ⌜ PlacedBefore (rowsShown (now document) (now text) (now rows) n) n (now work) (now out) k ⌝ }
-    ensures { λ r. ⌜ IsNext (rowsShown (now (document .entry)) (now (text .entry)) (now (rows .entry)) n) n (now (work .entry)) (now (out .entry)) k r ⌝ }
+    requires { ⌜ Held (now rows) n ⌝ ∗ ⌜ PlacedBefore (now document) (now text) (now rows) n (now work) (now out) k ⌝ }
+    ensures { λ r. ⌜ IsNext (now (document .entry)) (now (text .entry)) (now (rows .entry)) n (now (work .entry)) (now (out .entry)) k r ⌝ }
 {
     let r = words::get(out, k);
     if n <= r {
@@ -232,7 +272,7 @@ fn is_next<'a>(
         return false;
     }
     let from = run(work, n, r);
-    if ready_from(document, text, rows, n, heads, work, r) < from {
+    if !is_noted(document, text, rows, n, work, r, from) {
         return false;
     }
     is_above(work, n, out, k, r, from)
@@ -244,17 +284,16 @@ fn is_ascending<'a>(
     text: &'a [u8],
     rows: &[u32],
     n: usize,
-    heads: &[u32],
     work: &[u32],
     out: &[u32],
     count: usize,
 ) -> bool
-    requires { ⌜ Held (now rows) n ⌝ ∗ ⌜ Indexed (now document) (now text) (now rows) n (now heads) (now work) ⌝ }
-    ensures { λ r. ⌜ IsAscending (rowsShown (now (document .entry)) (now (text .entry)) (now (rows .entry)) n) n (now (work .entry)) (now (out .entry)) count r ⌝ }
+    requires { ⌜ Held (now rows) n ⌝ }
+    ensures { λ r. ⌜ IsAscending (now (document .entry)) (now (text .entry)) (now (rows .entry)) n (now (work .entry)) (now (out .entry)) count r ⌝ }
 {
     let mut k = 0;
     while k < count {
-        if !is_next(document, text, rows, n, heads, work, out, k) {
+        if !is_next(document, text, rows, n, work, out, k) {
             return false;
         }
         k += 1;
@@ -315,16 +354,15 @@ pub fn is_order<'a>(
     text: &'a [u8],
     rows: &[u32],
     n: usize,
-    heads: &[u32],
     work: &[u32],
     out: &[u32],
     count: usize,
 ) -> bool
-    requires { ⌜ Held (now rows) n ⌝ ∗ ⌜ Indexed (now document) (now text) (now rows) n (now heads) (now work) ⌝ }
-    ensures { λ r. ⌜ IsOrder (rowsShown (now (document .entry)) (now (text .entry)) (now (rows .entry)) n) n (now (work .entry)) (now (out .entry)) count r ⌝ }
+    requires { ⌜ Held (now rows) n ⌝ }
+    ensures { λ r. ⌜ IsOrder (now (document .entry)) (now (text .entry)) (now (rows .entry)) n (now (work .entry)) (now (out .entry)) count r ⌝ }
 {
     if !are_placed(document, text, rows, n, work, out, count) {
         return false;
     }
-    is_ascending(document, text, rows, n, heads, work, out, count)
+    is_ascending(document, text, rows, n, work, out, count)
 }

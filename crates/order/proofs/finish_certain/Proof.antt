@@ -15,6 +15,5 @@ finish-certain-spec =
     (λ c. search certain-finish)
     (λ c. search certain-finish)
     (λ c κs. search certain-finish)
-    (λ c κs. search certain-finish)
     (λ c. search certain-finish)
     (λ c. search certain-finish))

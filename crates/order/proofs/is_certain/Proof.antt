@@ -8,7 +8,6 @@ pub is-certain-spec : {M : Type 1} → statement M
 is-certain-spec =
     tie.close
     (tie.spec
-    (λ c κs. search certainties)
     (λ c. search certainties)
     (λ c. search certainties)
     (λ c κs. search certainties)
