@@ -7,7 +7,7 @@ ghost use Rattle.items.specs.Words.{rowsShown};
 ghost use Rattle.order.specs.Steps.{Held, IsUndefined, Adds, CountsUndefined, CountsDefinitions};
 
 // One more, if b says so.
-pub fn add(count: usize, b: bool) -> usize
+fn add(count: usize, b: bool) -> usize
     requires { ⌜ count ≤ 262144 ⌝ }
     ensures { λ r. ⌜ Adds count b r ⌝ }
 {

@@ -1,15 +1,13 @@
 // An index of type definitions by a hash of their names, and looking names up in it. A word for each bucket stands for its first row, a word
 // for each definition for the next row of its bucket: the row plus one in the low 19 bits, the first 13 bits of its name's hash in the others;
 // 0 for none. Each chain of rows ascends. The bits of the hash spare most looks at rows of other names.
-use super::counts;
 use super::definitions;
-use document::kinds;
 ghost use Prim.Native.Nat.{_+_, _*_, _≤_, _<_};
 ghost use mathlib.Core.Path.{_≡_};
 ghost use lib.ListN.{length};
 ghost use Rattle.slices.specs.Hash.{HashIs};
 ghost use Rattle.items.specs.Words.{rowsShown};
-ghost use Rattle.order.specs.Steps.{Held, HasName, FirstNamed, FirstElement, Named, Target, IsUndefined, CountsUndefined};
+ghost use Rattle.order.specs.Steps.{Held, HasName, FirstNamed, FirstElement, Named, Target};
 ghost use Rattle.order.specs.Index.{HashAt, Spread, WordIs, RowOf, Tagged, IndexedFrom, Indexed, Built};
 
 // The hash of the name of row i.
@@ -211,52 +209,4 @@ pub fn find_target<'a>(
         less,
         tables::lookup(document, text, tp),
     )
-}
-
-// Whether row m is a member with a tp type that bears the name of no row.
-fn is_undefined<'a>(
-    document: &'a [u8],
-    text: &'a [u8],
-    rows: &[u32],
-    n: usize,
-    heads: &[u32],
-    work: &[u32],
-    m: usize,
-) -> bool
-    requires { ⌜ Held (now rows) n ⌝ ∗ ⌜ m < n ⌝ ∗ ⌜ Indexed (now document) (now text) (now rows) n (now heads) (now work) ⌝ }
-    ensures { λ r. ⌜ IsUndefined (now (document .entry)) (now (text .entry)) (now (rows .entry)) n m r ⌝ }
-{
-    if items::word(rows, m, 0) != kinds::MEMBER {
-        return false;
-    }
-    let tp = items::triple(rows, m, 8);
-    if items::is_absent(tp) {
-        return false;
-    }
-    if find_target(document, text, rows, n, heads, work, false, m) < n {
-        return false;
-    }
-    n <= find_target(document, text, rows, n, heads, work, true, m)
-}
-
-// The number of such members.
-pub fn count_undefined<'a>(
-    document: &'a [u8],
-    text: &'a [u8],
-    rows: &[u32],
-    n: usize,
-    heads: &[u32],
-    work: &[u32],
-) -> usize
-    requires { ⌜ Held (now rows) n ⌝ ∗ ⌜ Indexed (now document) (now text) (now rows) n (now heads) (now work) ⌝ }
-    ensures { λ r. ⌜ CountsUndefined (rowsShown (now (document .entry)) (now (text .entry)) (now (rows .entry)) n) r ⌝ }
-{
-    let mut count = 0;
-    let mut k = 0;
-    while k < n {
-        let b = is_undefined(document, text, rows, n, heads, work, k);
-        count = counts::add(count, b);
-        k += 1;
-    }
-    count
 }
