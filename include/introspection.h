@@ -216,7 +216,7 @@ void introspection_read(const uint8_t *document, size_t document_length, uint32_
  * warnings and text of introspection_read.
  *
  * answer: enum introspection_answer. Refusals: those of introspection_read, 18 too, then 29; after it rows, warnings and text
- * are zeros, and what was decoded from UTF-16 stands. On real files it takes about 1.75 times
+ * are zeros, and what was decoded from UTF-16 stands. On real files it takes about 2.3 times
  * the instructions of introspection_read.
  */
 void introspection_read_strict(const uint8_t *document, size_t document_length, uint32_t *rows, size_t rows_length,
