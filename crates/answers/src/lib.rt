@@ -1,11 +1,12 @@
 // What is answered of a text that is put into a lent buffer, and how the buffer is left.
+#![tactic(auto)]
 ghost use Rattle.std.specs.Prelude.{length};
 ghost use Rattle.answers.specs.Text.{wrong, Says, Finishes};
 
 pub mod put;
 
 // Number and place of a refusal, or how many bytes were written.
-#[derive(Drop)]
+#[derive(Clone, Copy)]
 pub enum TextAnswer {
     Refused(u32, usize),
     Done(usize),

@@ -1,4 +1,5 @@
 // The attributes of a start tag: gathered, checked one by one, and looked up. `attributes` is the entry.
+#![tactic(auto)]
 ghost use Rattle.std.specs.Prelude.{◌≡◌, ◌+◌, ◌-◌, ◌≤◌, length, take, drop};
 ghost use Rattle.scan.specs.Classes.{Classes};
 ghost use Rattle.scan.specs.Colons.{Scanned};
@@ -18,7 +19,7 @@ mod some;
 mod starts;
 
 // An attribute: places and lengths of its name and its raw value; kind 1 the value is shown as it stands, 2 changed; whether it is a tp type; `twin` false says that no attribute before it has its name, true says nothing.
-#[derive(Drop)]
+#[derive(Clone, Copy)]
 pub struct Attribute {
     pub name: u32,
     pub name_len: u32,
@@ -30,21 +31,21 @@ pub struct Attribute {
 }
 
 // What stands at a place: no attribute, or one and the place after it.
-#[derive(Drop)]
+#[derive(Clone, Copy)]
 pub enum One {
     Absent,
     Found(Attribute, usize),
 }
 
 // Where a value ends, and its kind.
-#[derive(Drop)]
+#[derive(Clone, Copy)]
 pub struct ValueEnd {
     pub end: usize,
     pub kind: u32,
 }
 
 // A name's class, 8 where there is no attribute; the place of the value, and the quote before it.
-#[derive(Drop)]
+#[derive(Clone, Copy)]
 pub struct Start {
     pub class: usize,
     pub value: usize,
@@ -52,21 +53,21 @@ pub struct Start {
 }
 
 // A name's class, 8 where it is not one of the usual; its length.
-#[derive(Drop)]
+#[derive(Clone, Copy)]
 pub struct Known {
     pub class: usize,
     pub len: usize,
 }
 
 // What checking comes to: a fault's number and place, or none.
-#[derive(Drop)]
+#[derive(Clone, Copy)]
 pub enum AttributeCheck {
     Fault(u32, usize),
     Good,
 }
 
 // A fault; or the place after the attributes, and their values.
-#[derive(Drop)]
+#[derive(Clone, Copy)]
 pub enum Attrs {
     Fault(u32, usize),
     All(usize, Values),

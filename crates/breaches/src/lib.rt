@@ -1,4 +1,5 @@
 // The breaches of the strict profile in a document that is accepted: one walk over its tags and comments, which keeps the least.
+#![tactic(auto)]
 ghost use Rattle.std.specs.Prelude.{◌≡◌, ◌+◌, ◌-◌, ◌≤◌, ◌<◌, ◌^◌, length, take, drop};
 ghost use Rattle.scan.specs.Classes.{Classes};
 ghost use Rattle.scan.specs.Ignorable.{Marks};
@@ -19,21 +20,21 @@ use scan::{Markup, Scan};
 use tags::TagEnd;
 
 // The place of the least breach, if there is one.
-#[derive(Drop)]
+#[derive(Clone, Copy)]
 pub enum Breach {
     Nowhere,
     At(usize),
 }
 
 // Where a scan came to, and the least breach on the way.
-#[derive(Drop)]
+#[derive(Clone, Copy)]
 pub struct Way {
     pub at: usize,
     pub breach: Breach,
 }
 
 // A start tag: whether it is `/>`, the place after it, the least breach in it.
-#[derive(Drop)]
+#[derive(Clone, Copy)]
 pub struct Opened {
     pub closes: bool,
     pub at: usize,
@@ -41,7 +42,7 @@ pub struct Opened {
 }
 
 // The walk over the tokens: its place, how many elements are open, the least breach so far.
-#[derive(Drop)]
+#[derive(Clone, Copy)]
 pub struct Walk {
     pub at: usize,
     pub depth: usize,

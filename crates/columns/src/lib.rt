@@ -1,4 +1,5 @@
 // Rows of 16 words put down as columns, each word less the one above it, and the inverse.
+#![tactic(auto)]
 ghost use Rattle.std.specs.Prelude.{◌≡◌, ◌+◌, ◌*◌, ◌<◌, ◌≤◌, length};
 ghost use Rattle.tables.specs.Table.{Rep};
 ghost use Rattle.columns.specs.Words.{in_rows, in_columns, difference, restored, columns_of, rows_of};
@@ -6,7 +7,7 @@ ghost use Rattle.columns.specs.Put.{Roomy, Block, Puts, word_above, restored_abo
 ghost use Rattle.columns.specs.Entries.{refused, to_columns, to_rows, answer_of, words_left, Says, Finishes, Checks};
 
 // What an entry answers: number and place, or that all is done.
-#[derive(Drop)]
+#[derive(Clone, Copy)]
 pub enum ColumnsAnswer {
     Refused(u32, u64),
     Done,

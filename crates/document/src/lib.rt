@@ -1,4 +1,5 @@
 // The kinds of elements, the structs that the reader's functions share, and the raw bytes of a value. What a document means is in specs/.
+#![tactic(auto)]
 ghost use Rattle.std.specs.Prelude.{◌≡◌, ◌+◌, ◌<◌, ◌^◌};
 ghost use Rattle.document.specs.Refusals.{bare, showing, shown_by};
 ghost use Rattle.document.specs.declared.Excerpt.{Excerpt};
@@ -7,7 +8,7 @@ ghost use Rattle.document.specs.Outcome.{Lies, Raw, moved};
 pub mod kinds;
 
 // Bytes of the document, by their place and how many they are.
-#[derive(Drop)]
+#[derive(Clone, Copy)]
 pub struct Excerpt {
     pub at: u32,
     pub len: u32,
@@ -28,7 +29,7 @@ impl Excerpt {
 
 // Why a document is refused: the place, the number, and what the message shows: the key of a missing attribute, and up to two
 // excerpts.
-#[derive(Drop)]
+#[derive(Clone, Copy)]
 pub struct Refusal {
     pub place: usize,
     pub number: u32,
@@ -98,14 +99,14 @@ pub fn shown_by(number: u32) -> u32
 }
 
 // A refusal, or how many rows, text bytes and warnings were read.
-#[derive(Drop)]
+#[derive(Clone, Copy)]
 pub enum Verdict {
     Refused(Refusal),
     Accepted(usize, usize, usize),
 }
 
 // The raw value of an attribute: kind 0 is absent, 1 shown as it stands, 2 changed.
-#[derive(Drop)]
+#[derive(Clone, Copy)]
 pub struct Value {
     pub at: u32,
     pub len: u32,
@@ -123,7 +124,7 @@ pub fn raw(doc: &[u8], v: Value) -> &[u8]
 }
 
 // The values of the attributes that mean something.
-#[derive(Drop)]
+#[derive(Clone, Copy)]
 pub struct Values {
     pub name: Value,
     pub ty: Value,
@@ -135,7 +136,7 @@ pub struct Values {
 }
 
 // A start tag: the place and length of its name, the kind of that name, whether it is `/>`, the place after it, its values.
-#[derive(Drop)]
+#[derive(Clone, Copy)]
 pub struct StartTag {
     pub at: usize,
     pub len: usize,
@@ -146,7 +147,7 @@ pub struct StartTag {
 }
 
 // A place in the document, and the counts so far.
-#[derive(Drop)]
+#[derive(Clone, Copy)]
 pub struct Fill {
     pub at: usize,
     pub rows: usize,
@@ -169,14 +170,14 @@ impl Fill {
 }
 
 // What reading an element comes to: a fault, or where it ended.
-#[derive(Drop)]
+#[derive(Clone, Copy)]
 pub enum Answer {
     Fault(Refusal),
     Done(Fill),
 }
 
 // A closing tag: the place of `<`, the place and length of its name, the place after it.
-#[derive(Drop)]
+#[derive(Clone, Copy)]
 pub struct ClosingTag {
     pub lt: usize,
     pub at: usize,
@@ -185,7 +186,7 @@ pub struct ClosingTag {
 }
 
 // A token: the refusal of a fault, the end, a closing tag or a start tag.
-#[derive(Drop)]
+#[derive(Clone, Copy)]
 pub enum Token {
     Fault(Refusal),
     End(usize),
@@ -194,7 +195,7 @@ pub enum Token {
 }
 
 // What comes next in an open element: a fault, its closing tag (the place of `<` and the place after it), or a start tag.
-#[derive(Drop)]
+#[derive(Clone, Copy)]
 pub enum Next {
     Fault(Refusal),
     Close(usize, usize),
@@ -202,7 +203,7 @@ pub enum Next {
 }
 
 // What passing over an element comes to: a fault, or its closing tag.
-#[derive(Drop)]
+#[derive(Clone, Copy)]
 pub enum Passed {
     Fault(Refusal),
     Closed(usize, usize),

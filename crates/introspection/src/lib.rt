@@ -1,4 +1,5 @@
 // The library for C: the public entries, each answer written into the array that is lent last (include/introspection.h).
+#![tactic(auto)]
 ghost use Rattle.std.specs.Prelude.{◌≡◌, length, replicate};
 ghost use Rattle.tables.specs.declared.Triple.{Triple};
 ghost use Rattle.columns.specs.Entries.{to_columns, to_rows, words_left};

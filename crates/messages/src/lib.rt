@@ -1,4 +1,5 @@
 // Messages: a refusal or a warning, with its document, as the bytes that the Rust's `message()` gives.
+#![tactic(auto)]
 ghost use Rattle.std.specs.Prelude.{length};
 ghost use Rattle.answers.specs.Text.{Says};
 ghost use Rattle.messages.specs.Message.{message_of, warning_message_of};
@@ -9,7 +10,7 @@ mod shown;
 mod texts;
 
 // A triple of whatever words: source, start, length.
-#[derive(Drop)]
+#[derive(Clone, Copy)]
 pub struct Wide {
     pub source: u64,
     pub start: u64,
@@ -17,7 +18,7 @@ pub struct Wide {
 }
 
 // A refusal as it was told: its number, the key, and two triples.
-#[derive(Drop)]
+#[derive(Clone, Copy)]
 pub struct Told {
     pub number: u64,
     pub key: u64,
@@ -26,7 +27,7 @@ pub struct Told {
 }
 
 // A part of some bytes: where it begins and where it ends.
-#[derive(Drop)]
+#[derive(Clone, Copy)]
 pub struct Part {
     pub from: usize,
     pub to: usize,

@@ -1,5 +1,6 @@
 // Names and signatures, by the D-Bus Specification.
 // What is a name is in specs/Names.antt, what is a signature in specs/Types.antt and specs/Signature.antt.
+#![tactic(auto)]
 ghost use Rattle.std.specs.Prelude.{◌≡◌, ◌≤◌, length};
 ghost use Rattle.slices.specs.Run.{Run};
 ghost use Rattle.names.specs.Names.{digit, element_byte, interface_name, member_name, property_name};
@@ -7,7 +8,7 @@ ghost use Rattle.names.specs.Signature.{basic_code, basic_signature, signature};
 ghost use Rattle.names.specs.Checks.{Element, Typed, Fielded, Entered};
 
 // What checking a type comes to: no type, or the place where it ends.
-#[derive(Drop)]
+#[derive(Clone, Copy)]
 pub enum End {
     Bad,
     At(usize),

@@ -1,10 +1,11 @@
 // How cases are written (crates/part_cases/stdin): numbers and words here, texts in `text`.
+#![tactic(auto)]
 ghost use Rattle.std.specs.Prelude.{◌≡◌};
 
 pub mod text;
 
 // A number, and the place after it and the byte that ends it.
-#[derive(Drop)]
+#[derive(Clone, Copy)]
 pub struct Leading {
     pub value: u64,
     pub after: usize,

@@ -2,14 +2,14 @@
 ghost use Rattle.std.specs.Prelude.{◌<◌, length};
 
 // A byte, and the place after its text.
-#[derive(Drop)]
+#[derive(Clone, Copy)]
 pub struct Single {
     pub byte: u8,
     pub after: usize,
 }
 
 // The place after a part of a text, and how many bytes it came to with all before it.
-#[derive(Drop)]
+#[derive(Clone, Copy)]
 pub struct Moved {
     pub after: usize,
     pub count: usize,

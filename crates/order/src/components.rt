@@ -10,7 +10,7 @@ ghost use Rattle.order.specs.Steps.{Held};
 use super::{definitions, words};
 
 // Where the search is: a row, the next edge to look at, the next index, the next number, the top of the stack plus one.
-#[derive(Drop)]
+#[derive(Clone, Copy)]
 struct Walk {
     row: usize,
     edge: usize,
@@ -20,7 +20,7 @@ struct Walk {
 }
 
 // Whether the search goes on.
-#[derive(Drop)]
+#[derive(Clone, Copy)]
 struct Step {
     walk: Walk,
     more: bool,

@@ -2,7 +2,7 @@
 ghost use Rattle.std.specs.Prelude.{◌≤◌, length};
 
 // What reading has come to: whether it failed, and how many bytes there are.
-#[derive(Drop)]
+#[derive(Clone, Copy)]
 pub struct Came {
     pub failed: bool,
     pub end: usize,

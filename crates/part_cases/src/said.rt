@@ -2,7 +2,7 @@
 use scan::Scan;
 
 // The bytes of the words from one place up to another, then so many numbers.
-#[derive(Drop)]
+#[derive(Clone, Copy)]
 pub struct Said {
     from: usize,
     to: usize,

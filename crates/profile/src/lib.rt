@@ -1,4 +1,5 @@
 // The strict profile's rules that look at bytes alone: characters, names, comments, values, what follows the root.
+#![tactic(auto)]
 ghost use Rattle.std.specs.Prelude.{◌≡◌, [], ◌∷◌, ◌+◌, ◌≤◌, ◌<◌, length, drop};
 ghost use Rattle.utf8.specs.WellFormed.{ill_formed};
 ghost use Rattle.utf8.specs.WhiteSpace.{code_point};
@@ -11,7 +12,7 @@ ghost use Rattle.profile.specs.After.{space, instruction, comment, misc, after_f
 use scan::Scan;
 
 // A character: its code point, and how many bytes it takes.
-#[derive(Drop)]
+#[derive(Clone, Copy)]
 pub struct Character {
     pub code: u32,
     pub size: usize,

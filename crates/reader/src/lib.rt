@@ -1,4 +1,5 @@
 // The reader: the node loop and the public entries.
+#![tactic(auto)]
 ghost use Rattle.std.specs.Prelude.{◌≡◌, true, false, ◌+◌, ◌*◌, ◌≤◌, ◌<◌, ◌^◌, length, set};
 ghost use Rattle.scan.specs.Classes.{Classes};
 ghost use Rattle.document.specs.Kinds as kinds;
@@ -13,14 +14,14 @@ use files::Reading;
 use tags::step;
 
 // How many nodes are open, and the counts so far.
-#[derive(Drop)]
+#[derive(Clone, Copy)]
 pub struct Walk {
     pub depth: usize,
     pub fill: Fill,
 }
 
 // What a turn of the node loop comes to: a fault, the root's end, or one token more.
-#[derive(Drop)]
+#[derive(Clone, Copy)]
 pub enum Turn {
     Fault(Refusal),
     Done(Fill),

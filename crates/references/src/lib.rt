@@ -1,4 +1,5 @@
 // References in attribute values: unescape, char_reference, escape.
+#![tactic(auto)]
 ghost use Rattle.std.specs.Prelude.{◌≡◌, ◌+◌, ◌*◌, ◌<◌, ◌^◌, length, drop, get_or};
 ghost use Rattle.scan.specs.Classes.{Classes};
 ghost use Rattle.answers.specs.Text.{answer_of, left_of};
@@ -14,21 +15,21 @@ use answers::{TextAnswer, put};
 mod digits;
 
 // A place in a value, and one in the document.
-#[derive(Drop)]
+#[derive(Clone, Copy)]
 pub struct ValuePlace(pub usize);
 
-#[derive(Drop)]
+#[derive(Clone, Copy)]
 pub struct DocumentPlace(pub usize);
 
 // What a reference stands for: a character's code, or a fault's number.
-#[derive(Drop)]
+#[derive(Clone, Copy)]
 pub enum Reference {
     Character(u32),
     Bad(u32),
 }
 
 // What stands at a place of a value: a byte that is shown, or a character; each with the place after it. Or a fault's number.
-#[derive(Drop)]
+#[derive(Clone, Copy)]
 pub enum Piece {
     Byte(u8, usize),
     Char(u32, usize),
@@ -36,7 +37,7 @@ pub enum Piece {
 }
 
 // Whether a value's references are good, or the first fault's number and place.
-#[derive(Drop)]
+#[derive(Clone, Copy)]
 pub enum Checked {
     Good,
     Fault(u32, ValuePlace),

@@ -1,4 +1,5 @@
 // Rows and warnings in the tables that a caller lends.
+#![tactic(auto)]
 ghost use Rattle.std.specs.Prelude.{◌*◌, ◌<◌, ◌≤◌};
 ghost use Rattle.tables.specs.Table.{Put};
 ghost use Rattle.document.specs.Outcome.{Lies};
@@ -7,7 +8,7 @@ ghost use Rattle.rows.specs.Outcome.{Places, placed, RowFits, RowPut, WarningFit
 use document::{Fill, Value};
 
 // A row's kind, its parent's row plus one, its word 14, and the place of the element's name, after `<`.
-#[derive(Drop)]
+#[derive(Clone, Copy)]
 pub struct Head {
     pub kind: u32,
     pub parent: usize,
@@ -16,7 +17,7 @@ pub struct Head {
 }
 
 // The triple of a value, and how many bytes of text there are after it.
-#[derive(Drop)]
+#[derive(Clone, Copy)]
 pub struct Placed {
     pub source: u32,
     pub start: u32,

@@ -1,4 +1,5 @@
 // Scanning: the table of classes, white space, names, and what is ignorable between tags.
+#![tactic(auto)]
 ghost use Rattle.std.specs.Prelude.{◌≡◌, suc, pred, ◌+◌, ◌^◌, ◌≤◌, ◌<◌, eqb, length, drop, get_or};
 ghost use Rattle.slices.specs.Bytes.{if};
 ghost use Rattle.slices.specs.Run.{Run};
@@ -9,28 +10,28 @@ ghost use Rattle.scan.specs.Ignorable.{Mode, Scans, Ignores, Marks, quote, ends,
 mod table;
 
 // A fault's number and place, or where the scan came to.
-#[derive(Drop)]
+#[derive(Clone, Copy)]
 pub enum Scan {
     Fault(u32, usize),
     At(usize),
 }
 
 // What begins at a `<`: a tag, or what is ignored, and where that ends.
-#[derive(Drop)]
+#[derive(Clone, Copy)]
 pub enum Markup {
     Tag,
     Ignored(Scan),
 }
 
 // The places of a name's first and last colon, or that it has none.
-#[derive(Drop)]
+#[derive(Clone, Copy)]
 pub enum Colons {
     Absent,
     Between(usize, usize),
 }
 
 // A name: its end, and its colons.
-#[derive(Drop)]
+#[derive(Clone, Copy)]
 pub struct Name {
     pub end: usize,
     pub colons: Colons,

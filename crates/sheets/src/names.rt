@@ -3,7 +3,7 @@ ghost use Rattle.std.specs.Prelude.{◌≡◌, ◌≤◌, length};
 ghost use Rattle.sheets.specs.Names.{openable, Next};
 
 // The places where a name begins and ends, or that there is none.
-#[derive(Drop)]
+#[derive(Clone, Copy)]
 pub enum NextName {
     Nothing,
     At(usize, usize),

@@ -1,4 +1,5 @@
 // Whether the rows of a lent table are sound (docs/FORMAT.md, Sound rows).
+#![tactic(auto)]
 ghost use Rattle.std.specs.Prelude.{◌≡◌, ◌+◌, ◌*◌, ◌≤◌, ◌<◌, length};
 ghost use Rattle.utf8.specs.Trim.{Start};
 ghost use Rattle.items.specs.Words.{rows_of};
@@ -13,7 +14,7 @@ mod tally;
 mod texts;
 
 // What a check says: the rows are sound, or the place of refusal 19.
-#[derive(Drop)]
+#[derive(Clone, Copy)]
 pub enum Soundness {
     Sound,
     Unsound(usize),

@@ -1,4 +1,5 @@
 // The tables that a caller lends: rows of 16 words, warnings of 4, text; and the triples that rows are made of.
+#![tactic(auto)]
 ghost use Rattle.std.specs.Prelude.{◌≡◌, [], ◌∷◌, ◌+◌, ◌<◌, ◌≤◌, ◌^◌, length};
 ghost use Rattle.tables.specs.Table.{Put, Documented, Wiped};
 ghost use Rattle.tables.specs.Copied.{Copied};
@@ -6,7 +7,7 @@ ghost use Rattle.tables.specs.Triple.{inside, resolved, shown};
 ghost use Rattle.tables.specs.Place.{Inside, place};
 
 // Source 1 is the document, 2 the text buffer.
-#[derive(Drop)]
+#[derive(Clone, Copy)]
 pub struct Triple {
     pub source: u32,
     pub start: u32,

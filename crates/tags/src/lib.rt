@@ -1,4 +1,5 @@
 // Tags: the kind of a name, closing tags, start tags, and the next token from a place on.
+#![tactic(auto)]
 ghost use Rattle.std.specs.Prelude.{◌≡◌, suc, ◌+◌, ◌≤◌, ◌-◌, ◌<◌, ◌^◌, length, drop, take};
 ghost use Rattle.slices.specs.Bytes.{if, other, same, span};
 ghost use Rattle.scan.specs.Classes.{Classes};
@@ -16,7 +17,7 @@ use document::{ClosingTag, Excerpt, Next, Refusal, StartTag, Token, kinds};
 use scan::{Colons, Name, Scan};
 
 // Where a start tag's end was wanted, or whether it is `/>` and the place after it.
-#[derive(Drop)]
+#[derive(Clone, Copy)]
 pub enum TagEnd {
     Missing(usize),
     Here(bool, usize),

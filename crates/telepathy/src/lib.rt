@@ -1,5 +1,6 @@
 // Telepathy's type definitions: simple-type, enum, struct, mapping, with enumvalues and members as parts.
 // One incomplete part drops the whole definition, with its rows and text, and leaves one warning.
+#![tactic(auto)]
 ghost use Rattle.std.specs.Prelude.{◌+◌, ◌≤◌, ◌<◌, true, [], length};
 ghost use Rattle.scan.specs.Classes.{Classes};
 ghost use Rattle.document.specs.Outcome.{Ready, Bounded, Begins, Opening, Children, lent};
@@ -9,7 +10,7 @@ use document::{Answer, Fill, Next, Refusal, StartTag, kinds};
 use tags::step;
 
 // What was seen of a definition's parts: how many, whether one was incomplete, whether the first one's type is basic.
-#[derive(Drop)]
+#[derive(Clone, Copy)]
 pub struct Parts {
     pub count: usize,
     pub broken: bool,
@@ -17,7 +18,7 @@ pub struct Parts {
 }
 
 // What reading the content of a definition comes to: a fault, or where it ended and its parts.
-#[derive(Drop)]
+#[derive(Clone, Copy)]
 pub enum Inner {
     Fault(Refusal),
     Done(Fill, Parts),

@@ -6,7 +6,7 @@ ghost use Rattle.trees.specs.Steps.{group_of, Held, Stands, Sought, Next, HasChi
 use document::kinds;
 
 // How the rows stand: in document order; and so that after a node no other child of the same node follows.
-#[derive(Drop)]
+#[derive(Clone, Copy)]
 pub struct Standing {
     pub ordered: bool,
     pub last: bool,
@@ -83,7 +83,7 @@ pub fn rows_stand<'a>(document: &'a [u8], text: &'a [u8], rows: &[u32], n: usize
 }
 
 // A child of a group, or where the search for one ended.
-#[derive(Drop)]
+#[derive(Clone, Copy)]
 pub enum Found {
     At(usize),
     Nothing(usize),

@@ -8,7 +8,7 @@ ghost use Rattle.trees.specs.Steps.{Puttable, StartPut, DocstringPut, ClosePut, 
 use document::kinds;
 
 // A part of the texts below.
-#[derive(Drop)]
+#[derive(Clone, Copy)]
 pub struct Part {
     pub from: usize,
     pub to: usize,

@@ -10,7 +10,7 @@ use crate::{children, elements};
 use document::kinds;
 
 // In row `row` children of a group are sought from row `from` on; so many nodes are open, so many bytes put, and so many turns left at most.
-#[derive(Drop)]
+#[derive(Clone, Copy)]
 pub struct Walk {
     pub row: usize,
     pub group: u32,
@@ -21,21 +21,21 @@ pub struct Walk {
 }
 
 // What the walk comes to: the bytes put, or the row that is too deep.
-#[derive(Drop)]
+#[derive(Clone, Copy)]
 pub enum Walked {
     Deep(usize),
     Put(usize),
 }
 
 // After one turn: the walk goes on, or it has ended.
-#[derive(Drop)]
+#[derive(Clone, Copy)]
 pub enum Turn {
     On(Walk),
     End(Walked),
 }
 
 // The start of an element: it is closed at once; or it is open, its docstring put; or it would be the 1,025th open node.
-#[derive(Drop)]
+#[derive(Clone, Copy)]
 pub enum Start {
     Closed(usize),
     Opened(usize),

@@ -1,4 +1,5 @@
 // Documents in UTF-16 that begin with a byte order mark, decoded to UTF-8 in a lent buffer.
+#![tactic(auto)]
 ghost use Rattle.std.specs.Prelude.{◌≡◌, ◌+◌, ◌*◌, ◌<◌, ◌≤◌, length};
 ghost use Rattle.answers.specs.Text.{Says};
 ghost use Rattle.utf16.specs.Entry.{ordered, told, answer, left};
@@ -6,7 +7,7 @@ ghost use Rattle.utf16.specs.Outcome.{IsUnit, Characters, Decodes, Exceeds, Limi
 ghost use Rattle.utf16.specs.Promises.{Forms};
 
 // What the entry answers: no mark; number and place; or the decoded length.
-#[derive(Drop)]
+#[derive(Clone, Copy)]
 pub enum Answer {
     Unmarked,
     Refused(u32, usize),
@@ -14,21 +15,21 @@ pub enum Answer {
 }
 
 // The scalar value at a place, and the place after it; or a surrogate that has no partner.
-#[derive(Drop)]
+#[derive(Clone, Copy)]
 enum Scalar {
     At(u32, usize),
     Lone,
 }
 
 // How many bytes were put, or the place of a surrogate that has no partner.
-#[derive(Drop)]
+#[derive(Clone, Copy)]
 enum Put {
     Count(usize),
     Alone(usize),
 }
 
 // The place and the count after some units, or the place of a surrogate that has no partner.
-#[derive(Drop)]
+#[derive(Clone, Copy)]
 enum Step {
     On(usize, usize),
     Stuck(usize),

@@ -1,4 +1,5 @@
 // Well-formed UTF-8, and White_Space at both ends of a text.
+#![tactic(auto)]
 ghost use Rattle.std.specs.Prelude.{◌≡◌, [], ◌∷◌, ◌+◌, ◌≤◌, ◌<◌, length, drop};
 ghost use Rattle.utf8.specs.WellFormed.{to, begins, sequence, ill_formed};
 ghost use Rattle.utf8.specs.WhiteSpace.{code_point, white_space, Trims};
@@ -7,7 +8,7 @@ ghost use Rattle.utf8.specs.Ascii.{AtMost, Ascii};
 ghost use Rattle.utf8.specs.Trim.{Boundary, Start, Last, Starts, Ends, white};
 
 // Where a text begins and ends once it is trimmed.
-#[derive(Drop)]
+#[derive(Clone, Copy)]
 pub struct Trimmed {
     pub start: usize,
     pub end: usize,

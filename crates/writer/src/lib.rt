@@ -1,5 +1,6 @@
 // A writer: the buffer that a caller lends, together with its fill count. Each function that takes, makes, returns or has a local of one
 // is proved by a walk of its MIR, by hand.
+#![tactic(auto)]
 ghost use Rattle.std.specs.Prelude.{◌≡◌, ◌++◌, ◌+◌, ◌*◌, ◌<◌, ◌^◌, length};
 ghost use Rattle.scan.specs.Classes.{Classes};
 ghost use Rattle.answers.specs.Puts.{Puts};

@@ -1,4 +1,5 @@
 // The four writers: method, signal, annotation and arg, from sound rows.
+#![tactic(auto)]
 ghost use Rattle.std.specs.Prelude.{◌+◌, ◌*◌, ◌≤◌, ◌<◌, ◌^◌, true, length};
 ghost use Rattle.scan.specs.Classes.{Classes};
 ghost use Rattle.items.specs.Words.{Word};
@@ -510,7 +511,7 @@ pub fn write<'a>(
 }
 
 // What is wrong with rows that are asked for: number and place, or nothing.
-#[derive(Drop)]
+#[derive(Clone, Copy)]
 enum Vetting {
     Fault(u32, usize),
     Fine,

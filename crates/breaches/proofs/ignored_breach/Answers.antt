@@ -1,0 +1,19 @@
+-- `breaches::ignored_breach` meets its contract. A comment, or nothing to look at.
+-- Assumes nothing.
+use Rattle.breaches.proofs.Comments.{comments}
+use Rattle.breaches.proofs.ignored_breach.Goals as goal
+
+pub overflow_add-at : goal.overflow_add-at
+overflow_add-at c = search comments
+
+pub starts_at-requires : goal.starts_at-requires
+starts_at-requires c = search comments
+
+pub comment_breach-requires : goal.comment_breach-requires
+comment_breach-requires c = search comments
+
+pub returns-then-starts_at : goal.returns-then-starts_at
+returns-then-starts_at c = search comments
+
+pub returns : goal.returns
+returns c = search comments

@@ -1,0 +1,83 @@
+-- What `interfaces::interface_children` leaves to show. Its loop is in Invariants.antt.
+-- Assumes nothing.
+use Prim.Native.Nat.{◌-◌}
+use mathlib.Core.Path.{◌≡◌}
+use mathlib.Core.List.{[], ◌∷◌}
+use mathlib.Core.Bool.{true}
+use lib.ListN.{length}
+use Rattle.document.specs.Kinds as kinds
+use Rattle.document.specs.Outcome.{lent}
+use Rattle.document.proofs.Loops.{Sofar, loops}
+use Rattle.interfaces.proofs.interface_children.Goals as goal
+
+pub loop-refusal-init : goal.loop-refusal-init
+loop-refusal-init c = search loops
+
+pub step-requires : goal.step-requires
+step-requires c = search loops
+
+pub enum_known-refusal : goal.enum_known-refusal
+enum_known-refusal c = search loops
+
+pub shape_of-rows-in-Fault : goal.shape_of-rows-in-Fault
+shape_of-rows-in-Fault c = search loops
+
+pub shape_of-warnings-in-Fault : goal.shape_of-warnings-in-Fault
+shape_of-warnings-in-Fault c = search loops
+
+pub shape_of-text-in-Fault : goal.shape_of-text-in-Fault
+shape_of-text-in-Fault c = search loops
+
+pub returns-in-Fault : goal.returns-in-Fault
+returns-in-Fault c = search loops
+
+pub enum_known-end : goal.enum_known-end
+enum_known-end c = search loops
+
+pub moved-requires : goal.moved-requires
+moved-requires c = search loops
+
+pub shape_of-rows-in-Close : goal.shape_of-rows-in-Close
+shape_of-rows-in-Close c = search loops
+
+pub shape_of-warnings-in-Close : goal.shape_of-warnings-in-Close
+shape_of-warnings-in-Close c = search loops
+
+pub shape_of-text-in-Close : goal.shape_of-text-in-Close
+shape_of-text-in-Close c = search loops
+
+pub returns-in-Close : goal.returns-in-Close
+returns-in-Close c = search loops
+
+pub enum_known-c : goal.enum_known-c
+enum_known-c c = search loops
+
+pub moved-h-requires : goal.moved-h-requires
+moved-h-requires c = search loops
+
+pub interface_child-requires : goal.interface_child-requires
+interface_child-requires c = search loops
+
+pub enum_known-refusal-in-Fault-interface_child : goal.enum_known-refusal-in-Fault-interface_child
+enum_known-refusal-in-Fault-interface_child c = search loops
+
+pub shape_of-rows-in-Fault-interface_child : goal.shape_of-rows-in-Fault-interface_child
+shape_of-rows-in-Fault-interface_child c = search (c.loop-refusal.invariant, loops)
+
+pub shape_of-warnings-in-Fault-interface_child : goal.shape_of-warnings-in-Fault-interface_child
+shape_of-warnings-in-Fault-interface_child c = search (c.loop-refusal.invariant, loops)
+
+pub shape_of-text-in-Fault-interface_child : goal.shape_of-text-in-Fault-interface_child
+shape_of-text-in-Fault-interface_child c = search (c.loop-refusal.invariant, loops)
+
+pub returns-in-Fault-interface_child : goal.returns-in-Fault-interface_child
+returns-in-Fault-interface_child c = search (c.loop-refusal.invariant, c.step.ensures, loops)
+
+pub enum_known-k : goal.enum_known-k
+enum_known-k c = search loops
+
+pub loop-refusal-smaller : goal.loop-refusal-smaller
+loop-refusal-smaller c = search loops
+
+pub loop-refusal-preserved : goal.loop-refusal-preserved
+loop-refusal-preserved c = (search loops, search loops, search loops, search loops)

@@ -1,0 +1,18 @@
+-- `interfaces::interface_children` meets its contract: the run has come from the start to the present place. The measure is what is left of the document.
+-- Assumes nothing.
+use Prim.Native.Nat.{◌-◌}
+use mathlib.Core.Path.{◌≡◌}
+use mathlib.Core.List.{[], ◌∷◌}
+use mathlib.Core.Bool.{true}
+use lib.ListN.{length}
+use Rattle.document.specs.Kinds as kinds
+use Rattle.document.specs.Outcome.{lent}
+use Rattle.document.proofs.Loops.{Sofar, loops}
+use Rattle.interfaces.proofs.interface_children.Given as goal
+
+abbrev pub invariant-loop-refusal : goal.invariant-loop-refusal
+invariant-loop-refusal l =
+    Sofar l.doc kinds.in_interface true l.at l.len l.i l.initial.g (lent l.initial.rows l.initial.warnings l.initial.text) l.g (lent l.rows l.warnings l.text) × (length l.rows ≡ length l.initial.rows) × (length l.warnings ≡ length l.initial.warnings) × (length l.text ≡ length l.initial.text)
+
+abbrev pub decreases-loop-refusal : goal.decreases-loop-refusal
+decreases-loop-refusal l = length l.doc - l.g.at

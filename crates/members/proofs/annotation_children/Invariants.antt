@@ -1,0 +1,18 @@
+-- `members::annotation_children` meets its contract: the run has come from the start to the present place. The measure is what is left of the document.
+-- Assumes nothing.
+use Prim.Native.Nat.{◌-◌}
+use mathlib.Core.Path.{◌≡◌}
+use mathlib.Core.List.{[]}
+use mathlib.Core.Bool.{false}
+use lib.ListN.{length}
+use Rattle.document.specs.Outcome.{lent}
+use Rattle.document.proofs.Loops.{Sofar}
+use Rattle.members.proofs.Members.{annotation_loop}
+use Rattle.members.proofs.annotation_children.Given as goal
+
+abbrev pub invariant-loop-refusal : goal.invariant-loop-refusal
+invariant-loop-refusal l =
+    Sofar l.doc [] false l.at l.len l.i l.initial.g (lent l.rows l.initial.warnings l.text) l.g (lent l.rows l.warnings l.text) × (length l.warnings ≡ length l.initial.warnings)
+
+abbrev pub decreases-loop-refusal : goal.decreases-loop-refusal
+decreases-loop-refusal l = length l.doc - l.g.at

@@ -1,0 +1,12 @@
+-- `names::signature` meets its contract. The invariant: with nothing open, what follows the place decides.
+-- Assumes nothing.
+use Prim.Native.Nat.{◌-◌}
+use lib.ListN.{length}
+use Rattle.names.proofs.Checks.{Signing, signatures}
+use Rattle.names.proofs.signature.Given as goal
+
+abbrev pub invariant-loop-at : goal.invariant-loop-at
+invariant-loop-at l = Signing l.s l.at
+
+abbrev pub decreases-loop-at : goal.decreases-loop-at
+decreases-loop-at l = length l.s - l.at

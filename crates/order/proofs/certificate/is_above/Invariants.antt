@@ -1,0 +1,10 @@
+-- `order::certificate::is_above` meets its contract.
+-- Assumes nothing.
+use Rattle.order.proofs.Checking.{rising, Rising}
+use Rattle.order.proofs.certificate.is_above.Given as goal
+
+abbrev pub invariant-loop-j : goal.invariant-loop-j
+invariant-loop-j l = Rising l.out l.k l.r l.j
+
+abbrev pub decreases-loop-j : goal.decreases-loop-j
+decreases-loop-j l = l.j

@@ -1,0 +1,14 @@
+-- `profile::comment_fault` meets its contract. The invariant: what is asked is what is left from here.
+-- Assumes nothing.
+use Prim.Native.Nat.{◌-◌}
+use lib.ListN.{length}
+use Rattle.profile.specs.Profile.{hyphens}
+use Rattle.profile.proofs.Going.{Going}
+use Rattle.profile.proofs.Marks.{comments}
+use Rattle.profile.proofs.comment_fault.Given as goal
+
+abbrev pub invariant-loop-at : goal.invariant-loop-at
+invariant-loop-at l = Going hyphens l.s l.at
+
+abbrev pub decreases-loop-at : goal.decreases-loop-at
+decreases-loop-at l = length l.s - l.at

@@ -1,0 +1,12 @@
+-- `profile::name_fault` meets its contract. The invariant: what is asked is what is left from here.
+-- Assumes nothing.
+use Prim.Native.Nat.{◌-◌}
+use lib.ListN.{length}
+use Rattle.profile.proofs.Naming.{Naming, naming}
+use Rattle.profile.proofs.name_fault.Given as goal
+
+abbrev pub invariant-loop-at : goal.invariant-loop-at
+invariant-loop-at l = Naming l.s l.at
+
+abbrev pub decreases-loop-at : goal.decreases-loop-at
+decreases-loop-at l = length l.s - l.at

@@ -1,0 +1,25 @@
+-- `shown::texts::access` meets its contract.
+-- Assumes nothing.
+use Rattle.shown.proofs.Tests.{texts}
+use Rattle.shown.proofs.texts.access.Goals as goal
+
+pub equal-requires : goal.equal-requires
+equal-requires c = search texts
+
+pub returns-then-equal : goal.returns-then-equal
+returns-then-equal c = search texts
+
+pub equal-requires-2 : goal.equal-requires-2
+equal-requires-2 c = search texts
+
+pub returns-then-equal-2 : goal.returns-then-equal-2
+returns-then-equal-2 c = search texts
+
+pub equal-requires-3 : goal.equal-requires-3
+equal-requires-3 c = search texts
+
+pub returns-then-equal-3 : goal.returns-then-equal-3
+returns-then-equal-3 c = search texts
+
+pub returns : goal.returns
+returns c = search texts

@@ -1,0 +1,12 @@
+-- `tables::clear_bytes` meets its contract. The invariant: to clear the present text from `i` on gives what the contract asks.
+-- Assumes nothing.
+use Prim.Native.Nat.{◌-◌}
+use lib.ListN.{length}
+use Rattle.tables.proofs.Tables.{Clearing, tables}
+use Rattle.tables.proofs.clear_bytes.Given as goal
+
+abbrev pub invariant-loop-i : goal.invariant-loop-i
+invariant-loop-i l = Clearing l.from l.initial.text l.text l.i
+
+abbrev pub decreases-loop-i : goal.decreases-loop-i
+decreases-loop-i l = length l.initial.text - l.i

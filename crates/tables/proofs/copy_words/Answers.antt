@@ -1,0 +1,39 @@
+-- What `tables::copy_words` leaves to show. Its loop is in Invariants.antt.
+-- Assumes nothing.
+use Prim.Native.Nat.{◌-◌}
+use lib.ListN.{length}
+use Rattle.tables.proofs.Tables.{Copying, tables}
+use Rattle.tables.proofs.copy_words.Goals as goal
+
+pub loop-i-init : goal.loop-i-init
+loop-i-init c = search tables
+
+pub offset_bounds-words-i : goal.offset_bounds-words-i
+offset_bounds-words-i c = search tables
+
+pub bounds-words-i : goal.bounds-words-i
+bounds-words-i c = search tables
+
+pub overflow_add-table : goal.overflow_add-table
+overflow_add-table c = search tables
+
+pub offset_bounds-table-base : goal.offset_bounds-table-base
+offset_bounds-table-base c = search tables
+
+pub bounds-table-base : goal.bounds-table-base
+bounds-table-base c = search tables
+
+pub overflow_add-i : goal.overflow_add-i
+overflow_add-i c = search tables
+
+pub loop-i-smaller : goal.loop-i-smaller
+loop-i-smaller c = search tables
+
+pub loop-i-preserved : goal.loop-i-preserved
+loop-i-preserved c = search tables
+
+pub shape_of-table : goal.shape_of-table
+shape_of-table c = search tables
+
+pub returns : goal.returns
+returns c = search tables

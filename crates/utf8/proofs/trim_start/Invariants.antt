@@ -1,0 +1,12 @@
+-- `utf8::trim_start` meets its contract. The invariant: what is asked is what is left from here.
+-- Assumes nothing.
+use Prim.Native.Nat.{◌-◌}
+use lib.ListN.{length}
+use Rattle.utf8.proofs.Trims.{Trimming, trims}
+use Rattle.utf8.proofs.trim_start.Given as goal
+
+abbrev pub invariant-loop-at : goal.invariant-loop-at
+invariant-loop-at l = Trimming l.s l.at
+
+abbrev pub decreases-loop-at : goal.decreases-loop-at
+decreases-loop-at l = length l.s - l.at
