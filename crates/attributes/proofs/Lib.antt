@@ -3,7 +3,6 @@
 pub mod Found
 pub mod Keys
 pub mod First
-pub mod Lent
 pub mod Shown
 pub mod Checking
 pub mod Picked

@@ -36,7 +36,7 @@ module _ {place f : ℕ → ℕ → ℕ} {t₀ t : List ℕ} where
   pub filled_ready : {n R : ℕ} {xs : List ℕ} → Filled place f R n t₀ t → Roomy R xs t₀ → Roomy R xs t
   filled_ready g y = record { few = y.few; held = y.held; room = rw g.puts.same y.room }
 
-module _ {R : ℕ} {xs t₀ t t' : List ℕ} where
+module _ {R : ℕ} (xs : List ℕ) {t₀ t t' : List ℕ} where
   pub columns_going : {m a n : ℕ} → Going (in_columns R) (difference xs) m a n t₀ t → Block a n R → m < 16 → Puts (in_columns R) (difference xs) m (m + 1) a n t t' → Going (in_columns R) (difference xs) (m + 1) a n t₀ t'
   columns_going g z b p = record {
     puts = words_joined {place = in_columns R} {f = difference xs} (columns_apart R) (omega arith) z.within (omega arith) (omega arith) g.puts p;
@@ -61,7 +61,7 @@ module _ {R : ℕ} {xs t₀ t t' : List ℕ} where
     few = l;
   }
 
-module _ {R : ℕ} {xs t₀ t : List ℕ} where
+module _ {R : ℕ} (xs : List ℕ) {t₀ t : List ℕ} where
   -- the row above a block stays as it is while the block is put
   pub going_below : {m : ℕ} (a : ℕ) {n : ℕ} → Going in_rows (restored R xs) m a n t₀ t → Below R xs a t₀ → m < 16 → word_above t m a ≡ restored_above R xs m a
   going_below zero g h b = refl

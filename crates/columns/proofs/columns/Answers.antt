@@ -1,5 +1,6 @@
 -- `columns::columns` meets its contract: `said` makes the two equations.
 -- Assumes nothing.
+use Rattle.std.proofs.Common.{length}
 use Rattle.columns.specs.Entries.{to_columns}
 use Rattle.columns.proofs.Answers.{entries, said}
 use Rattle.columns.proofs.columns.Goals as goal
@@ -26,10 +27,14 @@ pub shape_of-out-in-Refused : goal.shape_of-out-in-Refused
 shape_of-out-in-Refused c = search entries
 
 pub returns-in-Refused : goal.returns-in-Refused
-returns-in-Refused c = said to_columns _ _ _ _ _ (search entries)
+returns-in-Refused c =
+    let s = said to_columns c.args.count c.args.rows.now (length c.args.out.now) c.refuse.new.out c.refuse.result (search entries) in
+    record { answer = s.0; left = s.1 }
 
 pub shape_of-out-in-Done : goal.shape_of-out-in-Done
 shape_of-out-in-Done c = search entries
 
 pub returns-in-Done : goal.returns-in-Done
-returns-in-Done c = said to_columns _ _ _ _ _ (search entries)
+returns-in-Done c =
+    let s = said to_columns c.args.count c.args.rows.now (length c.args.out.now) c.finish.new.out c.finish.result (search entries) in
+    record { answer = s.0; left = s.1 }

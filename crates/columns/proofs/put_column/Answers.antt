@@ -54,7 +54,7 @@ loop-r-preserved c =
     (λ i. (c.shared_slice_known-in-loop-r-1.given i).fits)
     _
     (omega arith)
-    c.wrapping_sub_u32-less.ensures
+    c.wrapping_sub_u32-less.ensures.value
 
 pub shape_of-out : goal.shape_of-out
 shape_of-out c = search putting

@@ -53,7 +53,7 @@ loop-r-preserved c =
     (search putting)
     (λ i. (c.shared_slice_known-in-loop-r-1.given i).fits)
     _
-    c.wrapping_add_u32-above.ensures
+    c.wrapping_add_u32-above.ensures.value
 
 pub shape_of-out : goal.shape_of-out
 shape_of-out c = search putting

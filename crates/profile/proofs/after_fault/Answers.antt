@@ -2,7 +2,7 @@
 -- Assumes nothing.
 use Prim.Native.Nat.{◌-◌}
 use lib.ListN.{length}
-use Rattle.profile.proofs.Afters.{Reading, afters}
+use Rattle.profile.proofs.Afters.{Reading, after_stops, afters}
 use Rattle.profile.proofs.after_fault.Goals as goal
 
 pub loop-at-init : goal.loop-at-init
@@ -15,7 +15,7 @@ pub enum_known-number : goal.enum_known-number
 enum_known-number c = search afters
 
 pub returns-in-Fault : goal.returns-in-Fault
-returns-in-Fault c = search afters
+returns-in-Fault c = after_stops c.loop-at.invariant c.loop-at-test.true c.misc_at.ensures c.in-Fault.is
 
 pub enum_known-end : goal.enum_known-end
 enum_known-end c = search afters

@@ -1,8 +1,9 @@
 -- What `profile::name_fault` leaves to show. Its loop is in Invariants.antt.
 -- Assumes nothing.
 use Prim.Native.Nat.{◌-◌}
+use Rattle.std.proofs.Common.{rules}
 use lib.ListN.{length}
-use Rattle.profile.proofs.Naming.{Naming, naming}
+use Rattle.profile.proofs.Naming.{Naming, name_fits, name_more, naming}
 use Rattle.profile.proofs.name_fault.Goals as goal
 
 pub returns-then-s-eq0 : goal.returns-then-s-eq0
@@ -24,13 +25,13 @@ pub name_char-requires : goal.name_char-requires
 name_char-requires c = search naming
 
 pub overflow_add-at : goal.overflow_add-at
-overflow_add-at c = search naming
+overflow_add-at c = search (name_fits c.loop-at.invariant c.loop-at-test.true c.character_at-next.ensures, rules)
 
 pub loop-at-smaller : goal.loop-at-smaller
 loop-at-smaller c = search naming
 
 pub loop-at-preserved : goal.loop-at-preserved
-loop-at-preserved c = search naming
+loop-at-preserved c = name_more c.loop-at.invariant c.loop-at-test.true c.character_at-next.ensures c.name_char.ensures c.if-name_char.true
 
 pub returns-else-name_char : goal.returns-else-name_char
 returns-else-name_char c = search naming

@@ -1,6 +1,7 @@
 -- `references::escape` meets its contract: `said` makes the two equations.
 -- Assumes nothing.
-use Rattle.answers.proofs.Answers.{said}
+use Rattle.std.proofs.Common.{length}
+use Rattle.answers.specs.Text.{Says}
 use Rattle.references.specs.Entries.{escaping}
 use Rattle.references.proofs.Answers.{entries}
 use Rattle.references.proofs.escape.Goals as goal
@@ -30,10 +31,14 @@ pub shape_of-out-in-Fault : goal.shape_of-out-in-Fault
 shape_of-out-in-Fault c = search entries
 
 pub returns-in-Fault : goal.returns-in-Fault
-returns-in-Fault c = said escaping _ _ _ _ (search entries)
+returns-in-Fault c =
+    let s : Says (escaping c.args.value.now (length c.args.out.now)) (length c.args.out.now) c.refuse.new.out c.refuse.result = search entries in
+    record { answer = s.answer; left = s.left }
 
 pub shape_of-out-in-Good : goal.shape_of-out-in-Good
 shape_of-out-in-Good c = search entries
 
 pub returns-in-Good : goal.returns-in-Good
-returns-in-Good c = said escaping _ _ _ _ (search entries)
+returns-in-Good c =
+    let s : Says (escaping c.args.value.now (length c.args.out.now)) (length c.args.out.now) c.finish.new.out c.finish.result = search entries in
+    record { answer = s.answer; left = s.left }

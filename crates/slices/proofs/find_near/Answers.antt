@@ -1,6 +1,6 @@
 -- `slices::find_near` meets its contract: from where the words end the run goes on as `find` says.
 -- Assumes nothing.
-use Rattle.slices.proofs.Skips.{finds}
+use Rattle.slices.proofs.Skips.{finds, run_join, without_running}
 use Rattle.slices.proofs.find_near.Goals as goal
 
 pub overflow_sub-s : goal.overflow_sub-s
@@ -25,4 +25,4 @@ pub find-requires-2 : goal.find-requires-2
 find-requires-2 c = search finds
 
 pub returns : goal.returns
-returns c = search finds
+returns c = run_join (without_running c.by_words-at.ensures.without) c.find-2.ensures

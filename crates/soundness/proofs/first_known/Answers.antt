@@ -1,7 +1,8 @@
 -- What `soundness::first_known` leaves to show. Its loop is in Invariants.antt.
 -- Assumes nothing.
 use Prim.Native.Nat.{◌-◌}
-use Rattle.soundness.proofs.Rows.{Checking, checks}
+use Rattle.std.proofs.Common.{refl}
+use Rattle.soundness.proofs.Rows.{Checking, checks, check_more}
 use Rattle.soundness.proofs.first_known.Goals as goal
 
 pub loop-i-init : goal.loop-i-init
@@ -20,7 +21,7 @@ pub loop-i-smaller : goal.loop-i-smaller
 loop-i-smaller c = search checks
 
 pub loop-i-preserved : goal.loop-i-preserved
-loop-i-preserved c = search checks
+loop-i-preserved c = check_more c.loop-i.invariant c.loop-i-test.true c.sound_row.ensures (rw c.if-not-sound_row.false refl)
 
 pub returns : goal.returns
 returns c = search checks

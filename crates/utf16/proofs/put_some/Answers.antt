@@ -10,7 +10,7 @@ pub is_ascii-requires : goal.is_ascii-requires
 is_ascii-requires c = search steps
 
 pub put_block-m-requires : goal.put_block-m-requires
-put_block-m-requires c = (search steps, (search steps, search steps))
+put_block-m-requires c = record { fact_1 = search steps; fact_2 = search steps; fact_3 = search steps }
 
 pub overflow_add-result : goal.overflow_add-result
 overflow_add-result c = search steps

@@ -2,8 +2,9 @@
 -- Assumes nothing.
 use Prim.Native.Nat.{◌-◌}
 use lib.ListN.{length}
+use Rattle.std.proofs.Common.{arith}
 use Rattle.attributes.proofs.Found.{Quoting}
-use Rattle.attributes.proofs.Starting.{plains}
+use Rattle.attributes.proofs.Starting.{plain_more, plains}
 use Rattle.attributes.proofs.few.plain_end.Goals as goal
 
 pub loop-at-init : goal.loop-at-init
@@ -34,7 +35,8 @@ pub loop-at-smaller-then-k-lt8 : goal.loop-at-smaller-then-k-lt8
 loop-at-smaller-then-k-lt8 c = search plains
 
 pub loop-at-preserved-then-k-lt8 : goal.loop-at-preserved-then-k-lt8
-loop-at-preserved-then-k-lt8 c = search plains
+loop-at-preserved-then-k-lt8 c =
+    plain_more c.loop-at.invariant (omega arith) c.high-k.ensures (c.high-k.ensures.room c.if-k-lt8.true) c.if-b-quote.false c.is_special.ensures c.if-is_special.false
 
 pub loop-at-smaller : goal.loop-at-smaller
 loop-at-smaller c = search plains

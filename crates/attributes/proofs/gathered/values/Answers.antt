@@ -1,0 +1,15 @@
+-- What `attributes::gathered::values` leaves to show.
+-- Assumes nothing.
+use Rattle.attributes.proofs.First.{all_values}
+use Rattle.attributes.proofs.gathered.values.Goals as goal
+
+pub returns : goal.returns
+returns c =
+    all_values c.requires.1
+    c.first_named.ensures
+    c.first_named-2.ensures
+    c.first_named-3.ensures
+    c.first_named-4.ensures
+    c.first_named-5.ensures
+    c.first_named-6.ensures
+    c.first_named-7.ensures
