@@ -1,4 +1,5 @@
-// A writer: the buffer that a caller lends, together with its fill count.
+// A writer: the buffer that a caller lends, together with its fill count. `put_text` and `put_value`, which hand one on by value and
+// let it go, are each proved by a walk of its MIR, by hand.
 #![tactic(auto)]
 ghost use Rattle.std.specs.Prelude.{◌≡◌, ◌++◌, ◌+◌, ◌*◌, ◌<◌, ◌^◌, length};
 ghost use Rattle.scan.specs.Classes.{Classes};
@@ -39,32 +40,12 @@ pub fn put_escaped<'a>(w: Writer<'a>, value: &[u8], classes: &[u8; 256]) -> Writ
     Writer { buf: w.buf, len }
 }
 
-// Puts bytes as they are into a writer that stays where it is.
-fn add(w: &mut Writer, s: &[u8])
-    requires { w.old.len + length s.now < 2 ^ 62 }
-    ensures { Adds s.now w.old w.new }
-{
-    let n = w.len;
-    w.len = answers::put::put_bytes(&mut *w.buf, n, s);
-}
-
-// Puts the escaped bytes of a value into a writer that stays where it is.
-fn add_escaped(w: &mut Writer, value: &[u8], classes: &[u8; 256])
-    requires { Classes classes.now × (w.old.len + 6 * length value.now < 2 ^ 62) }
-    ensures { Adds (escape value.now) w.old w.new }
-{
-    let n = w.len;
-    w.len = references::put_escaped(value, classes, &mut *w.buf, n);
-}
-
-// Puts bytes as they are. This contract and the next say nothing of a writer. Nothing is known of a slice once its writer went by value
-// through a call, so these two lend the writer to `add`.
+// Puts bytes as they are. This contract and the next say nothing of a writer: whoever calls them needs no walk by hand.
 pub fn put_text(out: &mut [u8], n: usize, s: &[u8]) -> usize
     requires { n + length s.now < 2 ^ 62 }
     ensures { Puts s.now n out.old out.new result }
 {
-    let mut w = new(out, n);
-    add(&mut w, s);
+    let w = put(new(out, n), s);
     w.len
 }
 
@@ -79,8 +60,6 @@ pub fn put_value(
     requires { Classes classes.now × (n + length before.now + 6 * length value.now < 2 ^ 62) }
     ensures { Puts (before.now ++ escape value.now) n out.old out.new result }
 {
-    let mut w = new(out, n);
-    add(&mut w, before);
-    add_escaped(&mut w, value, classes);
+    let w = put_escaped(put(new(out, n), before), value, classes);
     w.len
 }
