@@ -16,7 +16,13 @@ pub enum_known-lt : goal.enum_known-lt
 enum_known-lt c = search documents
 
 pub capture-requires : goal.capture-requires
-capture-requires c = (search documents, (search documents, (search documents, (search documents, search documents))))
+capture-requires c = record {
+  fact_1 = search documents;
+  fact_2 = search documents;
+  fact_3 = search documents;
+  fact_4 = search documents;
+  fact_5 = search documents;
+}
 
 pub moved-requires : goal.moved-requires
 moved-requires c = search documents
