@@ -13,7 +13,7 @@ pub is_certain-certain-requires : goal.is_certain-certain-requires
 is_certain-certain-requires c = search decides
 
 pub finish_certain-requires : goal.finish_certain-requires
-finish_certain-requires c = (search decides, (c.before.before.before.before.before.before.before.before.before.before.before.before.before.before.before.before.before.before.before.before.requires.1.1.1, search decides))
+finish_certain-requires c = record { fact_1 = search decides; fact_2 = c.requires.fact_4; fact_3 = search decides }
 
 pub shape_of-heads : goal.shape_of-heads
 shape_of-heads c = search decides

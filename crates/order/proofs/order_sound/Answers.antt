@@ -7,7 +7,7 @@ pub give_out-count-requires : goal.give_out-count-requires
 give_out-count-requires c = search sounds
 
 pub conclude-requires : goal.conclude-requires
-conclude-requires c = (search sounds, (search sounds, search sounds))
+conclude-requires c = record { fact_1 = search sounds; fact_2 = search sounds; fact_3 = search sounds }
 
 pub shape_of-out : goal.shape_of-out
 shape_of-out c = search sounds

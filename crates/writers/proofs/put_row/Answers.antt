@@ -13,7 +13,7 @@ pub reach-to-requires : goal.reach-to-requires
 reach-to-requires c = search row
 
 pub put_item-requires : goal.put_item-requires
-put_item-requires c = (search row, (search row, (search row, search row)))
+put_item-requires c = record { fact_1 = search row; fact_2 = search row; fact_3 = search row; fact_4 = search row }
 
 pub shape_of-out : goal.shape_of-out
 shape_of-out c = search row

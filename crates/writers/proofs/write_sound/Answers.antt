@@ -22,7 +22,7 @@ pub classes-classes-requires : goal.classes-classes-requires
 classes-classes-requires c = search rows
 
 pub put_item-n-requires : goal.put_item-n-requires
-put_item-n-requires c = (search rows, (search rows, (search rows, search rows)))
+put_item-n-requires c = record { fact_1 = search rows; fact_2 = search rows; fact_3 = search rows; fact_4 = search rows }
 
 pub finish-requires : goal.finish-requires
 finish-requires c = search rows

@@ -1,5 +1,6 @@
 -- `order::certificate::row_falls` meets its contract.
 -- Assumes nothing.
+use Rattle.std.proofs.Common.{ap, not}
 use Rattle.order.proofs.Checking.{row_told, row_falling}
 use Rattle.order.proofs.Keeping.{held_few}
 use Rattle.order.proofs.Waiting.{row_held}
@@ -45,7 +46,7 @@ pub overflow_sub-up : goal.overflow_sub-up
 overflow_sub-up c = search row_falling
 
 pub edge_falls-requires : goal.edge_falls-requires
-edge_falls-requires c = (held_few c.requires.0, (search row_falling, search row_falling))
+edge_falls-requires c = record { fact_1 = held_few c.requires.fact_1; fact_2 = search row_falling; fact_3 = search row_falling }
 
 pub returns-then-not-edge_falls : goal.returns-then-not-edge_falls
 returns-then-not-edge_falls c = search row_falling
@@ -54,23 +55,23 @@ pub overflow_sub-up-2 : goal.overflow_sub-up-2
 overflow_sub-up-2 c = search row_falling
 
 pub edge_falls-requires-2 : goal.edge_falls-requires-2
-edge_falls-requires-2 c = (held_few c.requires.0, (search row_falling, search row_falling))
+edge_falls-requires-2 c = record { fact_1 = held_few c.requires.fact_1; fact_2 = search row_falling; fact_3 = search row_falling }
 
 pub returns-then-not-edge_falls-2 : goal.returns-then-not-edge_falls-2
 returns-then-not-edge_falls-2 c = search row_falling
 
 pub told-requires : goal.told-requires
-told-requires c = (row_held c.requires.0 c.requires.1.1, (search row_falling, search row_falling))
+told-requires c = record { fact_1 = row_held c.requires.fact_1 c.requires.fact_3; fact_2 = search row_falling; fact_3 = search row_falling }
 
 pub returns : goal.returns
 returns c = row_told
     c.word-2.ensures
     c.wide-up.ensures
-    c.requires.1.1
+    c.requires.fact_3
     c.find_target-whole.ensures
     c.find_target-less.ensures
     c.edge_falls.ensures
-    c.if-not-edge_falls.false
+    (ap not c.if-not-edge_falls.false)
     c.edge_falls-2.ensures
-    c.if-not-edge_falls-2.false
+    (ap not c.if-not-edge_falls-2.false)
     c.told.ensures

@@ -14,7 +14,7 @@ pub overflow_sub-k : goal.overflow_sub-k
 overflow_sub-k c = search building
 
 pub enter-requires : goal.enter-requires
-enter-requires c = (search building, (search building, building_index c.loop-k.invariant (search rules)))
+enter-requires c = record { fact_1 = search building; fact_2 = search building; fact_3 = building_index c.loop-k.invariant (search rules) }
 
 pub loop-k-smaller : goal.loop-k-smaller
 loop-k-smaller c = search building

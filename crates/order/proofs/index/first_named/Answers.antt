@@ -25,7 +25,7 @@ pub loop-k-init : goal.loop-k-init
 loop-k-init c = search follows
 
 pub is_named-requires : goal.is_named-requires
-is_named-requires c = (search follows, (follow_tagged c.loop-k.invariant (search rules), search follows))
+is_named-requires c = record { fact_1 = search follows; fact_2 = follow_tagged c.loop-k.invariant (search rules); fact_3 = search follows }
 
 pub returns-then-is_named : goal.returns-then-is_named
 returns-then-is_named c = search follows

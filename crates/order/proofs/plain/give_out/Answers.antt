@@ -13,7 +13,7 @@ pub loop-row-init : goal.loop-row-init
 loop-row-init c = search giving
 
 pub put_row-count-requires : goal.put_row-count-requires
-put_row-count-requires c = (search giving, search giving)
+put_row-count-requires c = record { fact_1 = search giving; fact_2 = search giving }
 
 pub mark-requires : goal.mark-requires
 mark-requires c = search giving

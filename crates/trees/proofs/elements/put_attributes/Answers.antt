@@ -7,7 +7,7 @@ pub put_named-named-requires : goal.put_named-named-requires
 put_named-named-requires c = search attributes_of
 
 pub put_attribute-requires : goal.put_attribute-requires
-put_attribute-requires c = (search attributes_of, (search attributes_of, search attributes_of))
+put_attribute-requires c = record { fact_1 = search attributes_of; fact_2 = search attributes_of; fact_3 = search attributes_of }
 
 pub shape_of-out : goal.shape_of-out
 shape_of-out c = search attributes_of

@@ -13,7 +13,7 @@ pub value_part-requires : goal.value_part-requires
 value_part-requires c = search attributes_of
 
 pub put_attribute-requires : goal.put_attribute-requires
-put_attribute-requires c = (search attributes_of, (search attributes_of, search attributes_of))
+put_attribute-requires c = record { fact_1 = search attributes_of; fact_2 = search attributes_of; fact_3 = search attributes_of }
 
 pub shape_of-out : goal.shape_of-out
 shape_of-out c = search attributes_of

@@ -16,7 +16,7 @@ pub enum_known-put-in-Opened-1 : goal.enum_known-put-in-Opened-1
 enum_known-put-in-Opened-1 c = search topping
 
 pub walk_top-requires : goal.walk_top-requires
-walk_top-requires c = (search topping, search topping)
+walk_top-requires c = record { fact_1 = search topping; fact_2 = search topping }
 
 pub shape_of-out-in-TooDeep : goal.shape_of-out-in-TooDeep
 shape_of-out-in-TooDeep c = search topping

@@ -7,7 +7,7 @@ pub loop-w-init : goal.loop-w-init
 loop-w-init c = search looping
 
 pub one_turn-requires : goal.one_turn-requires
-one_turn-requires c = (search looping, search looping)
+one_turn-requires c = record { fact_1 = search looping; fact_2 = search looping }
 
 pub enum_known-x : goal.enum_known-x
 enum_known-x c = search looping

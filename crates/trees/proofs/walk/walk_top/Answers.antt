@@ -16,7 +16,7 @@ pub overflow_mul-w : goal.overflow_mul-w
 overflow_mul-w c = search tops
 
 pub walk_on-requires : goal.walk_on-requires
-walk_on-requires c = (search tops, search tops)
+walk_on-requires c = record { fact_1 = search tops; fact_2 = search tops }
 
 pub shape_of-out : goal.shape_of-out
 shape_of-out c = search tops
