@@ -4,7 +4,7 @@ ghost use Rattle.attributes.specs.Lookup.{wanted, KeyTable, Picks, PicksAll};
 ghost use Rattle.attributes.specs.One.{Fit};
 ghost use Rattle.attributes.specs.Outcome.{among, Checkable, Weighs, Judges, Checks, Finishes};
 
-use crate::names::is_wanted;
+use crate::asked::is_wanted;
 use crate::{Attribute, AttributeCheck, Attrs, references_of};
 use document::{Value, Values};
 

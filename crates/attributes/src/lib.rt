@@ -14,7 +14,7 @@ use scan::{Colons, Name};
 mod few;
 mod gathered;
 mod many;
-mod names;
+mod asked;
 mod some;
 mod starts;
 

@@ -100,4 +100,4 @@ all_rules {doc} {w} k a b c d e p q r =
 pub walk_inside : {doc : List ℕ} {w : Walk} → Walks doc w → w.at ≤ length doc
 walk_inside k = k.inside
 
-pub ruleset rules = (all_rules, walk_inside, rules)
+pub ruleset wholes = (all_rules, walk_inside, rules)

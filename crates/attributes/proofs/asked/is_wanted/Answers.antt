@@ -1,7 +1,7 @@
--- `attributes::names::is_wanted` meets its contract.
+-- `attributes::asked::is_wanted` meets its contract.
 -- Assumes nothing.
 use Rattle.attributes.proofs.Keys.{keys}
-use Rattle.attributes.proofs.names.is_wanted.Goals as goal
+use Rattle.attributes.proofs.asked.is_wanted.Goals as goal
 
 pub returns-then-tp : goal.returns-then-tp
 returns-then-tp c = search keys

@@ -1,7 +1,7 @@
--- `attributes::names::is_key` meets its contract.
+-- `attributes::asked::is_key` meets its contract.
 -- Assumes nothing.
 use Rattle.attributes.proofs.Keys.{keys}
-use Rattle.attributes.proofs.names.is_key.Goals as goal
+use Rattle.attributes.proofs.asked.is_key.Goals as goal
 
 pub returns-then-n-len : goal.returns-then-n-len
 returns-then-n-len c = search keys
