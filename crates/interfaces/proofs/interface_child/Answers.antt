@@ -100,7 +100,12 @@ pub overflow_add-i-then-is_definition : goal.overflow_add-i-then-is_definition
 overflow_add-i-then-is_definition c = search interfaces
 
 pub definition-requires : goal.definition-requires
-definition-requires c = (search interfaces, (search interfaces, (search interfaces, search interfaces)))
+definition-requires c = record {
+  fact_1 = search interfaces;
+  fact_2 = search interfaces;
+  fact_3 = search interfaces;
+  fact_4 = search interfaces;
+}
 
 pub shape_of-rows-then-is_definition : goal.shape_of-rows-then-is_definition
 shape_of-rows-then-is_definition c = search interfaces

@@ -22,7 +22,12 @@ pub returns-then-c : goal.returns-then-c
 returns-then-c c = search elements
 
 pub annotation_children-requires : goal.annotation_children-requires
-annotation_children-requires c = (search elements, (search elements, (search elements, search elements)))
+annotation_children-requires c = record {
+  fact_1 = search elements;
+  fact_2 = search elements;
+  fact_3 = search elements;
+  fact_4 = search elements;
+}
 
 pub shape_of-rows-in-Fault : goal.shape_of-rows-in-Fault
 shape_of-rows-in-Fault c = search elements

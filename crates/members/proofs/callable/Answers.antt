@@ -22,7 +22,12 @@ pub returns-then-c : goal.returns-then-c
 returns-then-c c = search callables
 
 pub callable_children-requires : goal.callable_children-requires
-callable_children-requires c = (search callables, (search callables, (search callables, search callables)))
+callable_children-requires c = record {
+  fact_1 = search callables;
+  fact_2 = search callables;
+  fact_3 = search callables;
+  fact_4 = search callables;
+}
 
 pub shape_of-rows-in-Fault : goal.shape_of-rows-in-Fault
 shape_of-rows-in-Fault c = search callables
@@ -43,4 +48,4 @@ pub shape_of-text-else-c : goal.shape_of-text-else-c
 shape_of-text-else-c c = search callables
 
 pub returns-else-c : goal.returns-else-c
-returns-else-c c = search (c.requires.1.1.0, callables)
+returns-else-c c = search (c.requires.fact_3, callables)

@@ -22,7 +22,10 @@ pub returns-then-c : goal.returns-then-c
 returns-then-c c = search rooted
 
 pub open_root-requires : goal.open_root-requires
-open_root-requires c = (root_open c.node_row.ensures c.g-1.given.1 c.requires.1.0 c.if-c.false, search rooted)
+open_root-requires c = record {
+  fact_1 = root_open c.node_row.ensures c.g-1.given.1 c.requires.fact_2 c.if-c.false;
+  fact_2 = search rooted;
+}
 
 pub shape_of-rows-in-Fault : goal.shape_of-rows-in-Fault
 shape_of-rows-in-Fault c = search rooted

@@ -13,7 +13,11 @@ pub enum_known-g : goal.enum_known-g
 enum_known-g c = search all_definitions
 
 pub rest-requires : goal.rest-requires
-rest-requires c = (search all_definitions, (search all_definitions, search all_definitions))
+rest-requires c = record {
+  fact_1 = search all_definitions;
+  fact_2 = search all_definitions;
+  fact_3 = search all_definitions;
+}
 
 pub shape_of-rows-in-Fault : goal.shape_of-rows-in-Fault
 shape_of-rows-in-Fault c = search all_definitions

@@ -7,7 +7,13 @@ pub holds-requires : goal.holds-requires
 holds-requires c = search children
 
 pub noted_part-requires : goal.noted_part-requires
-noted_part-requires c = (search children, (search children, (search children, (search children, search children))))
+noted_part-requires c = record {
+  fact_1 = search children;
+  fact_2 = search children;
+  fact_3 = search children;
+  fact_4 = search children;
+  fact_5 = search children;
+}
 
 pub shape_of-rows-then-holds : goal.shape_of-rows-then-holds
 shape_of-rows-then-holds c = search children

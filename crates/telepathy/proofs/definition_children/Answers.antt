@@ -51,7 +51,13 @@ pub enum_known-c : goal.enum_known-c
 enum_known-c c = search bodies
 
 pub definition_child-requires : goal.definition_child-requires
-definition_child-requires c = (search bodies, (search bodies, (search bodies, (search bodies, search bodies))))
+definition_child-requires c = record {
+  fact_1 = search bodies;
+  fact_2 = search bodies;
+  fact_3 = search bodies;
+  fact_4 = search bodies;
+  fact_5 = search bodies;
+}
 
 pub enum_known-refusal-in-Fault-definition_child : goal.enum_known-refusal-in-Fault-definition_child
 enum_known-refusal-in-Fault-definition_child c = search bodies

@@ -16,7 +16,13 @@ pub enum_known-g : goal.enum_known-g
 enum_known-g c = search openings
 
 pub part_content-requires : goal.part_content-requires
-part_content-requires c = (search openings, (search openings, (search openings, (search openings, search openings))))
+part_content-requires c = record {
+  fact_1 = search openings;
+  fact_2 = search openings;
+  fact_3 = search openings;
+  fact_4 = search openings;
+  fact_5 = search openings;
+}
 
 pub shape_of-rows-in-Fault : goal.shape_of-rows-in-Fault
 shape_of-rows-in-Fault c = search openings

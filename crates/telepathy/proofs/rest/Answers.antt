@@ -4,7 +4,13 @@ use Rattle.telepathy.proofs.Judgement.{rests}
 use Rattle.telepathy.proofs.rest.Goals as goal
 
 pub content-requires : goal.content-requires
-content-requires c = (search rests, (search rests, (search rests, (search rests, search rests))))
+content-requires c = record {
+  fact_1 = search rests;
+  fact_2 = search rests;
+  fact_3 = search rests;
+  fact_4 = search rests;
+  fact_5 = search rests;
+}
 
 pub enum_known-refusal : goal.enum_known-refusal
 enum_known-refusal c = search rests
@@ -13,7 +19,10 @@ pub enum_known-h : goal.enum_known-h
 enum_known-h c = search rests
 
 pub judge-requires : goal.judge-requires
-judge-requires c = (search rests, search rests)
+judge-requires c = record {
+  fact_1 = search rests;
+  fact_2 = search rests;
+}
 
 pub shape_of-rows-in-Fault : goal.shape_of-rows-in-Fault
 shape_of-rows-in-Fault c = search rests
