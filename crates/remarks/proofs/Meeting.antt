@@ -1,7 +1,7 @@
 -- Both scans of the stretch that holds the comment come to its end; so both documents have the same tokens.
 -- Assumes nothing.
 use Prim.Native.Nat.{ℕ, zero, suc, ◌+◌, ◌-◌, ◌≤◌}
-use mathlib.Core.Path.{◌≡◌, refl, sym, ap, ◌∙◌}
+use mathlib.Core.Path.{◌≡◌, refl, sym, ap, subst, ◌∙◌}
 use mathlib.Core.List.{List, [], ◌∷◌, ◌++◌}
 use mathlib.Core.Bool.{Bool, true, false}
 use borrow.Author.Tests.{eqb-true}
@@ -93,7 +93,10 @@ module _ (c e : ℕ) (r r' rest : List ℕ) (o : seek 22 (bytes "-->") (c + 4) r
   at_comment (p ∷ q ∷ t ∷ u ∷ s) at l z f = absurd (omega arith)
   at_comment (p ∷ q ∷ t ∷ []) at l z f =
       let w = comment_bytes p q t r f in
-      rw z (comment_passed c e p q t r w o h m ∙ rw y, comment_passed c e p q t r' w o' h m' ∙ rw y')
+      let run : List ℕ → ℕ → Scan = λ l a. further (markup (p ∷ q ∷ t ∷ l) a) a (λ i. ignorable_from (i - suc a) (p ∷ q ∷ t ∷ l) (suc a)) in
+      let one : run r c ≡ ignorable_from 0 rest e = comment_passed c e p q t r w o h m ∙ rw y in
+      let other : run r' c ≡ ignorable_from 0 rest e = comment_passed c e p q t r' w o' h m' ∙ rw y' in
+      subst (λ (a : ℕ). Comes (run r a) (run r' a)) (sym z) (one, other)
 
   pub meets : (k : ℕ) (s : List ℕ) (at : ℕ) → at + length s ≡ c + 4 → among c (passed_from k (s ++ r) at) ≡ true → Comes (ignorable_from k (s ++ r) at) (ignorable_from k (s ++ r') at)
   meets k [] at l a = absurd (let z = passed_since c k r at a in omega arith)
