@@ -23,7 +23,7 @@ returns-then-c c = search rooted
 
 pub open_root-requires : goal.open_root-requires
 open_root-requires c = record {
-  fact_1 = root_open c.node_row.ensures c.g-1.given.1 c.requires.fact_2 c.if-c.false;
+  fact_1 = root_open c.node_row.ensures c.in-Done.is c.requires.fact_2 c.if-c.false;
   fact_2 = search rooted;
 }
 
