@@ -1,4 +1,4 @@
-//! Finds the archive that `rt staticlib introspection` writes.
+//! Finds the archive that `./build library` writes.
 
 use std::env;
 use std::path::PathBuf;
@@ -29,7 +29,7 @@ fn main() {
     println!("cargo:rerun-if-changed={}", archive.display());
     if !archive.is_file() {
         fail(&format!(
-            "{} is not there. Make it with `rt staticlib introspection` at the repository's root, \
+            "{} is not there. Make it with `./build library` at the repository's root, \
              or set INTROSPECTION_LIB_DIR to the folder that has it.",
             archive.display()
         ));

@@ -50,7 +50,7 @@
 //! [`columns`](columns()) puts the rows of a table down as columns of differences, and [`rows`](rows()) puts
 //! them back.
 //!
-//! The crate links the archive that `rt staticlib introspection` writes; README.md says where it is
+//! The crate links the archive that `./build library` writes; README.md says where it is
 //! sought.
 
 #![deny(missing_docs, unsafe_code, rust_2018_idioms)]

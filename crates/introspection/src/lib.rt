@@ -1,4 +1,5 @@
-// The library for C: the public entries, each answer written into the array that is lent last (include/introspection.h).
+// The library for C: the public entries, each answer written into the array that is lent last (include/introspection.h). Its functions are
+// exported by introspection_c.
 #![tactic(auto)]
 ghost use Rattle.std.specs.Prelude.{◌≡◌, length, replicate};
 ghost use Rattle.tables.specs.declared.Triple.{Triple};
@@ -113,8 +114,7 @@ fn part_words(yes: bool, t: Triple) -> [u64; 4]
 }
 
 // Reads a file into the tables lent; one in UTF-16 is decoded into the fourth buffer.
-#[unsafe(no_mangle)]
-pub extern "C" fn introspection_read(
+pub fn introspection_read(
     document: &[u8],
     rows: &mut [u32],
     warnings: &mut [u32],
@@ -132,8 +132,7 @@ pub extern "C" fn introspection_read(
 }
 
 // Reads a file of the strict profile, as `introspection_read` does.
-#[unsafe(no_mangle)]
-pub extern "C" fn introspection_read_strict(
+pub fn introspection_read_strict(
     document: &[u8],
     rows: &mut [u32],
     warnings: &mut [u32],
@@ -151,8 +150,7 @@ pub extern "C" fn introspection_read_strict(
 }
 
 // The message of a refusal, by the words of a reader's answer, or of whatever content.
-#[unsafe(no_mangle)]
-pub extern "C" fn introspection_message(
+pub fn introspection_message(
     document: &[u8],
     refusal: &[u64; 16],
     output: &mut [u8],
@@ -184,8 +182,7 @@ pub extern "C" fn introspection_message(
 }
 
 // The message of a warning, by its words, or of whatever content.
-#[unsafe(no_mangle)]
-pub extern "C" fn introspection_warning_message(
+pub fn introspection_warning_message(
     document: &[u8],
     warning: &[u32; 4],
     output: &mut [u8],
@@ -201,8 +198,7 @@ pub extern "C" fn introspection_warning_message(
 }
 
 // Escapes a value.
-#[unsafe(no_mangle)]
-pub extern "C" fn introspection_escape(value: &[u8], output: &mut [u8], answer: &mut [u64; 3])
+pub fn introspection_escape(value: &[u8], output: &mut [u8], answer: &mut [u64; 3])
     ensures answer { answer.new ≡ text_words (escaping value.now (length output.old)) }
     ensures output { output.new ≡ left_of (length output.old)
         (escaping value.now (length output.old)) }
@@ -212,8 +208,7 @@ pub extern "C" fn introspection_escape(value: &[u8], output: &mut [u8], answer: 
 }
 
 // Unescapes a value.
-#[unsafe(no_mangle)]
-pub extern "C" fn introspection_unescape(value: &[u8], output: &mut [u8], answer: &mut [u64; 3])
+pub fn introspection_unescape(value: &[u8], output: &mut [u8], answer: &mut [u64; 3])
     ensures answer { answer.new ≡ text_words (unescaping value.now (length output.old)) }
     ensures output { output.new ≡ left_of (length output.old)
         (unescaping value.now (length output.old)) }
@@ -223,8 +218,7 @@ pub extern "C" fn introspection_unescape(value: &[u8], output: &mut [u8], answer
 }
 
 // Writes the item of a row.
-#[unsafe(no_mangle)]
-pub extern "C" fn introspection_write<'a>(
+pub fn introspection_write<'a>(
     document: &'a [u8],
     text: &'a [u8],
     rows: &[u32],
@@ -243,8 +237,7 @@ pub extern "C" fn introspection_write<'a>(
 }
 
 // Writes the element of a row with all under it.
-#[unsafe(no_mangle)]
-pub extern "C" fn introspection_write_tree<'a>(
+pub fn introspection_write_tree<'a>(
     document: &'a [u8],
     text: &'a [u8],
     rows: &[u32],
@@ -263,8 +256,7 @@ pub extern "C" fn introspection_write_tree<'a>(
 }
 
 // The part that a triple leads to.
-#[unsafe(no_mangle)]
-pub extern "C" fn introspection_lookup(
+pub fn introspection_lookup(
     document: &[u8],
     text: &[u8],
     source: u32,
@@ -282,8 +274,7 @@ pub extern "C" fn introspection_lookup(
 }
 
 // Puts rows down as columns.
-#[unsafe(no_mangle)]
-pub extern "C" fn introspection_columns(
+pub fn introspection_columns(
     rows: &[u32],
     count: u64,
     columns: &mut [u32],
@@ -299,8 +290,7 @@ pub extern "C" fn introspection_columns(
 }
 
 // Puts columns down as rows again.
-#[unsafe(no_mangle)]
-pub extern "C" fn introspection_rows(
+pub fn introspection_rows(
     columns: &[u32],
     count: u64,
     rows: &mut [u32],
@@ -316,8 +306,7 @@ pub extern "C" fn introspection_rows(
 }
 
 // Gives out the type definitions in an order where each comes after those that it uses.
-#[unsafe(no_mangle)]
-pub extern "C" fn introspection_order<'a>(
+pub fn introspection_order<'a>(
     document: &'a [u8],
     text: &'a [u8],
     rows: &[u32],
@@ -337,8 +326,7 @@ pub extern "C" fn introspection_order<'a>(
 }
 
 // Writes the items of several rows after one check.
-#[unsafe(no_mangle)]
-pub extern "C" fn introspection_write_items<'a>(
+pub fn introspection_write_items<'a>(
     document: &'a [u8],
     text: &'a [u8],
     rows: &[u32],
