@@ -1,7 +1,7 @@
 -- The theorems of specs/Promises.antt.
 -- Assumes nothing.
 use Prim.Native.Nat.{ℕ, min, ◌≤◌, ◌<◌}
-use mathlib.Core.Path.{◌≡◌, refl, ap, sym, ◌∙◌}
+use mathlib.Core.Path.{◌≡◌, refl, ap, sym, subst, ◌∙◌}
 use mathlib.Core.List.{List, [], ◌∷◌}
 use mathlib.Core.Bool.{Bool, true, false}
 use borrow.Author.Tests.{eq-eqb, eqb-true}
@@ -78,7 +78,7 @@ least_is (p ∷ ps) q e = go (least ps) refl e (λ r f. least_is ps r f)
         record { one = first (dec_lt s p) k l; none = λ r h. within r h (omega arith) (λ j. let m = l.none r j in omega arith) }
       where
         first : Dec (s < p) → min p s ≡ q → Least s ps → among q (p ∷ ps) ≡ true
-        first (yes h) k l = let m : q ≡ s = omega arith in rw m (among_later s p ps l.one)
+        first (yes h) k l = let m : q ≡ s = omega arith in subst (λ (r : ℕ). among r (p ∷ ps) ≡ true) (sym m) (among_later s p ps l.one)
         first (no h) k l = among_first q p ps (omega arith)
 
 -- ---- of a document
