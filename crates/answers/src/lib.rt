@@ -1,5 +1,6 @@
 // What is answered of a text that is put into a lent buffer, and how the buffer is left.
 #![tactic(auto)]
+
 ghost use Rattle.std.specs.Prelude.{length};
 ghost use Rattle.answers.specs.Text.{wrong, Says, Finishes};
 

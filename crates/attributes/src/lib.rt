@@ -1,5 +1,6 @@
 // The attributes of a start tag: gathered, checked one by one, and looked up. `attributes` is the entry.
 #![tactic(auto)]
+
 ghost use Rattle.std.specs.Prelude.{◌≡◌, ◌+◌, ◌-◌, ◌≤◌, length, take, drop};
 ghost use Rattle.scan.specs.Classes.{Classes};
 ghost use Rattle.scan.specs.Colons.{Scanned};
@@ -11,10 +12,10 @@ ghost use Rattle.attributes.specs.Outcome.{References, Gathers};
 use document::Values;
 use scan::{Colons, Name};
 
+mod asked;
 mod few;
 mod gathered;
 mod many;
-mod asked;
 mod some;
 mod starts;
 

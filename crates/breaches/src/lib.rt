@@ -1,5 +1,6 @@
 // The breaches of the strict profile in a document that is accepted: one walk over its tags and comments, which keeps the least.
 #![tactic(auto)]
+
 ghost use Rattle.std.specs.Prelude.{◌≡◌, ◌+◌, ◌-◌, ◌≤◌, ◌<◌, ◌^◌, length, take, drop};
 ghost use Rattle.scan.specs.Classes.{Classes};
 ghost use Rattle.scan.specs.Ignorable.{Marks};

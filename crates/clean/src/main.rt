@@ -1,6 +1,7 @@
 // The cleaning program: reads a document from standard input, in UTF-8 or in UTF-16, and writes its whole tree on standard output, or the message of
 // its refusal on standard error (docs/FORMAT.md, The cleaning program).
 #![tactic(auto)]
+
 ghost use Rattle.std.specs.Prelude.{◌≡◌, length};
 
 use answers::TextAnswer;

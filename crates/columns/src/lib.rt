@@ -1,5 +1,6 @@
 // Rows of 16 words put down as columns, each word less the one above it, and the inverse.
 #![tactic(auto)]
+
 ghost use Rattle.std.specs.Prelude.{◌≡◌, ◌+◌, ◌*◌, ◌<◌, ◌≤◌, length};
 ghost use Rattle.tables.specs.Table.{Rep};
 ghost use Rattle.columns.specs.Words.{in_rows, in_columns, difference, restored, columns_of, rows_of};

@@ -1,5 +1,6 @@
 // The kinds of elements, the structs that the reader's functions share, and the raw bytes of a value. What a document means is in specs/.
 #![tactic(auto)]
+
 ghost use Rattle.std.specs.Prelude.{◌≡◌, ◌+◌, ◌<◌, ◌^◌};
 ghost use Rattle.document.specs.Refusals.{bare, showing, shown_by};
 ghost use Rattle.document.specs.declared.Excerpt.{Excerpt};

@@ -1,5 +1,6 @@
 // What a start tag needs: the row of each kind of element, or the tag's first fault.
 #![tactic(auto)]
+
 ghost use Rattle.std.specs.Prelude.{◌≡◌, ◌≤◌, ◌<◌, ◌+◌, ◌^◌};
 ghost use Rattle.names.specs.Names.{member_name};
 ghost use Rattle.document.specs.Kinds as kinds;

@@ -1,6 +1,7 @@
 // The library for C: the public entries, each answer written into the array that is lent last (include/introspection.h). Its functions are
 // exported by introspection_c.
 #![tactic(auto)]
+
 ghost use Rattle.std.specs.Prelude.{◌≡◌, length, replicate};
 ghost use Rattle.tables.specs.declared.Triple.{Triple};
 ghost use Rattle.columns.specs.Entries.{to_columns, to_rows, words_left};
@@ -274,12 +275,7 @@ pub fn introspection_lookup(
 }
 
 // Puts rows down as columns.
-pub fn introspection_columns(
-    rows: &[u32],
-    count: u64,
-    columns: &mut [u32],
-    answer: &mut [u64; 2],
-)
+pub fn introspection_columns(rows: &[u32], count: u64, columns: &mut [u32], answer: &mut [u64; 2])
     ensures answer { answer.new ≡ outcome_words
         (to_columns count rows.now (length columns.old)) }
     ensures columns { columns.new ≡ words_left (length columns.old)
@@ -290,12 +286,7 @@ pub fn introspection_columns(
 }
 
 // Puts columns down as rows again.
-pub fn introspection_rows(
-    columns: &[u32],
-    count: u64,
-    rows: &mut [u32],
-    answer: &mut [u64; 2],
-)
+pub fn introspection_rows(columns: &[u32], count: u64, rows: &mut [u32], answer: &mut [u64; 2])
     ensures answer { answer.new ≡ outcome_words
         (to_rows count columns.now (length rows.old)) }
     ensures rows { rows.new ≡ words_left (length rows.old)

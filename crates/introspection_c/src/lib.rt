@@ -1,6 +1,7 @@
 // The functions for C, with C's calling convention and names: each calls the function of the same name of the library `introspection`
 // (include/introspection.h). This crate is the archive.
 #![tactic(auto)]
+
 ghost use Rattle.std.specs.Prelude.{◌≡◌, length, replicate};
 ghost use Rattle.columns.specs.Entries.{to_columns, to_rows, words_left};
 ghost use Rattle.answers.specs.Text.{left_of};
@@ -225,5 +226,7 @@ pub extern "C" fn introspection_write_items<'a>(
     ensures ends { ends.new ≡ several_ends document.now text.now
         rows.now claimed asked.now (length output.old) (length ends.old) }
 {
-    introspection::introspection_write_items(document, text, rows, claimed, asked, output, ends, answer);
+    introspection::introspection_write_items(
+        document, text, rows, claimed, asked, output, ends, answer,
+    );
 }

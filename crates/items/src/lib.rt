@@ -1,6 +1,7 @@
 // The words of a row of a lent table. specs/ has the definitions of sound rows, of an item's written content and of its bytes, and of what
 // the writers answer.
 #![tactic(auto)]
+
 ghost use Rattle.std.specs.Prelude.{◌≡◌, ◌+◌, ◌*◌, ◌≤◌, ◌<◌, length};
 ghost use Rattle.items.specs.Words.{Word, TripleIs, absent};
 

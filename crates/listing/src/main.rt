@@ -1,6 +1,7 @@
 // The listing program: reads a document from standard input, in UTF-8 or in UTF-16, and writes what was read (docs/FORMAT.md, The listing
 // program).
 #![tactic(auto)]
+
 ghost use Rattle.std.specs.Prelude.{◌<◌};
 
 use document::Verdict;

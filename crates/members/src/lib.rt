@@ -1,5 +1,6 @@
 // Members: annotation, arg, property, method, signal.
 #![tactic(auto)]
+
 ghost use Rattle.std.specs.Prelude.{◌+◌, ◌≤◌, ◌<◌, [], true, false, length};
 ghost use Rattle.scan.specs.Classes.{Classes};
 ghost use Rattle.document.specs.Kinds as kinds;

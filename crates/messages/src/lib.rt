@@ -1,5 +1,6 @@
 // Messages: a refusal or a warning, with its document, as the bytes that the Rust's `message()` gives.
 #![tactic(auto)]
+
 ghost use Rattle.std.specs.Prelude.{length};
 ghost use Rattle.answers.specs.Text.{Says};
 ghost use Rattle.messages.specs.Message.{message_of, warning_message_of};

@@ -1,6 +1,7 @@
 // Names and signatures, by the D-Bus Specification.
 // What is a name is in specs/Names.antt, what is a signature in specs/Types.antt and specs/Signature.antt.
 #![tactic(auto)]
+
 ghost use Rattle.std.specs.Prelude.{◌≡◌, ◌≤◌, length};
 ghost use Rattle.slices.specs.Run.{Run};
 ghost use Rattle.names.specs.Names.{digit, element_byte, interface_name, member_name, property_name};

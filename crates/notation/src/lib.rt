@@ -1,5 +1,6 @@
 // How cases are written (crates/part_cases/stdin): numbers and words here, texts in `text`.
 #![tactic(auto)]
+
 ghost use Rattle.std.specs.Prelude.{◌≡◌};
 
 pub mod text;

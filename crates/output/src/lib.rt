@@ -1,6 +1,7 @@
 // Standard output through a buffer that the caller lends: each function takes how many bytes the buffer holds, and answers how many it holds then.
 // Where a full buffer could not be written out, what follows is dropped: the count is then FAILED, which `flush` tells.
 #![tactic(auto)]
+
 ghost use Rattle.std.specs.Prelude.{◌≤◌};
 
 pub mod input;

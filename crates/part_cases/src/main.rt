@@ -1,5 +1,6 @@
 // Runs the cases on standard input, one to a line, and writes a line for each: crates/part_cases/stdin says how a case is written.
 #![tactic(auto)]
+
 mod said;
 mod words;
 

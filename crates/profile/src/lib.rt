@@ -1,5 +1,6 @@
 // The strict profile's rules that look at bytes alone: characters, names, comments, values, what follows the root.
 #![tactic(auto)]
+
 ghost use Rattle.std.specs.Prelude.{◌≡◌, [], ◌∷◌, ◌+◌, ◌≤◌, ◌<◌, length, drop};
 ghost use Rattle.utf8.specs.WellFormed.{ill_formed};
 ghost use Rattle.utf8.specs.WhiteSpace.{code_point};

@@ -1,5 +1,6 @@
 // References in attribute values: unescape, char_reference, escape.
 #![tactic(auto)]
+
 ghost use Rattle.std.specs.Prelude.{◌≡◌, ◌+◌, ◌*◌, ◌<◌, ◌^◌, length, drop, get_or};
 ghost use Rattle.scan.specs.Classes.{Classes};
 ghost use Rattle.answers.specs.Text.{answer_of, left_of};

@@ -1,5 +1,6 @@
 // Rows and warnings in the tables that a caller lends.
 #![tactic(auto)]
+
 ghost use Rattle.std.specs.Prelude.{◌*◌, ◌<◌, ◌≤◌};
 ghost use Rattle.tables.specs.Table.{Put};
 ghost use Rattle.document.specs.Outcome.{Lies};

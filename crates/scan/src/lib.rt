@@ -1,5 +1,6 @@
 // Scanning: the table of classes, white space, names, and what is ignorable between tags.
 #![tactic(auto)]
+
 ghost use Rattle.std.specs.Prelude.{◌≡◌, suc, pred, ◌+◌, ◌^◌, ◌≤◌, ◌<◌, eqb, length, drop, get_or};
 ghost use Rattle.slices.specs.Bytes.{if};
 ghost use Rattle.slices.specs.Run.{Run};

@@ -1,5 +1,6 @@
 // The sheet program: reads names of files from standard input, reads each file, and writes what came of them, added up (docs/FORMAT.md, The sheet program).
 #![tactic(auto)]
+
 ghost use Rattle.std.specs.Prelude.{◌≡◌, ◌≤◌, length, take};
 ghost use Rattle.sheets.specs.Counts.{Adds};
 ghost use Rattle.sheets.specs.Files.{document_outcome, file_outcome, AddsFile, AddsName, Sums, PrintsList};

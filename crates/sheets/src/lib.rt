@@ -1,5 +1,6 @@
 // Sheets: counts of what comes of files, in 128 words; the names of a list of files; the lines printed.
 #![tactic(auto)]
+
 ghost use Rattle.std.specs.Prelude.{◌≡◌, ◌+◌, ◌<◌, ◌≤◌, [], ◌∷◌, length};
 ghost use Rattle.sheets.specs.Sheet.{unreadable, refused, accepted};
 ghost use Rattle.sheets.specs.Answer.{firsts, outcome_of};

@@ -1,5 +1,6 @@
 // Tests on the text that a value shows: names, signatures, an access, a direction. A text of more than 255 bytes passes none of them.
 #![tactic(auto)]
+
 ghost use Rattle.std.specs.Prelude.{◌≡◌, ◌≤◌, length};
 ghost use Rattle.names.specs.Names.{interface_name, member_name, property_name};
 ghost use Rattle.names.specs.Signature.{basic_signature, signature};

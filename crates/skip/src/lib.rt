@@ -1,5 +1,6 @@
 // Passing over elements: skipped ones, and docstrings.
 #![tactic(auto)]
+
 ghost use Rattle.std.specs.Prelude.{◌≡◌, ◌+◌, ◌-◌, ◌≤◌, ◌<◌, length, take, drop};
 ghost use Rattle.utf8.specs.WellFormed.{ill_formed};
 ghost use Rattle.scan.specs.Classes.{Classes};

@@ -1,5 +1,6 @@
 // Byte slices: the first place of a byte, whether a key stands at a place, whether two slices are equal, a hash.
 #![tactic(auto)]
+
 ghost use Rattle.std.specs.Prelude.{◌≡◌, ℕ, ◌+◌, ◌*◌, ◌<◌, ◌≤◌, length, drop};
 ghost use Rattle.slices.specs.Bytes.{other, same, starts};
 ghost use Rattle.slices.specs.Hash.{mixed, HashIs};

@@ -1,5 +1,6 @@
 // Whether the rows of a lent table are sound (docs/FORMAT.md, Sound rows).
 #![tactic(auto)]
+
 ghost use Rattle.std.specs.Prelude.{◌≡◌, ◌+◌, ◌*◌, ◌≤◌, ◌<◌, length};
 ghost use Rattle.utf8.specs.Trim.{Start};
 ghost use Rattle.items.specs.Words.{rows_of};

@@ -1,5 +1,6 @@
 // The tables that a caller lends: rows of 16 words, warnings of 4, text; and the triples that rows are made of.
 #![tactic(auto)]
+
 ghost use Rattle.std.specs.Prelude.{◌≡◌, [], ◌∷◌, ◌+◌, ◌<◌, ◌≤◌, ◌^◌, length};
 ghost use Rattle.tables.specs.Table.{Put, Documented, Wiped};
 ghost use Rattle.tables.specs.Copied.{Copied};

@@ -1,5 +1,6 @@
 // Tags: the kind of a name, closing tags, start tags, and the next token from a place on.
 #![tactic(auto)]
+
 ghost use Rattle.std.specs.Prelude.{◌≡◌, suc, ◌+◌, ◌≤◌, ◌-◌, ◌<◌, ◌^◌, length, drop, take};
 ghost use Rattle.slices.specs.Bytes.{if, other, same, span};
 ghost use Rattle.scan.specs.Classes.{Classes};

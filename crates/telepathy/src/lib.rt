@@ -1,6 +1,7 @@
 // Telepathy's type definitions: simple-type, enum, struct, mapping, with enumvalues and members as parts.
 // One incomplete part drops the whole definition, with its rows and text, and leaves one warning.
 #![tactic(auto)]
+
 ghost use Rattle.std.specs.Prelude.{◌+◌, ◌≤◌, ◌<◌, true, [], length};
 ghost use Rattle.scan.specs.Classes.{Classes};
 ghost use Rattle.document.specs.Outcome.{Ready, Bounded, Begins, Opening, Children, lent};

@@ -1,5 +1,6 @@
 // The whole tree of a row: the element of the row with all under it, written in groups (docs/FORMAT.md, Trees).
 #![tactic(auto)]
+
 ghost use Rattle.std.specs.Prelude.{length};
 ghost use Rattle.trees.specs.Writing.{WritesTree};
 ghost use Rattle.trees.specs.Steps.{Held};

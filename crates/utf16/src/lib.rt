@@ -1,5 +1,6 @@
 // Documents in UTF-16 that begin with a byte order mark, decoded to UTF-8 in a lent buffer.
 #![tactic(auto)]
+
 ghost use Rattle.std.specs.Prelude.{◌≡◌, ◌+◌, ◌*◌, ◌<◌, ◌≤◌, length};
 ghost use Rattle.answers.specs.Text.{Says};
 ghost use Rattle.utf16.specs.Entry.{ordered, told, answer, left};

@@ -1,5 +1,6 @@
 // Well-formed UTF-8, and White_Space at both ends of a text.
 #![tactic(auto)]
+
 ghost use Rattle.std.specs.Prelude.{◌≡◌, [], ◌∷◌, ◌+◌, ◌≤◌, ◌<◌, length, drop};
 ghost use Rattle.utf8.specs.WellFormed.{to, begins, sequence, ill_formed};
 ghost use Rattle.utf8.specs.WhiteSpace.{code_point, white_space, Trims};

@@ -1,6 +1,7 @@
 // A writer: the buffer that a caller lends, together with its fill count. `put_text` and `put_value`, which hand one on by value and
 // let it go, are each proved by a walk of its MIR, by hand.
 #![tactic(auto)]
+
 ghost use Rattle.std.specs.Prelude.{◌≡◌, ◌++◌, ◌+◌, ◌*◌, ◌<◌, ◌^◌, length};
 ghost use Rattle.scan.specs.Classes.{Classes};
 ghost use Rattle.answers.specs.Puts.{Puts};

@@ -1,5 +1,6 @@
 // The four writers: method, signal, annotation and arg, from sound rows.
 #![tactic(auto)]
+
 ghost use Rattle.std.specs.Prelude.{◌+◌, ◌*◌, ◌≤◌, ◌<◌, ◌^◌, true, length};
 ghost use Rattle.scan.specs.Classes.{Classes};
 ghost use Rattle.items.specs.Words.{Word};

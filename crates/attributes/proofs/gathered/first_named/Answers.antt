@@ -27,12 +27,13 @@ pub loop-i-preserved : goal.loop-i-preserved
 loop-i-preserved c =
     let p : Attribute → Bool = wanted c.args.keys.now c.args.key c.args.len c.args.tp c.args.doc.now in
     let e : get_or c.args.attrs.now c.loop-i.i blank ≡ get_or c.args.attrs.now c.loop-i.i none_read = get_or_default c.args.attrs.now c.loop-i.i blank none_read (omega arith) in
-    let w : p (get_or c.args.attrs.now c.loop-i.i none_read) ≡ false = sym c.is_wanted.ensures ∙ c.if-is_wanted.false in
-    (omega arith,
-    turn_rest p c.args.attrs.now c.args.n c.requires
-    (record { i = c.loop-i.i; within = c.loop-i.invariant.0; rest = c.loop-i.invariant.1 })
-    c.loop-i-test.true
-    (subst (λ (a : Attribute). p a ≡ false) (sym e) w))
+    let w : p (get_or c.args.attrs.now c.loop-i.i none_read) ≡ false = sym c.is_wanted.ensures ∙ c.if-is_wanted.false in (
+      omega arith,
+      turn_rest p c.args.attrs.now c.args.n c.requires
+          (record { i = c.loop-i.i; within = c.loop-i.invariant.0; rest = c.loop-i.invariant.1 })
+          c.loop-i-test.true
+          (subst (λ (a : Attribute). p a ≡ false) (sym e) w),
+    )
 
 pub returns : goal.returns
 returns c =
