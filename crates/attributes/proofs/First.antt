@@ -1,15 +1,14 @@
 -- The first attribute that is asked for, and its value.
 -- Assumes nothing.
-use Prim.Native.Nat.{ℕ, suc, ◌+◌, ◌≤◌, ◌<◌, zero-le}
+use Prim.Native.Nat.{ℕ, ◌+◌, ◌≤◌, ◌<◌, zero-le}
 use mathlib.Core.Path.{◌≡◌, refl, sym, ap, ◌∙◌}
-use mathlib.Core.List.{List, [], ◌∷◌}
-use mathlib.Core.Option.{Option, none, some}
+use mathlib.Core.List.{List}
+use mathlib.Core.Option.{none, some}
 use mathlib.Core.Bool.{Bool, true, false}
 use native.Mathlib.Numerals.{add-one}
 use native.Mathlib.Omega.{arith}
 use lib.ListN.{length, take, drop, get_or, drop_of_length-le}
 use lib.Seq.{drop-cons, length-take-le, get_or-take}
-use Rattle.slices.specs.Bytes.{if, bytes}
 use Rattle.document.specs.declared.Value.{Value}
 use Rattle.attributes.specs.Lookup.{blank, wanted, KeyTable, first_by, value_of, value_in, values_in, Picks, PicksAll}
 use Rattle.attributes.specs.declared.Attribute.{Attribute}

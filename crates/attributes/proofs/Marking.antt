@@ -2,22 +2,21 @@
 -- Assumes nothing.
 use Prim.Native.Nat.{ℕ, suc, ◌+◌, ◌-◌, ◌%◌, ◌≤◌, ◌<◌}
 use mathlib.Core.Path.{◌≡◌, refl, sym, ap, ◌∙◌}
-use mathlib.Core.List.{List, [], ◌∷◌, map}
+use mathlib.Core.List.{List, ◌∷◌, map}
 use mathlib.Core.Bool.{Bool, true, false}
 use borrow.Author.Rules.{rules}
-use native.Mathlib.Numerals.{add-one}
 use native.Mathlib.Omega.{arith}
 use native.Mathlib.Decide.{dec_lt}
 use lib.Dec.{eqb}
 use borrow.Author.Tests.{eqb-true, eqb-false}
-use lib.ListN.{length, take, drop, get_or, set, length-set, drop_of_length-le}
-use lib.Seq.{drop-cons, length-take-le, get_or-take, get_or-set_same, get_or-set_other}
+use lib.ListN.{length, take, drop, get_or, set, length-set}
+use lib.Seq.{length-take-le, get_or-take, get_or-set_same, get_or-set_other}
 use Rattle.slices.specs.Bytes.{if, same}
 use Rattle.slices.proofs.Runs.{same_equal}
 use Rattle.document.specs.Tags.{attribute}
 use Rattle.attributes.specs.One.{attr_of, Finds}
 use Rattle.attributes.specs.Lookup.{blank}
-use Rattle.slices.specs.Hash.{hash_of, HashIs}
+use Rattle.slices.specs.Hash.{HashIs}
 use Rattle.attributes.specs.Twins.{entry_of, EntryIs, mark}
 use Rattle.attributes.specs.Outcome.{Fresh, attrs_of, listed}
 use Rattle.attributes.specs.declared.Attribute.{Attribute}

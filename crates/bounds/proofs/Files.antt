@@ -2,7 +2,7 @@
 -- Assumes nothing.
 use Prim.Native.Nat.{ℕ, ◌*◌, ◌≤◌}
 use mathlib.Core.Path.{◌≡◌, refl, sym, ◌∙◌}
-use mathlib.Core.List.{List, [], ◌∷◌}
+use mathlib.Core.List.{List, ◌∷◌}
 use mathlib.Core.Bool.{Bool, true, false}
 use native.Mathlib.Omega.{arith}
 use lib.ListN.{length}
@@ -15,12 +15,11 @@ use Rattle.document.specs.Tags.{Shown}
 use Rattle.document.specs.Elements.{among}
 use Rattle.document.specs.Reading.{State, begun, reading, accepted, refused}
 use Rattle.document.specs.Refusals.{bare}
-use Rattle.document.specs.Whole.{Room, meaning, read}
-use Rattle.document.specs.declared.Refusal.{Refusal}
+use Rattle.document.specs.Whole.{meaning, read}
 use Rattle.document.proofs.Tests.{never, among_all}
 use Rattle.files.specs.Files.{document_of, read_text, read_file}
 use Rattle.files.proofs.Promises.{decoding_refused, decoded_room}
-use Rattle.bounds.specs.Bounds.{lent_refusals, RefusedBy, Told}
+use Rattle.bounds.specs.Bounds.{lent_refusals, Told}
 use Rattle.bounds.specs.Files.{file_refusals, Numbered, FilesNumbered, DocumentRoom, FileRoom}
 use Rattle.bounds.proofs.Meaning.{also}
 use Rattle.bounds.proofs.Whole.{read_told, room_enough, refusal}

@@ -2,13 +2,13 @@
 -- Assumes nothing.
 use Prim.Native.Nat.{ℕ, zero, suc, ◌+◌, ◌-◌, ◌≤◌, ◌<◌}
 use mathlib.Core.Path.{◌≡◌, refl, ap, sym, ◌∙◌}
-use mathlib.Core.List.{List, [], ◌∷◌, ◌++◌}
+use mathlib.Core.List.{List, ◌∷◌}
 use borrow.Author.Rules.{rules}
 use native.Mathlib.Omega.{arith}
 use lib.ListN.{length, take, drop}
 use Rattle.document.specs.Tags.{Attr, absent, found, attribute, Gathered, gathered, too_many, with, gather}
 use Rattle.document.specs.Outcome.{Sound}
-use Rattle.attributes.specs.One.{part, attr_of, Finds}
+use Rattle.attributes.specs.One.{attr_of, Finds}
 use Rattle.attributes.specs.declared.Attribute.{Attribute}
 use Rattle.attributes.specs.declared.One.{One}
 use Rattle.profile.specs.Profile.{raw}
@@ -17,7 +17,6 @@ use Rattle.breaches.specs.Breaches.{places_of, in_value, in_values, in_name, in_
 use Rattle.breaches.specs.Outcome.{NameAt, AttributeAt, attribute_breach, attributes_breach, Collects}
 use Rattle.breaches.specs.declared.Breach.{Breach}
 use Rattle.breaches.specs.declared.Breach.TheVariants.{Nowhere}
-use Rattle.breaches.specs.declared.Way.{Way}
 use Rattle.breaches.proofs.Order.{lesser_none, none_lesser, lesser_assoc, lesser_four, least_append}
 use Rattle.breaches.proofs.Names.{attribute_stands}
 

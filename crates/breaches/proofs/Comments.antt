@@ -1,28 +1,23 @@
 -- A comment that closes: where its inside ends, and the least breach in it.
 -- Assumes nothing.
-use Prim.Native.Nat.{ℕ, suc, ◌+◌, ◌-◌, ◌≤◌, ◌<◌}
-use mathlib.Core.Path.{◌≡◌, refl, ap, sym, ◌∙◌}
-use mathlib.Core.List.{List, [], ◌∷◌, ◌++◌, append-nil}
+use Prim.Native.Nat.{ℕ, suc, ◌+◌, ◌-◌, ◌≤◌}
+use mathlib.Core.Path.{◌≡◌, refl, sym, ◌∙◌}
+use mathlib.Core.List.{List, ◌∷◌, append-nil}
 use mathlib.Core.Bool.{Bool, true, false}
 use borrow.Author.Rules.{rules}
 use borrow.Author.Tests.{eqb-true}
-use native.Mathlib.Numerals.{add-one}
 use native.Mathlib.Omega.{arith}
 use lib.Dec.{eqb}
 use lib.ListN.{length, take, drop}
-use lib.Seq.{drop-drop}
 use Rattle.slices.specs.Bytes.{if, bytes, starts}
-use Rattle.scan.specs.Ignorable.{Marks, seek, markup}
-use Rattle.scan.specs.declared.Scan.{Scan}
+use Rattle.scan.specs.Ignorable.{Marks, seek}
 use Rattle.scan.specs.declared.Scan.TheVariants as scans
-use Rattle.scan.specs.declared.Markup.{Markup}
 use Rattle.scan.specs.declared.Markup.TheVariants.{Ignored}
 use Rattle.document.proofs.Tests.{never}
 use Rattle.profile.specs.Places.{first_place}
 use Rattle.profile.specs.Profile.{hyphens}
-use Rattle.met.specs.Passed.{here}
 use Rattle.breaches.specs.Least.{least}
-use Rattle.breaches.specs.Breaches.{places_of, inside, in_comment, in_comments}
+use Rattle.breaches.specs.Breaches.{places_of, in_comment}
 use Rattle.breaches.specs.Outcome.{ignored_breach}
 use Rattle.breaches.specs.declared.Breach.{Breach}
 use Rattle.breaches.specs.declared.Breach.TheVariants.{Nowhere}

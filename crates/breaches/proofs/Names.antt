@@ -1,15 +1,14 @@
 -- The names of tags and attributes are UTF-8: they stand between bytes below 128.
 -- Assumes nothing.
 use Prim.Native.Nat.{ℕ, suc, ◌+◌, ◌-◌, ◌≤◌, ◌<◌}
-use mathlib.Core.Path.{◌≡◌, refl, ap, sym, ◌∙◌}
-use mathlib.Core.List.{List, [], ◌∷◌}
-use mathlib.Core.Bool.{Bool, true, false}
-use borrow.Author.Rules.{rules}
+use mathlib.Core.Path.{◌≡◌, refl, ◌∙◌}
+use mathlib.Core.List.{List, ◌∷◌}
+use mathlib.Core.Bool.{true, false}
 use native.Mathlib.Omega.{arith}
 use lib.Dec.{eqb}
 use lib.ListN.{length, take, drop, get_or, length-drop}
 use lib.Seq.{get_or-drop}
-use Rattle.slices.specs.Bytes.{if, other, span, past, empty}
+use Rattle.slices.specs.Bytes.{other, span, past, empty}
 use Rattle.slices.specs.Run.{Run}
 use Rattle.slices.proofs.Runs.{run_stop, past_at}
 use Rattle.slices.proofs.Ends.{run_span}
@@ -20,7 +19,7 @@ use Rattle.utf8.proofs.Cuts.{cut_ascii, cut_after_ascii, cut-end, part_formed}
 use Rattle.scan.specs.Classes.{white, name_byte}
 use Rattle.scan.specs.Ignorable.{quote}
 use Rattle.scan.proofs.Class.{name_small, white_small}
-use Rattle.document.specs.Tags.{Attr, Found, absent, found, close_quote, open_quote, equals, named, spaced, attribute}
+use Rattle.document.specs.Tags.{Attr, Found, absent, found, close_quote, open_quote, equals, named, attribute}
 use Rattle.document.specs.Outcome.{Sound}
 use Rattle.document.proofs.Tests.{either}
 use Rattle.document.proofs.Branches.{span_past, not_empty, run-byte}

@@ -1,12 +1,12 @@
 -- Past what is ignorable: the way to the next tag, and the comments on it.
 -- Assumes nothing.
-use Prim.Native.Nat.{ℕ, suc, ◌+◌, ◌-◌, ◌≤◌, ◌<◌}
-use mathlib.Core.Path.{◌≡◌, refl, ap, sym, ◌∙◌}
-use mathlib.Core.List.{List, [], ◌∷◌, ◌++◌, append-nil}
+use Prim.Native.Nat.{ℕ, suc, ◌-◌, ◌≤◌, ◌<◌}
+use mathlib.Core.Path.{◌≡◌, ap, sym, ◌∙◌}
+use mathlib.Core.List.{List, ◌∷◌, append-nil}
 use mathlib.Core.Bool.{Bool, true, false}
 use borrow.Author.Rules.{rules}
 use native.Mathlib.Omega.{arith}
-use lib.ListN.{length, drop, get_or, drop_of_length-le}
+use lib.ListN.{length, drop}
 use Rattle.slices.specs.Bytes.{if, bytes, starts, other}
 use Rattle.slices.specs.Run.{Run}
 use Rattle.scan.specs.Ignorable.{Marks, ignorable}
@@ -22,7 +22,6 @@ use Rattle.breaches.specs.Breaches.{in_comment, in_comments}
 use Rattle.breaches.specs.Outcome.{ignored_breach, Passes}
 use Rattle.breaches.specs.declared.Breach.{Breach}
 use Rattle.breaches.specs.declared.Breach.TheVariants.{Nowhere}
-use Rattle.breaches.specs.declared.Way.{Way}
 use Rattle.breaches.proofs.Order.{lesser_none, none_lesser, lesser_assoc, least_append}
 
 -- what the comments from a place on come to

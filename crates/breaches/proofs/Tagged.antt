@@ -1,8 +1,8 @@
 -- Start tags and closing tags of a document that is accepted: the token that stands there, and the least breach in it.
 -- Assumes nothing.
-use Prim.Native.Nat.{ℕ, suc, ◌+◌, ◌-◌, ◌≤◌, ◌<◌}
+use Prim.Native.Nat.{ℕ, suc, ◌+◌, ◌-◌, ◌≤◌}
 use mathlib.Core.Path.{◌≡◌, refl, ap, sym, ◌∙◌}
-use mathlib.Core.List.{List, [], ◌∷◌, ◌++◌, map}
+use mathlib.Core.List.{List, ◌∷◌, map}
 use mathlib.Core.Bool.{Bool, true, false}
 use borrow.Author.Rules.{rules}
 use native.Mathlib.Numerals.{add-one}
@@ -17,7 +17,7 @@ use Rattle.answers.specs.Text.{Text, text, wrong}
 use Rattle.references.specs.Unescape.{unescape}
 use Rattle.document.specs.Tags.{Attr, Gathered, gathered, too_many, gather, Shown, Checked, good, also, member, check}
 use Rattle.document.specs.Tags as tags
-use Rattle.document.specs.Tokens.{Tag, Token, start, close, fault, end, Next, more, last, tagged, tag_end, with_shown, with_attrs, opening, close_end, closing}
+use Rattle.document.specs.Tokens.{Tag, Token, start, close, fault, end, Next, more, last, tag_end, with_shown, with_attrs, opening, close_end, closing}
 use Rattle.document.specs.declared.ClosingTag.{ClosingTag}
 use Rattle.document.specs.declared.Refusal.{Refusal}
 use Rattle.document.specs.declared.StartTag.{StartTag}
@@ -25,11 +25,10 @@ use Rattle.document.specs.declared.Token as token
 use Rattle.tags.specs.Outcome.{TagAt, Ends}
 use Rattle.tags.specs.declared.TagEnd.{TagEnd}
 use Rattle.breaches.specs.Least.{lesser, least}
-use Rattle.breaches.specs.Breaches.{attrs_of, in_values, in_name, in_names}
+use Rattle.breaches.specs.Breaches.{in_values, in_name, in_names}
 use Rattle.breaches.specs.Outcome.{attributes_breach, tag_breach, Collects, Starts, Closes}
 use Rattle.breaches.specs.declared.Breach.{Breach}
 use Rattle.breaches.specs.declared.Way.{Way}
-use Rattle.breaches.specs.declared.Opened.{Opened}
 use Rattle.breaches.proofs.Order.{lesser_swap, least_append}
 use Rattle.breaches.proofs.Names.{tag_name}
 

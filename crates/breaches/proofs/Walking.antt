@@ -2,17 +2,15 @@
 -- Assumes nothing.
 use Prim.Native.Nat.{ℕ, zero, suc, ◌+◌, ◌-◌, ◌≤◌, ◌<◌}
 use mathlib.Core.Path.{◌≡◌, refl, ap, sym, ◌∙◌}
-use mathlib.Core.List.{List, [], ◌∷◌, ◌++◌, append_assoc}
-use mathlib.Core.Bool.{Bool, true, false}
+use mathlib.Core.List.{List, ◌∷◌, ◌++◌, append_assoc}
+use mathlib.Core.Bool.{true, false}
 use borrow.Author.Rules.{rules}
 use borrow.Author.Tests.{ne_eqb}
 use native.Mathlib.Numerals.{add-one}
 use native.Mathlib.Decide.{dec_lt}
 use native.Mathlib.Omega.{arith}
-use lib.Dec.{eqb}
 use lib.ListN.{length, drop, get_or, length-drop, drop_of_length-le}
 use lib.Seq.{drop-cons, drop-drop}
-use Rattle.slices.specs.Bytes.{if}
 use Rattle.scan.specs.Ignorable.{ignorable}
 use Rattle.scan.specs.declared.Scan.{Scan}
 use Rattle.scan.specs.declared.Scan.TheVariants as scans
@@ -20,15 +18,15 @@ use Rattle.document.specs.Tags.{Shown}
 use Rattle.document.specs.Tokens.{Tag, Token, start, close, fault, end, Next, more, last, opening, closing, tag, tag_or_end, past_ignorable, next, tokens}
 use Rattle.document.specs.Rows.{Tables}
 use Rattle.document.specs.Refusals.{bare}
-use Rattle.document.specs.Reading.{Frame, State, begun, reading, accepted, refused, step}
-use Rattle.document.specs.Outcome.{Sound, runs, whole}
+use Rattle.document.specs.Reading.{State, begun, reading, accepted, refused, step}
+use Rattle.document.specs.Outcome.{runs, whole}
 use Rattle.document.proofs.Runs.{run_more, run_last, run_refused}
 use Rattle.document.proofs.Nexts.{Onward, Ended, Reaches, next_reaches}
 use Rattle.document.specs.declared.Refusal.{Refusal}
 use Rattle.tags.specs.Outcome.{TagStart}
 use Rattle.met.specs.Passed.{passed_over}
-use Rattle.met.specs.Met.{goes_on, reached, start_tags, place_after, comments_to, end_of, met_tokens, root_end}
-use Rattle.met.specs.Open.{opens_in, Open, Counted, Stands}
+use Rattle.met.specs.Met.{goes_on, start_tags, place_after, comments_to, end_of, met_tokens}
+use Rattle.met.specs.Open.{Counted, Stands}
 use Rattle.met.proofs.Reaching.{reached-more, reached_none}
 use Rattle.met.proofs.Counting.{start_counted, close_counted, stands_on}
 use Rattle.breaches.specs.Least.{lesser, least}

@@ -2,16 +2,16 @@
 -- Assumes nothing.
 use Prim.Native.Nat.{ℕ, suc, ◌+◌, ◌-◌, ◌≤◌, ◌<◌, ◌^◌}
 use mathlib.Core.Path.{◌≡◌, refl, ap, sym, ◌∙◌}
-use mathlib.Core.List.{List, [], ◌∷◌, ◌++◌}
+use mathlib.Core.List.{List, ◌∷◌, ◌++◌}
 use mathlib.Core.Bool.{Bool, true, false}
 use borrow.Author.Rules.{rules}
 use native.Mathlib.Omega.{arith}
 use lib.ListN.{length, take, drop}
 use Rattle.slices.specs.Bytes.{if, bytes, same}
-use Rattle.document.specs.Tokens.{Tag, Token, start, close, fault, end, more, last, next}
-use Rattle.document.specs.Refusals.{bare, fault_in}
-use Rattle.document.specs.Reading.{begun, accepted, step}
-use Rattle.document.specs.Outcome.{runs, whole, Tokenises}
+use Rattle.document.specs.Tokens.{Token, start, close, fault, end}
+use Rattle.document.specs.Refusals.{bare}
+use Rattle.document.specs.Reading.{begun, step}
+use Rattle.document.specs.Outcome.{whole, Tokenises}
 use Rattle.document.specs.declared.ClosingTag.{ClosingTag}
 use Rattle.document.specs.declared.Refusal.{Refusal}
 use Rattle.document.specs.declared.StartTag.{StartTag}

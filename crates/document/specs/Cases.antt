@@ -1,7 +1,7 @@
 -- Worked cases: documents, each with what reading it comes to (the refusal, or the words and text of the tables), and a value
 -- with what it is escaped to.
 -- Assumes nothing.
-use Rattle.std.specs.Prelude.{ℕ, ◌≡◌, refl, List, [], ◌∷◌, ◌++◌, map, replicate}
+use Rattle.std.specs.Prelude.{ℕ, ◌≡◌, refl, List, ◌∷◌, ◌++◌, map, replicate}
 use Prim.Native.String as string
 use Rattle.slices.specs.Bytes.{bytes}
 use Rattle.utf8.specs.WellFormed.{sequence, ill_formed}
@@ -15,7 +15,7 @@ use Rattle.references.specs.Escape.{escape}
 use Rattle.references.specs.Unescape.{reference, piece, unescape}
 use Rattle.document.specs.Tags.{attribute, gather, Shown}
 use Rattle.document.specs.Tokens.{opening, closing, next, tokens}
-use Rattle.document.specs.Rows.{row_words_lem, words_from, texts, warned, Tables}
+use Rattle.document.specs.Rows.{row_words_lem, words_from, texts, warned}
 use Rattle.document.specs.Refusals.{excerpt, nothing, bare, showing, showing_both, fault_in}
 use Rattle.document.specs.declared.Refusal.{Refusal}
 use Rattle.document.specs.Elements.{kind_of, may_hold, opens_as}

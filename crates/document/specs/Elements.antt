@@ -1,10 +1,10 @@
 -- Elements (docs/FORMAT.md, Elements): which name is which kind, what may stand in what, and what a start tag needs.
 -- Assumes nothing.
-use Rattle.std.specs.Prelude.{ℕ, zero, suc, List, [], ◌∷◌, Bool, true, false, not, ◌&&◌, ◌||◌, eqb}
+use Rattle.std.specs.Prelude.{ℕ, suc, List, ◌∷◌, Bool, true, false, not, ◌&&◌, eqb}
 use Rattle.std.proofs.Math.Option.{Option, none, some}
 use Rattle.slices.specs.Bytes.{if, bytes, other, all, empty, same}
 use Rattle.names.specs.Names.{interface_name, member_name, property_name}
-use Rattle.names.specs.Signature.{signature, basic_signature}
+use Rattle.names.specs.Signature.{signature}
 use Rattle.document.specs.Kinds as kinds
 use Rattle.document.specs.Tags.{Shown, lookup, tp_type}
 use Rattle.document.specs.Tokens.{Tag}

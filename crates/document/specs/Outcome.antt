@@ -1,6 +1,6 @@
 -- What the reader's functions say: what the structs stand for, and how a run goes on after each answer.
 -- Assumes nothing.
-use Rattle.std.specs.Prelude.{ℕ, suc, ◌+◌, ◌-◌, ◌*◌, ◌≤◌, ◌<◌, ◌≡◌, List, [], ◌∷◌, ◌++◌, Bool, true, false, not, eqb, length, take, drop, get_or}
+use Rattle.std.specs.Prelude.{ℕ, suc, ◌+◌, ◌-◌, ◌*◌, ◌≤◌, ◌<◌, ◌≡◌, List, ◌∷◌, Bool, true, false, not, eqb, length, take, drop, get_or}
 use Rattle.std.proofs.Math.Option.{Option, none, some}
 use Rattle.slices.specs.Bytes.{if, bytes, all}
 use Rattle.utf8.specs.WellFormed.{ill_formed}
@@ -12,7 +12,7 @@ use Rattle.document.specs.Tags.{Shown, lookup, tp_type}
 use Rattle.document.specs.Tokens as tokens
 use Rattle.document.specs.Tokens.{Tag, start, close, fault, end, more, last, next}
 use Rattle.document.specs.Refusals.{fault_in}
-use Rattle.document.specs.Rows.{Row, Warning, Tables, words_from, texts, warned}
+use Rattle.document.specs.Rows.{Row, Tables, words_from, texts, warned}
 use Rattle.document.specs.Elements.{kind_of, among, held_by_lem, opens, refuses, opens_as}
 use Rattle.document.specs.Reading as reading
 use Rattle.document.specs.Reading.{Purpose, Frame, element, State, refused, name_of, parent_of, closed, with_row, shut, started, child, noted, begins, unsupported, docstring_in, passing, run, Name}

@@ -1,6 +1,6 @@
 -- Reading: a fold of one step over the tokens (docs/FORMAT.md, Elements, Warnings, Docstrings).
 -- Assumes nothing.
-use Rattle.std.specs.Prelude.{ℕ, zero, suc, ◌+◌, ◌-◌, List, [], ◌∷◌, ◌++◌, Bool, true, false, not, ◌&&◌, ◌||◌, eqb, leb, ltb, length, take, drop}
+use Rattle.std.specs.Prelude.{ℕ, suc, ◌+◌, ◌-◌, List, ◌∷◌, ◌++◌, Bool, true, false, not, ◌&&◌, ◌||◌, eqb, leb, ltb, length, take, drop}
 use Rattle.std.proofs.Math.Option.{Option, none, some}
 use Rattle.slices.specs.Bytes.{if, bytes, same}
 use Rattle.utf8.specs.WhiteSpace.{trim_start, trim_end}
@@ -8,7 +8,7 @@ use Rattle.names.specs.Signature.{basic_signature}
 use Rattle.document.specs.Kinds as kinds
 use Rattle.document.specs.Tags.{Shown}
 use Rattle.document.specs.Tokens.{Tag, Token, start, close, fault, end, tokens}
-use Rattle.document.specs.Rows.{Doc, Row, Warning, Tables, documented}
+use Rattle.document.specs.Rows.{Row, Tables, documented}
 use Rattle.document.specs.Elements.{kind_of, may_hold, among, some_signature, attr, Opened, opens, refuses, Keeping, opens_as}
 use Rattle.document.specs.Refusals.{excerpt, bare, showing, showing_both, fault_in}
 use Rattle.document.specs.declared.Excerpt.{Excerpt}

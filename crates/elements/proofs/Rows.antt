@@ -1,25 +1,23 @@
 -- The row of each kind of element, from what its start tag has.
 -- Assumes nothing.
-use Prim.Native.Nat.{ℕ, suc, ◌+◌, ◌*◌, ◌≤◌, ◌<◌, ◌^◌}
+use Prim.Native.Nat.{ℕ, ◌+◌, ◌≤◌, ◌<◌, ◌^◌}
 use mathlib.Core.Path.{◌≡◌, refl, sym, ◌∙◌, ap}
-use mathlib.Core.List.{List, [], ◌∷◌}
+use mathlib.Core.List.{List}
 use mathlib.Core.Option.{Option, none, some}
 use mathlib.Core.Bool.{Bool, true, false, not}
 use borrow.Author.Rules.{rules}
-use borrow.Author.Tests.{eq-eqb, ne_eqb, not-true, not-false}
+use borrow.Author.Tests.{ne_eqb, not-true, not-false}
 use native.Mathlib.Omega.{arith}
 use lib.Dec.{eqb}
-use lib.ListN.{length}
 use Rattle.slices.specs.Bytes.{if, bytes, same}
 use Rattle.names.specs.Names.{interface_name, member_name, property_name}
 use Rattle.names.specs.Signature.{signature}
 use Rattle.document.specs.Kinds as kinds
-use Rattle.document.specs.Tags.{Shown, lookup, tp_type}
+use Rattle.document.specs.Tags.{Shown, tp_type}
 use Rattle.document.specs.Tokens.{Tag}
-use Rattle.document.specs.Rows.{Row, Tables}
 use Rattle.document.specs.Elements.{attr, access_of, direction_of, directed, kept, row, opens, refuses, opens_as, Opened, required, valid}
 use Rattle.document.specs.Refusals.{nothing, bare, showing, lacking, raw_of}
-use Rattle.document.specs.Outcome.{lent, Held, Lies, ValueIs, ValueFits, Stands, Bounded, Ready, TagIs, Opening, whole}
+use Rattle.document.specs.Outcome.{Held, Lies, ValueIs, ValueFits, Ready, TagIs, Opening, whole}
 use Rattle.document.specs.declared.Value.{Value}
 use Rattle.document.specs.declared.StartTag.{StartTag}
 use Rattle.document.specs.declared.Fill.{Fill}

@@ -8,15 +8,14 @@ use native.Mathlib.Omega.{arith}
 use lib.ListN.{length, take, replicate, length-append}
 use lib.Seq.{take-append_seam}
 use Rattle.slices.specs.Bytes.{if}
-use Rattle.answers.specs.Text.{Text, text, wrong, left_of}
+use Rattle.answers.specs.Text.{Text, text, wrong}
 use Rattle.utf16.specs.Entry.{marked, decoding, answer_of, answer, left}
 use Rattle.utf16.specs.declared.Answer.TheVariants.{Unmarked, Refused, Decoded}
 use Rattle.document.specs.Refusals.{bare}
 use Rattle.document.specs.Reading.{refused}
-use Rattle.document.specs.Whole.{Room, read, verdict_of, rows_left_lem, warnings_left, text_left, Says}
+use Rattle.document.specs.Whole.{Room, verdict_of, Says}
 use Rattle.document.specs.declared.Verdict.{Verdict}
 use Rattle.files.specs.Files.{document_of, read_file, decoded_length, Reads}
-use Rattle.files.specs.declared.Reading.{Reading}
 
 -- ---- what decoding answers, by the mark
 

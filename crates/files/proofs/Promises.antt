@@ -2,7 +2,7 @@
 -- Assumes nothing.
 use Prim.Native.Nat.{ℕ, ◌%◌, ◌<◌}
 use mathlib.Core.Path.{◌≡◌, refl, sym, ap, ◌∙◌}
-use mathlib.Core.List.{List, [], ◌∷◌}
+use mathlib.Core.List.{List, ◌∷◌}
 use mathlib.Core.Bool.{Bool, true, false}
 use mathlib.Core.Logic.{◌⊎◌, inl, inr}
 use borrow.Author.Tests.{ne_eqb, ltb-true, le-ltb}
@@ -22,7 +22,7 @@ use Rattle.document.specs.Elements.{among}
 use Rattle.document.specs.Reading.{refused, step, run}
 use Rattle.document.specs.Whole.{Room, meaning, read, verdict_of}
 use Rattle.document.specs.declared.Verdict.TheVariants.{Accepted}
-use Rattle.files.specs.Files.{document_of, read_text, read_file, decoded_length, document_left, Reads}
+use Rattle.files.specs.Files.{document_of, read_text, read_file, decoded_length, document_left}
 use Rattle.files.specs.Promises.{Unmarked, ReadAsDocument, AcceptedDocument, DecodingRefused, DecodedRoom}
 use Rattle.files.proofs.Documents.{front_is}
 

@@ -10,7 +10,7 @@ use native.Mathlib.Omega.{arith}
 use lib.Dec.{eqb}
 use lib.ListN.{drop, get_or}
 use Rattle.tables.specs.declared.Triple.{Triple}
-use Rattle.items.specs.Words.{word_at, Word, triple_at, TripleIs, absent}
+use Rattle.items.specs.Words.{Word, TripleIs, absent}
 use Rattle.items.proofs.Rows.{row_word}
 
 -- a word, as one of the words that begin with the row

@@ -1,6 +1,6 @@
 -- Which elements are read the same way.
 -- Assumes nothing.
-use Rattle.std.specs.Prelude.{ℕ, ◌≡◌, Bool, true, false, not, eqb}
+use Rattle.std.specs.Prelude.{ℕ, ◌≡◌, true, false, not, eqb}
 use Rattle.names.specs.Names.{member_name}
 use Rattle.document.specs.Kinds as kinds
 use Rattle.document.specs.Elements.{among, held_by_lem}

@@ -2,14 +2,14 @@
 -- Assumes nothing.
 use Prim.Native.Nat.{ℕ, ◌<◌}
 use mathlib.Core.Path.{◌≡◌, sym, ap, ◌∙◌}
-use mathlib.Core.List.{List, [], ◌++◌, append_assoc}
+use mathlib.Core.List.{List, ◌++◌, append_assoc}
 use mathlib.Core.Bool.{Bool, true, false}
 use borrow.Author.Rules.{rules}
 use native.Mathlib.Omega.{arith}
 use lib.ListN.{length, length-append}
 use Rattle.slices.specs.Bytes.{bytes}
 use Rattle.tables.proofs.Tables.{empty_stands}
-use Rattle.answers.specs.Text.{Text, text, wrong, roomy, Says, Finishes}
+use Rattle.answers.specs.Text.{text, wrong, roomy, Says, Finishes}
 use Rattle.answers.specs.Puts.{Puts}
 use Rattle.answers.specs.declared.TextAnswer.{TextAnswer}
 use Rattle.answers.proofs.Putting.{puts_then}

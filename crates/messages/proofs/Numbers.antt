@@ -2,7 +2,7 @@
 -- Assumes nothing.
 use Prim.Native.Nat.{ℕ, ◌-◌, ◌≤◌, ◌<◌}
 use mathlib.Core.Path.{◌≡◌, refl, sym, ap, subst, ◌∙◌}
-use mathlib.Core.List.{List, [], ◌∷◌, ◌++◌, append-nil, append_assoc}
+use mathlib.Core.List.{List, ◌∷◌, ◌++◌, append-nil, append_assoc}
 use borrow.Author.Rules.{rules}
 use borrow.Author.Tests.{eq-eqb, ne_eqb}
 use native.Mathlib.Omega.{arith}
@@ -11,7 +11,7 @@ use lib.Seq.{length-take-le}
 use Rattle.slices.specs.Bytes.{bytes}
 use Rattle.answers.specs.Text.{Text, text, wrong, roomy, Says}
 use Rattle.answers.specs.declared.TextAnswer.{TextAnswer}
-use Rattle.messages.specs.Texts.{Entry, Piece, pieces_of, refusals, warnings, key_name}
+use Rattle.messages.specs.Texts.{Entry, pieces_of, refusals, warnings, key_name}
 use Rattle.messages.specs.Message.{excerpt_of, present, joined, framed, message_by}
 use Rattle.messages.specs.Steps.{NoneOf, plain_texts, part_pieces, PlainAt, Plainly, Unexpected, Lacking, Turned, Warned}
 use Rattle.messages.specs.declared.Wide.{Wide}

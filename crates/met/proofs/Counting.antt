@@ -1,20 +1,20 @@
 -- How many elements are open: a start tag opens one, or with `/>` none; a closing tag closes one; and where none is left the
 -- document is accepted.
 -- Assumes nothing.
-use Prim.Native.Nat.{ℕ, zero, suc, ◌+◌, ◌≤◌, ◌<◌}
+use Prim.Native.Nat.{ℕ, suc}
 use mathlib.Core.Path.{◌≡◌, refl}
-use mathlib.Core.List.{List, [], ◌∷◌}
-use mathlib.Core.Bool.{Bool, true, false, not, ◌&&◌}
+use mathlib.Core.List.{List, ◌∷◌}
+use mathlib.Core.Bool.{true, not, ◌&&◌}
 use native.Mathlib.Omega.{arith}
 use lib.Dec.{eqb, leb}
 use lib.ListN.{length}
 use Rattle.slices.specs.Bytes.{if, same}
 use Rattle.document.specs.Kinds as kinds
 use Rattle.document.specs.Tags.{Shown}
-use Rattle.document.specs.Tokens.{Tag, Token, start, close, fault, end}
+use Rattle.document.specs.Tokens.{Tag, start, close}
 use Rattle.document.specs.Rows.{Tables}
 use Rattle.document.specs.Elements.{kind_of, may_hold, among, Opened, opens, refuses, opens_as}
-use Rattle.document.specs.Reading.{Definition, Purpose, Frame, element, definition, passing, State, begun, reading, accepted, refused, name_of, parent_of, noted_in, noted, frame_of, with_row, closed, judged, passed, inner_closed, shut, too_deep, opened, begins, unsupported, docstring_in, child, inner, started, turn, step}
+use Rattle.document.specs.Reading.{Frame, element, definition, passing, State, begun, reading, accepted, refused, name_of, parent_of, noted_in, noted, frame_of, with_row, closed, judged, passed, shut, too_deep, opened, begins, unsupported, docstring_in, child, started, step}
 use Rattle.document.specs.Outcome.{whole}
 use Rattle.document.proofs.Tests.{either, pairwise}
 use Rattle.met.specs.Met.{goes_on}

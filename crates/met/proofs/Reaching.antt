@@ -2,13 +2,13 @@
 -- Assumes nothing.
 use Prim.Native.Nat.{ℕ, suc, ◌+◌, ◌-◌, ◌≤◌, ◌<◌}
 use mathlib.Core.Path.{◌≡◌, refl}
-use mathlib.Core.List.{List, [], ◌∷◌}
+use mathlib.Core.List.{List, ◌∷◌}
 use mathlib.Core.Bool.{true, false}
 use native.Mathlib.Omega.{arith}
 use lib.ListN.{length, length-drop, drop}
 use lib.Seq.{drop-cons, drop-drop}
 use Rattle.document.specs.Tags.{Shown}
-use Rattle.document.specs.Tokens.{Token, more, next, tokens_from, tokens}
+use Rattle.document.specs.Tokens.{Token, more, next, tokens}
 use Rattle.document.specs.Reading.{State, step}
 use Rattle.document.specs.Outcome.{whole}
 use Rattle.document.proofs.Runs.{taken}

@@ -2,30 +2,29 @@
 -- Assumes nothing.
 use Prim.Native.Nat.{ℕ, ◌-◌, ◌≤◌, ◌<◌}
 use mathlib.Core.Path.{◌≡◌, refl, sym, ap, ◌∙◌}
-use mathlib.Core.List.{List, ◌++◌}
-use mathlib.Core.Bool.{Bool, true, false}
+use mathlib.Core.List.{List}
 use borrow.Author.Rules.{rules}
 use borrow.Author.Tests.{lt-ltb, le-ltb}
 use native.Mathlib.Nat.{mul-one}
 use native.Mathlib.Omega.{arith}
 use lib.ListN.{length, replicate}
 use Rattle.utf8.proofs.Sequences.{below}
-use Rattle.tables.specs.Table.{Rep, Wiped, cleared}
+use Rattle.tables.specs.Table.{Wiped}
 use Rattle.tables.proofs.Tables.{clear_all, clear_rest}
 use Rattle.items.specs.Words.{rows_shown}
 use Rattle.items.specs.Content.{Row}
-use Rattle.items.specs.Sound.{sound, soundness}
+use Rattle.items.specs.Sound.{sound}
 use Rattle.items.proofs.Rows.{sound_claimed, sound_held}
 use Rattle.soundness.specs.Outcome.{Judges}
 use Rattle.soundness.specs.declared.Soundness.{Soundness}
 use Rattle.soundness.proofs.Rows.{judged_sound, judged_unsound}
 use Rattle.order.specs.Relation.{order, Chain}
-use Rattle.order.specs.Types.{definitions, uses, undefined}
-use Rattle.order.specs.Ordering.{wrong, ordered, types_ordered, ordering, Says}
+use Rattle.order.specs.Types.{definitions, uses}
+use Rattle.order.specs.Ordering.{wrong, ordering, Says}
 use Rattle.order.specs.Statement.{Sound}
 use Rattle.order.specs.declared.Order.{Order}
 use Rattle.order.specs.declared.Order.TheVariants.{Refused, Ordered}
-use Rattle.order.specs.Steps.{Held, Blank, GivenOut, Clear, CircleFound, CountsUndefined, CountsDefinitions, Finishes, OrdersSound, Answers, Orders}
+use Rattle.order.specs.Steps.{Held, GivenOut, Clear, CircleFound, CountsUndefined, CountsDefinitions, Finishes, OrdersSound, Answers, Orders}
 use Rattle.order.proofs.Lists.{clash}
 use Rattle.order.proofs.Taking.{order_orders}
 use Rattle.order.proofs.Tables.{definitions_ascend, used_listed}

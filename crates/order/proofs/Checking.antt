@@ -1,15 +1,15 @@
 -- Laws of the functions that check a candidate: numbers, circles, places.
 -- Assumes nothing.
-use Prim.Native.Nat.{ℕ, zero, suc, ◌+◌, ◌*◌, ◌-◌, ◌≤◌, ◌<◌}
+use Prim.Native.Nat.{ℕ, zero, suc, ◌+◌, ◌-◌, ◌≤◌, ◌<◌}
 use mathlib.Core.Path.{◌≡◌, refl, sym, ap, ◌∙◌}
-use mathlib.Core.List.{List, [], ◌∷◌, ◌++◌}
+use mathlib.Core.List.{List, ◌∷◌, ◌++◌}
 use mathlib.Core.Option.{Option, none, some}
-use mathlib.Core.Bool.{Bool, true, false, not, ◌&&◌}
+use mathlib.Core.Bool.{Bool, true, false, not}
 use borrow.Author.Rules.{rules}
 use borrow.Author.Tests.{ne_eqb, eqb-true, eqb-false, ltb-true, lt-leb, le-leb, not-true, not-false}
 use native.Mathlib.Omega.{arith}
 use lib.Dec.{eqb, ltb}
-use lib.ListN.{length, drop, get_or}
+use lib.ListN.{drop, get_or}
 use Rattle.slices.specs.Bytes.{if}
 use Rattle.utf8.proofs.Sequences.{below}
 use Rattle.document.specs.Kinds as kinds
@@ -21,7 +21,7 @@ use Rattle.items.proofs.Words.{word_in}
 use Rattle.order.specs.Relation.{Chain, one}
 use Rattle.order.specs.Types.{definitions, member_in, uses, is_undefined}
 use Rattle.order.specs.Lookup.{listed, referred_by, targets_in, targets}
-use Rattle.order.specs.Steps.{Held, shown_at, Defines, MemberIn, target, Target, IsUndefined, Adds}
+use Rattle.order.specs.Steps.{shown_at, Defines, MemberIn, target, Target, IsUndefined}
 use Rattle.order.specs.Certificate.{Wide, Got, member_of, MemberOf, Falls, EdgeFalls, Late, Tells, RowFalls, Members, Follows, IsCircle, run_of, RunIs, Runs, Above, IsNoted, Placed, IsNext, PlacedBefore, IsAscending, Stands, IsPlaced, ArePlaced, IsOrder}
 use Rattle.order.proofs.Lists.{clash, or_else, first_true, second_true, both}
 use Rattle.order.proofs.Circles.{chained}

@@ -1,27 +1,27 @@
 -- Laws of the two counts.
 -- Assumes nothing.
-use Prim.Native.Nat.{ℕ, zero, suc, ◌+◌, ◌*◌, ◌≤◌, ◌<◌}
+use Prim.Native.Nat.{ℕ, suc, ◌+◌, ◌*◌, ◌≤◌, ◌<◌}
 use mathlib.Core.Path.{◌≡◌, refl, sym, ap, ◌∙◌}
-use mathlib.Core.List.{List, [], ◌∷◌, ◌++◌}
+use mathlib.Core.List.{List, ◌∷◌, ◌++◌}
 use mathlib.Core.Option.{Option, none, some}
-use mathlib.Core.Bool.{Bool, true, false, not, ◌&&◌, and-false}
+use mathlib.Core.Bool.{Bool, true, false, not}
 use borrow.Author.Rules.{rules}
 use borrow.Author.Tests.{ne_eqb, le-leb, lt-leb}
 use native.Mathlib.Numerals.{add-one}
 use native.Mathlib.Omega.{arith}
-use lib.Dec.{eqb, leb}
+use lib.Dec.{leb}
 use lib.ListN.{length, drop}
 use Rattle.slices.specs.Bytes.{if, empty}
 use Rattle.utf8.proofs.Sequences.{below}
 use Rattle.tables.specs.Triple.{shown}
 use Rattle.tables.specs.declared.Triple.{Triple}
 use Rattle.document.specs.Kinds as kinds
-use Rattle.items.specs.Words.{Word, TripleIs, row_of, rows_shown, absent, shown_by}
+use Rattle.items.specs.Words.{Word, TripleIs, row_of, rows_shown, absent}
 use Rattle.items.specs.Content.{Row}
 use Rattle.items.proofs.Words.{word_in}
-use Rattle.order.specs.Types.{defines, definitions_from, definitions, typed, defined, is_undefined, undefined_in, undefined}
+use Rattle.order.specs.Types.{defines, definitions_from, definitions, is_undefined, undefined_in, undefined}
 use Rattle.order.specs.Lookup.{listed, referred, referred_by}
-use Rattle.order.specs.Steps.{Held, shown_at, Defines, Finds, target, Target, Adds, IsUndefined, CountsUndefined, CountsDefinitions}
+use Rattle.order.specs.Steps.{Held, shown_at, Defines, target, Target, Adds, IsUndefined, CountsUndefined, CountsDefinitions}
 use Rattle.order.proofs.Lookups.{defined_referred}
 use Rattle.order.proofs.Finding.{shown_at_lem, shown_past}
 use Rattle.order.proofs.Waiting.{referred_targets, row_held}

@@ -1,20 +1,18 @@
 -- Laws of the answer by a certificate: the first row on a circle, or the order.
 -- Assumes nothing.
-use Prim.Native.Nat.{ℕ, ◌+◌, ◌*◌, ◌≤◌, ◌<◌}
-use mathlib.Core.Path.{◌≡◌, refl, sym, ap, ◌∙◌}
+use Prim.Native.Nat.{ℕ, ◌≤◌, ◌<◌}
+use mathlib.Core.Path.{◌≡◌, refl, sym}
 use mathlib.Core.List.{List}
 use mathlib.Core.Bool.{Bool, true, false, not}
 use borrow.Author.Rules.{rules}
 use borrow.Author.Tests.{lt-ltb, not-false}
-use native.Mathlib.Nat.{mul-one}
 use native.Mathlib.Omega.{arith}
 use lib.ListN.{length, get_or, take, length-take, replicate}
 use lib.Seq.{get_or-take}
-use Rattle.document.specs.Elements.{among}
 use Rattle.tables.specs.Table.{Rep, Wiped}
 use Rattle.items.specs.Words.{rows_shown}
 use Rattle.items.specs.Content.{Row}
-use Rattle.order.specs.Relation.{order, Chain, FirstOnCircle}
+use Rattle.order.specs.Relation.{order, Chain}
 use Rattle.order.specs.Types.{definitions, uses}
 use Rattle.order.specs.Ordering.{wrong, Says}
 use Rattle.order.specs.declared.Order.{Order}

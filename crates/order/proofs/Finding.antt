@@ -2,28 +2,27 @@
 -- Assumes nothing.
 use Prim.Native.Nat.{ℕ, zero, suc, ◌+◌, ◌*◌, ◌-◌, ◌≤◌, ◌<◌}
 use mathlib.Core.Path.{◌≡◌, refl, sym, ap, ◌∙◌}
-use mathlib.Core.List.{List, [], ◌∷◌, map}
+use mathlib.Core.List.{List, ◌∷◌, map}
 use mathlib.Core.Option.{Option, none, some}
-use mathlib.Core.Bool.{Bool, true, false, not, ◌&&◌, and-false}
+use mathlib.Core.Bool.{Bool, true, false, not, ◌&&◌}
 use borrow.Author.Rules.{rules}
-use borrow.Author.Tests.{eq-eqb, ne_eqb, eqb-true, not-true, not-false}
+use borrow.Author.Tests.{ne_eqb, eqb-true, not-true, not-false}
 use native.Mathlib.Numerals.{add-one}
 use native.Mathlib.Omega.{arith}
-use lib.Dec.{eqb, leb}
-use lib.ListN.{length, drop, take, get_or, drop_of_length-le, length-take, length-drop}
+use lib.Dec.{eqb}
+use lib.ListN.{length, drop, take, drop_of_length-le, length-take, length-drop}
 use Rattle.slices.specs.Bytes.{if, bytes, same, starts}
 use Rattle.slices.proofs.Runs.{eqb_swap}
 use Rattle.tables.specs.Triple.{shown}
 use Rattle.tables.specs.declared.Triple.{Triple}
 use Rattle.document.specs.Kinds as kinds
 use Rattle.document.specs.Elements.{among}
-use Rattle.items.specs.Words.{RowWords, Word, TripleIs, row_of, rows_of, viewed, rows_shown, absent, shown_by}
+use Rattle.items.specs.Words.{Word, TripleIs, row_of, rows_of, viewed, rows_shown, absent, shown_by}
 use Rattle.items.specs.Content.{Row, present}
 use Rattle.items.proofs.Rows.{row-at, length_rows_of}
 use Rattle.items.proofs.Words.{word_in}
-use Rattle.order.specs.Types.{member_in, defines, first_named}
-use Rattle.order.specs.Lookup.{of_array, element}
-use Rattle.order.specs.Steps.{shown_at, Defines, HasName, MemberIn, Finds, inner, named, target, LastTwo, IsArray, ElementIs, FirstNamed, FirstElement, Named, Target}
+use Rattle.order.specs.Types.{first_named}
+use Rattle.order.specs.Steps.{shown_at, Defines, HasName, MemberIn, Finds, target, LastTwo, IsArray, ElementIs, FirstNamed, FirstElement, Named, Target}
 
 -- ---- rows by their places
 

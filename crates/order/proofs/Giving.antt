@@ -1,15 +1,14 @@
 -- Laws of giving rows out: the loop, and the words that the rows are put into.
 -- Assumes nothing.
-use Prim.Native.Nat.{ℕ, zero, suc, ◌+◌, ◌*◌, ◌≤◌, ◌<◌}
+use Prim.Native.Nat.{ℕ, suc, ◌+◌, ◌≤◌, ◌<◌}
 use mathlib.Core.Path.{◌≡◌, refl, sym, ap, ◌∙◌}
-use mathlib.Core.List.{List, [], ◌∷◌, ◌++◌, append-nil, append_assoc}
+use mathlib.Core.List.{List, ◌∷◌, ◌++◌, append-nil, append_assoc}
 use mathlib.Core.Bool.{Bool, true, false}
 use borrow.Author.Rules.{rules}
-use borrow.Author.Tests.{eq-eqb, eqb-true, eqb-false}
-use native.Mathlib.Nat.{mul-one}
+use borrow.Author.Tests.{eq-eqb, eqb-false}
 use native.Mathlib.Omega.{arith}
 use lib.Dec.{eqb}
-use lib.ListN.{length, get_or, set, length-append, length-set}
+use lib.ListN.{length, get_or, set, length-set}
 use lib.Seq.{get_or-set_same, get_or-set_other}
 use Rattle.slices.specs.Bytes.{if}
 use Rattle.tables.specs.Table.{Rep, Put}
@@ -19,12 +18,12 @@ use Rattle.items.specs.Words.{rows_shown}
 use Rattle.items.specs.Content.{Row}
 use Rattle.order.specs.Relation.{without, taken_from, order}
 use Rattle.order.specs.Types.{defines, definitions_from, definitions, uses}
-use Rattle.order.specs.Steps.{Held, unmarked, left_in, First, NextReady, Blank, Marks, GivenOut}
-use Rattle.order.proofs.Lists.{case, among_here, Ascends, without_count}
+use Rattle.order.specs.Steps.{Held, unmarked, left_in, NextReady, Blank, Marks, GivenOut}
+use Rattle.order.proofs.Lists.{Ascends, without_count}
 use Rattle.order.proofs.Loop.{keep_all, keep_without, keep_ascends, taken_next, taken_stop}
 use Rattle.order.proofs.Tables.{definitions_ascend}
 use Rattle.order.proofs.Lookups.{among_append}
-use Rattle.order.proofs.Waiting.{left_listed, defined_below, length_shown}
+use Rattle.order.proofs.Waiting.{length_shown}
 
 few_from : (i : ℕ) (t : List Row) → length (definitions_from i t) ≤ length t
 few_from i [] = omega arith

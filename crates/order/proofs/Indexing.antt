@@ -2,7 +2,7 @@
 -- Assumes nothing.
 use Prim.Native.Nat.{ℕ, zero, suc, ◌+◌, ◌*◌, ◌-◌, ◌/◌, ◌%◌, ◌≤◌, ◌<◌}
 use mathlib.Core.Path.{◌≡◌, refl, sym, ap, subst, ◌∙◌}
-use mathlib.Core.List.{List, [], ◌∷◌}
+use mathlib.Core.List.{List, ◌∷◌}
 use mathlib.Core.Option.{Option, none, some}
 use mathlib.Core.Bool.{Bool, true, false, ◌&&◌}
 use borrow.Author.Rules.{rules}
@@ -11,13 +11,13 @@ use native.Mathlib.Nat.{mod-lt}
 use native.Mathlib.Numerals.{add-one}
 use native.Mathlib.Omega.{arith}
 use lib.Dec.{eqb}
-use lib.ListN.{length, get_or, set, drop, replicate, drop_of_length-le, length-set, length-replicate}
-use lib.Seq.{drop-cons, get_or-set_same, get_or-set_other}
+use lib.ListN.{length, get_or, set, drop, replicate, length-set, length-replicate}
+use lib.Seq.{get_or-set_same, get_or-set_other}
 use Rattle.slices.specs.Bytes.{if, same}
 use Rattle.slices.specs.Hash.{hash_of, HashIs}
 use Rattle.slices.proofs.Runs.{same_equal}
 use Rattle.tables.specs.Triple.{shown}
-use Rattle.tables.specs.Table.{Wiped, cleared}
+use Rattle.tables.specs.Table.{Wiped}
 use Rattle.tables.specs.declared.Triple.{Triple}
 use Rattle.tables.proofs.Tables.{clear_all}
 use Rattle.items.specs.Words.{TripleIs, row_of, rows_shown}

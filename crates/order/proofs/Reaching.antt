@@ -1,12 +1,12 @@
 -- Laws of the search for a circle: marks, what they say of chains, and the first row on one.
 -- Assumes nothing.
 use Prim.Native.Nat.{ℕ, zero, suc, ◌+◌, ◌-◌, ◌≤◌, ◌<◌}
-use mathlib.Core.Path.{◌≡◌, refl, sym, ap, ◌∙◌}
-use mathlib.Core.List.{List, [], ◌∷◌, ◌++◌}
+use mathlib.Core.Path.{◌≡◌, refl, sym, ◌∙◌}
+use mathlib.Core.List.{List, ◌∷◌, ◌++◌}
 use mathlib.Core.Option.{Option, none, some}
 use mathlib.Core.Bool.{Bool, true, false, not}
 use borrow.Author.Rules.{rules}
-use borrow.Author.Tests.{eq-eqb, ne_eqb, eqb-true, eqb-false, not-true, not-false}
+use borrow.Author.Tests.{eq-eqb, ne_eqb, eqb-true, eqb-false, not-true}
 use native.Mathlib.Numerals.{add-one}
 use native.Mathlib.Omega.{arith}
 use lib.Dec.{eqb}
@@ -17,11 +17,11 @@ use Rattle.utf8.proofs.Sequences.{below}
 use Rattle.document.specs.Elements.{among}
 use Rattle.items.specs.Words.{rows_shown}
 use Rattle.items.specs.Content.{Row}
-use Rattle.order.specs.Relation.{Chain, one, more, FirstOnCircle}
+use Rattle.order.specs.Relation.{Chain, one, more}
 use Rattle.order.specs.Types.{member_in, definitions, uses}
 use Rattle.order.specs.Lookup.{listed, referred_by, targets_in, targets}
-use Rattle.order.specs.Steps.{Held, shown_at, Defines, MemberIn, Finds, target, Target, Blank, reached, todo, Marked, Reached, MemberReached, ReachedIn, TargetsReached, NextReached, OnCircle, Searching, SearchMoves, Clear, CircleFound}
-use Rattle.order.proofs.Lists.{clash, case, among_here}
+use Rattle.order.specs.Steps.{Held, shown_at, Defines, MemberIn, Finds, Target, Blank, reached, todo, Marked, Reached, MemberReached, ReachedIn, TargetsReached, NextReached, OnCircle, Searching, SearchMoves, Clear, CircleFound}
+use Rattle.order.proofs.Lists.{clash, case}
 use Rattle.order.proofs.Circles.{chain_listed}
 use Rattle.order.proofs.Tables.{used_listed}
 use Rattle.order.proofs.Lookups.{among_append, uses_targets}

@@ -2,11 +2,11 @@
 -- Assumes nothing.
 use Prim.Native.Nat.{ℕ, zero, suc, ◌+◌, ◌*◌, ◌≤◌, ◌<◌}
 use mathlib.Core.Path.{◌≡◌, refl, sym, ap, ◌∙◌}
-use mathlib.Core.List.{List, [], ◌∷◌, ◌++◌}
+use mathlib.Core.List.{List, ◌∷◌, ◌++◌}
 use mathlib.Core.Option.{Option, none, some}
-use mathlib.Core.Bool.{Bool, true, false, not, ◌&&◌}
+use mathlib.Core.Bool.{Bool, true, false, not}
 use borrow.Author.Rules.{rules}
-use borrow.Author.Tests.{eq-eqb, ne_eqb, eqb-true, not-true, not-false}
+use borrow.Author.Tests.{eq-eqb, ne_eqb, not-true, not-false}
 use native.Mathlib.Nat.{add-zero, zero-add}
 use native.Mathlib.Numerals.{add-one}
 use native.Mathlib.Omega.{arith}
@@ -20,7 +20,7 @@ use Rattle.items.specs.Content.{Row}
 use Rattle.order.specs.Relation.{uses_any, ready}
 use Rattle.order.specs.Types.{member_in, defines, definitions_from, definitions, first_named, uses}
 use Rattle.order.specs.Lookup.{of_array, element, listed, referred, referred_by, targets_in, targets}
-use Rattle.order.specs.Steps.{Held, shown_at, Defines, MemberIn, Finds, named, target, Target, keep, unmarked, left_in, any_among, IsLeft, MemberWaits, WaitsIn, Waits, IsReady, First, NextReady}
+use Rattle.order.specs.Steps.{Held, shown_at, Defines, MemberIn, Finds, target, Target, unmarked, left_in, any_among, IsLeft, MemberWaits, WaitsIn, Waits, IsReady, First, NextReady}
 use Rattle.order.proofs.Lists.{clash, case, refuted, or_else, first_true, second_true, among_here, among_there, among_cases}
 use Rattle.order.proofs.Taking.{uses_none}
 use Rattle.order.proofs.Tables.{from_below, named_listed}

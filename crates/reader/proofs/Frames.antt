@@ -1,8 +1,8 @@
 -- The frames of the open nodes.
 -- Assumes nothing.
-use Prim.Native.Nat.{ℕ, zero, suc, ◌+◌, ◌-◌, ◌≤◌, ◌<◌}
-use mathlib.Core.Path.{◌≡◌, refl, sym, ◌∙◌, ap}
-use mathlib.Core.List.{List, [], ◌∷◌}
+use Prim.Native.Nat.{ℕ, zero, suc, ◌+◌, ◌-◌, ◌<◌}
+use mathlib.Core.Path.{◌≡◌, refl, ◌∙◌, ap}
+use mathlib.Core.List.{List, ◌∷◌}
 use borrow.Author.Tests.{ne_eqb}
 use native.Mathlib.Numerals.{add-one, sub-one}
 use native.Mathlib.Omega.{arith}
@@ -13,7 +13,7 @@ use Rattle.slices.specs.Bytes.{if}
 use Rattle.document.specs.Kinds as kinds
 use Rattle.document.specs.Tags.{Shown}
 use Rattle.document.specs.Rows.{Tables}
-use Rattle.document.specs.Reading.{Name, Frame, element, State, reading, closed, parent_of}
+use Rattle.document.specs.Reading.{Name, element, reading, closed, parent_of}
 use Rattle.document.specs.Outcome.{name_at}
 use Rattle.reader.specs.Nodes.{frames_of}
 

@@ -1,8 +1,8 @@
 -- A node in a node: refused, closed by its own tag, too deep, or one more that is open.
 -- Assumes nothing.
-use Prim.Native.Nat.{ℕ, zero, suc, ◌+◌, ◌-◌, ◌*◌, ◌≤◌, ◌<◌, ◌^◌}
+use Prim.Native.Nat.{ℕ, suc, ◌+◌, ◌-◌, ◌≤◌, ◌<◌, ◌^◌}
 use mathlib.Core.Path.{◌≡◌, refl, sym, ◌∙◌, ap}
-use mathlib.Core.List.{List, [], ◌∷◌}
+use mathlib.Core.List.{List}
 use mathlib.Core.Bool.{Bool, true, false}
 use borrow.Author.Rules.{rules}
 use borrow.Author.Tests.{le-leb, lt-leb}
@@ -11,8 +11,8 @@ use native.Mathlib.Numerals.{add-one}
 use native.Mathlib.Omega.{arith}
 use mir.Syntax.{w32}
 use mir.Val.{Fits}
-use lib.Dec.{leb, eqb}
-use lib.ListN.{length, take, drop, get_or, set, length-set}
+use lib.Dec.{leb}
+use lib.ListN.{length, get_or, set, length-set}
 use lib.Seq.{get_or-set_same, get_or-set_other}
 use Rattle.slices.specs.Bytes.{if, bytes, same}
 use Rattle.slices.proofs.Runs.{same_equal}
@@ -20,10 +20,10 @@ use Rattle.document.specs.Kinds as kinds
 use Rattle.document.specs.Tags.{Shown}
 use Rattle.document.specs.Tokens.{Tag}
 use Rattle.document.specs.Rows.{Row, Tables}
-use Rattle.document.specs.Elements.{opens, refuses, opens_as, kind_of, local_kind, local_name}
+use Rattle.document.specs.Elements.{kind_of, local_kind, local_name}
 use Rattle.document.specs.Refusals.{bare}
-use Rattle.document.specs.Reading.{Name, tag_name, Frame, element, State, reading, refused, closed, parent_of, with_row, entered, begins}
-use Rattle.document.specs.Outcome.{Lent, lent, name_at, Stands, Bounded, Ready, TagIs, TagFits, Opening, runs, whole, moved}
+use Rattle.document.specs.Reading.{Name, tag_name, reading, refused, parent_of, with_row, entered, begins}
+use Rattle.document.specs.Outcome.{lent, name_at, Stands, Ready, TagIs, TagFits, Opening, runs, whole, moved}
 use Rattle.document.specs.declared.StartTag.{StartTag}
 use Rattle.document.specs.declared.Refusal.{Refusal}
 use Rattle.document.specs.declared.Fill.{Fill}
@@ -31,9 +31,8 @@ use Rattle.document.specs.declared.Answer.{Answer}
 use Rattle.document.proofs.Runs.{run_refused}
 use Rattle.document.proofs.Loops.{moved_stands}
 use Rattle.document.proofs.Openings.{tag_named}
-use Rattle.reader.specs.Nodes.{frames_of, Walking, OnwardTurn, LeadsFrom, Opens, Started}
+use Rattle.reader.specs.Nodes.{frames_of, Walking, Opens, Started}
 use Rattle.reader.specs.declared.Walk.{Walk}
-use Rattle.reader.specs.declared.Turn.{Turn}
 use Rattle.reader.specs.declared.Turn.TheVariants.{Fault, Done, On}
 use Rattle.reader.proofs.Frames.{frames_length, frames_closed, frames_push}
 

@@ -1,24 +1,23 @@
 -- The walk through the open nodes, and the root.
 -- Assumes nothing.
-use Prim.Native.Nat.{ℕ, zero, suc, ◌+◌, ◌-◌, ◌*◌, ◌≤◌, ◌<◌}
+use Prim.Native.Nat.{ℕ, suc, ◌+◌, ◌-◌, ◌≤◌, ◌<◌}
 use mathlib.Core.Path.{◌≡◌, refl, sym, ◌∙◌, ap}
-use mathlib.Core.List.{List, [], ◌∷◌}
-use mathlib.Core.Bool.{Bool, true, false}
+use mathlib.Core.List.{List, ◌∷◌}
+use mathlib.Core.Bool.{true, false}
 use borrow.Author.Rules.{rules}
 use native.Mathlib.Numerals.{add-one}
 use native.Mathlib.Omega.{arith}
 use mir.Syntax.{w64}
 use mir.Val.{Fits}
-use lib.ListN.{length, get_or}
+use lib.ListN.{length}
 use Rattle.tables.proofs.Tables.{empty_stands}
 use Rattle.document.specs.Kinds as kinds
 use Rattle.document.specs.Tags.{Shown}
 use Rattle.document.specs.Tokens.{Tag}
 use Rattle.document.specs.Rows.{Row, Tables}
-use Rattle.document.specs.Elements.{opens, opens_as}
 use Rattle.document.specs.Refusals.{bare}
-use Rattle.document.specs.Reading.{Name, Frame, element, State, begun, reading, accepted, refused, with_row, entered, begins, step}
-use Rattle.document.specs.Outcome.{Lent, lent, name_at, Stands, Bounded, Ready, Sound, TagIs, TagFits, Tokenises, Opening, runs, whole}
+use Rattle.document.specs.Reading.{Name, element, State, begun, reading, accepted, entered, begins, step}
+use Rattle.document.specs.Outcome.{Lent, lent, name_at, Stands, Ready, Sound, TagIs, TagFits, Tokenises, Opening, runs, whole}
 use Rattle.document.specs.declared.StartTag.{StartTag}
 use Rattle.document.specs.declared.ClosingTag.{ClosingTag}
 use Rattle.document.specs.declared.Refusal.{Refusal}

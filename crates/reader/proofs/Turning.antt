@@ -1,25 +1,22 @@
 -- A turn of the node loop: what each way of it says.
 -- Assumes nothing.
-use Prim.Native.Nat.{ℕ, zero, suc, ◌+◌, ◌-◌, ◌*◌, ◌≤◌, ◌<◌}
+use Prim.Native.Nat.{ℕ, suc, ◌+◌, ◌-◌, ◌≤◌, ◌<◌}
 use mathlib.Core.Path.{◌≡◌, refl, sym, ◌∙◌, ap}
-use mathlib.Core.List.{List, [], ◌∷◌}
-use mathlib.Core.Bool.{Bool, true, false, not, ◌&&◌}
+use mathlib.Core.List.{List, ◌∷◌}
+use mathlib.Core.Bool.{true}
 use borrow.Author.Rules.{rules}
 use borrow.Author.Tests.{eq-eqb, ne_eqb}
-use native.Mathlib.Numerals.{sub-one}
 use native.Mathlib.Omega.{arith}
 use mir.Syntax.{w64}
 use mir.Val.{Fits}
-use lib.Dec.{eqb}
-use lib.ListN.{length, take, drop, get_or}
-use Rattle.slices.specs.Bytes.{if, bytes}
+use lib.ListN.{length, take, get_or}
 use Rattle.document.specs.Kinds as kinds
 use Rattle.document.specs.Tags.{Shown}
 use Rattle.document.specs.Tokens.{Tag}
 use Rattle.document.specs.Rows.{Tables}
 use Rattle.document.specs.Elements.{kind_of, may_hold}
-use Rattle.document.specs.Reading.{Name, Frame, element, State, reading, accepted, refused, name_of, closed, child, begins}
-use Rattle.document.specs.Outcome.{Lent, lent, name_at, Stands, Bounded, Ready, TagIs, TagFits, Steps, OnwardNext, Leads, Child, Ends, runs, whole, moved}
+use Rattle.document.specs.Reading.{Name, element, State, reading, accepted, closed, child, begins}
+use Rattle.document.specs.Outcome.{Lent, lent, name_at, Stands, Bounded, Ready, TagIs, TagFits, Steps, Child, Ends, runs, whole, moved}
 use Rattle.document.specs.declared.StartTag.{StartTag}
 use Rattle.document.specs.declared.Refusal.{Refusal}
 use Rattle.document.specs.declared.Fill.{Fill}

@@ -1,24 +1,22 @@
 -- Every refusal and every warning of a file has a message, with the document that what follows is handed.
 -- Assumes nothing.
-use Prim.Native.Nat.{ℕ, ◌<◌}
+use Prim.Native.Nat.{ℕ}
 use mathlib.Core.Path.{◌≡◌, refl, sym, ◌∙◌}
-use mathlib.Core.List.{List, [], ◌∷◌}
+use mathlib.Core.List.{List, ◌∷◌}
 use mathlib.Core.Bool.{true}
 use native.Mathlib.Omega.{arith}
 use lib.ListN.{length}
 use Rattle.answers.specs.Text.{Text, text, wrong}
 use Rattle.document.specs.Elements.{among}
 use Rattle.document.specs.Refusals.{bare}
-use Rattle.document.specs.Whole.{Room, verdict_of, Says}
+use Rattle.document.specs.Whole.{verdict_of, Says}
 use Rattle.document.specs.declared.Refusal.{Refusal}
-use Rattle.document.specs.declared.Verdict.{Verdict}
 use Rattle.document.specs.declared.Verdict.TheVariants.{Refused, Accepted}
 use Rattle.document.proofs.Tests.{among_all}
-use Rattle.messages.specs.Message.{message_of, warning_message_of}
-use Rattle.files.specs.Files.{document_of, read_text, read_file, document_left, Reads}
-use Rattle.files.specs.declared.Reading.{Reading}
+use Rattle.messages.specs.Message.{message_of}
+use Rattle.files.specs.Files.{document_of, read_text, read_file, document_left}
 use Rattle.files.proofs.Promises.{read_as_document, nothing_read, document_left_lem, accepted_document, decoding_refused}
-use Rattle.refusals.specs.Told.{told_of, warning_word, FileRefusalsTold, FileWarningsTold}
+use Rattle.refusals.specs.Told.{told_of, FileRefusalsTold, FileWarningsTold}
 use Rattle.refusals.proofs.Telling.{silent, nothing_shown, refusal_told}
 use Rattle.refusals.proofs.Whole.{refusals_told, warnings_told}
 

@@ -1,9 +1,9 @@
 -- A declaration: quotes are passed over whole, brackets are counted.
 -- Assumes nothing.
 use Prim.Native.Nat.{ℕ, suc, pred, ◌+◌, ◌-◌, ◌≤◌, ◌<◌}
-use mathlib.Core.Path.{◌≡◌, refl, sym, ◌∙◌, ap}
-use mathlib.Core.List.{List, [], ◌∷◌}
-use mathlib.Core.Bool.{Bool, true, false, not, ◌&&◌, and-true, and-false}
+use mathlib.Core.Path.{◌≡◌, refl, sym, ◌∙◌}
+use mathlib.Core.List.{List}
+use mathlib.Core.Bool.{Bool, true, false, and-true, and-false}
 use borrow.Author.Rules.{rules}
 use borrow.Author.Tests.{eq-eqb, ne_eqb, not-true, not-false}
 use native.Mathlib.Numerals.{add-one, sub-one}
@@ -14,8 +14,7 @@ use lib.Seq.{drop-cons}
 use Rattle.slices.specs.Bytes.{if, other}
 use Rattle.slices.specs.Run.{Run}
 use Rattle.slices.proofs.Runs.{by_byte, run_past, run_stop}
-use Rattle.scan.specs.Ignorable.{Scans, Mode, bare, quoted, quote, changed, ends, declaration_in}
-use Rattle.scan.specs.declared.Scan.{Scan}
+use Rattle.scan.specs.Ignorable.{Scans, bare, quoted, quote, ends, declaration_in}
 use Rattle.scan.specs.declared.Scan.TheVariants.{Fault, At}
 
 -- the tests of the two functions on bytes

@@ -2,10 +2,10 @@
 -- Assumes nothing.
 use Prim.Native.Nat.{ℕ, zero, suc, ◌+◌, ◌-◌, ◌≤◌, ◌<◌}
 use mathlib.Core.Path.{◌≡◌, refl, sym, ◌∙◌}
-use mathlib.Core.List.{List, [], ◌∷◌}
+use mathlib.Core.List.{List, ◌∷◌}
 use mathlib.Core.Bool.{Bool, true, false}
 use borrow.Author.Rules.{rules}
-use borrow.Author.Tests.{eq-eqb, ne_eqb, eqb-true, not-true, not-false}
+use borrow.Author.Tests.{ne_eqb, eqb-true, not-true, not-false}
 use native.Mathlib.Nat.{add-zero}
 use native.Mathlib.Numerals.{add-one}
 use native.Mathlib.Omega.{arith}
@@ -15,7 +15,7 @@ use lib.Seq.{drop-cons, drop-drop}
 use Rattle.slices.specs.Bytes.{bytes, other, starts}
 use Rattle.slices.specs.Run.{Run}
 use Rattle.slices.proofs.Runs.{run_past, run_stop, starts_fits}
-use Rattle.scan.specs.Ignorable.{Scans, Ignores, Marks, Onward, OnwardPast, bare, seek, declaration_in, declared, markup, further, ignorable_from, ignorable}
+use Rattle.scan.specs.Ignorable.{Scans, Ignores, Marks, Onward, OnwardPast, bare, seek, declaration_in, declared, further, ignorable_from, ignorable}
 use Rattle.scan.specs.declared.Scan.{Scan}
 use Rattle.scan.specs.declared.Scan.TheVariants.{Fault, At}
 use Rattle.scan.specs.declared.Markup.{Markup}

@@ -1,17 +1,16 @@
 -- Files and names added, a list of them, and what is printed.
 -- Assumes nothing.
-use Rattle.std.proofs.Common.{◌≡◌, ℕ, suc, ◌+◌, ◌-◌, ◌<◌, ◌≤◌, Bool, true, false, ltb, List, [], ◌∷◌, ◌++◌, length, take, drop, replicate, sym, refl, ap, ◌∙◌, subst, append_assoc, append-nil, arith, length-append, length-take-le, take_all, take_at, rules, le-ltb, lt-ltb}
+use Rattle.std.proofs.Common.{◌≡◌, ℕ, suc, ◌+◌, ◌-◌, ◌<◌, ◌≤◌, Bool, true, false, ltb, List, ◌∷◌, ◌++◌, length, take, drop, replicate, sym, refl, ap, ◌∙◌, subst, append_assoc, append-nil, arith, length-append, length-take-le, take_all, take_at, rules, le-ltb, lt-ltb}
 use lib.ListN.{get_or-replicate}
-use Rattle.slices.specs.Bytes.{if}
-use Rattle.document.specs.Whole.{Room, verdict_of, rows_left_lem, warnings_left, room_of}
+use Rattle.document.specs.Whole.{Room, verdict_of, rows_left_lem, room_of}
 use Rattle.document.specs.declared.Verdict.{Verdict}
 use Rattle.files.specs.Files.{read_file, Reads}
 use Rattle.files.specs.declared.Reading.{Reading}
 use Rattle.sheets.specs.Sheet.{Outcome, unreadable, refused, Sheet, blank, added, summed, sheet_of}
 use Rattle.sheets.specs.Answer.{outcome_of}
 use Rattle.sheets.specs.Names.{names_of, looked, more, openable, IsNext, Next}
-use Rattle.sheets.specs.Lines.{lines_of, more_line, long_line, printed}
-use Rattle.sheets.specs.Counts.{Bounded, Stands, Adds}
+use Rattle.sheets.specs.Lines.{lines_of, more_line, long_line}
+use Rattle.sheets.specs.Counts.{Stands, Adds}
 use Rattle.sheets.specs.Printed.{Prints}
 use Rattle.sheets.specs.Files.{program_room, program_decoded, document_outcome, file_outcome, name_outcome, Came, AddsFile, AddsName, Sums, PrintsList}
 use Rattle.sheets.specs.declared.names.NextName.{NextName}

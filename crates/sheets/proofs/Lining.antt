@@ -1,6 +1,6 @@
 -- The lines of a sheet, put into a buffer.
 -- Assumes nothing.
-use Rattle.std.proofs.Common.{◌≡◌, ℕ, zero, suc, ◌+◌, ◌-◌, ◌*◌, ◌/◌, ◌%◌, ◌^◌, ◌<◌, ◌≤◌, Bool, true, false, List, [], ◌∷◌, ◌++◌, length, get_or, take, sym, refl, ap, ◌∙◌, append_assoc, append-nil, add-zero, pow-suc, mul-one, add-one, arith, length-take-le, get_or-take, ext_get_or, rules, le-ltb, lt-ltb, eq-eqb, ne_eqb}
+use Rattle.std.proofs.Common.{◌≡◌, ℕ, zero, suc, ◌+◌, ◌-◌, ◌*◌, ◌/◌, ◌%◌, ◌^◌, ◌<◌, ◌≤◌, Bool, true, false, List, ◌∷◌, ◌++◌, length, get_or, take, sym, refl, ap, ◌∙◌, append_assoc, append-nil, add-zero, pow-suc, mul-one, add-one, arith, length-take-le, get_or-take, ext_get_or, rules, le-ltb, lt-ltb, eq-eqb, ne_eqb}
 use native.Mathlib.Nat.{one-le-pow, pow-le-pow_right}
 use native.Mathlib.Decide.{dec_lt}
 use Rattle.io.specs.Digits.{hex_digit_ascii, last_digits, IsDigitCount}
@@ -8,7 +8,6 @@ use Rattle.tables.specs.Table.{Rep, Put}
 use Rattle.tables.proofs.Tables.{whole_one, empty_stands}
 use Rattle.answers.specs.Puts.{Puts}
 use Rattle.answers.proofs.Putting.{puts_none, puts_one, puts_then}
-use Rattle.slices.specs.Bytes.{if}
 use Rattle.sheets.specs.Sheet.{Sheet}
 use Rattle.sheets.specs.Lines.{digits_of, decimal, spaced, count_line, count_lines, lines_by, files_line, lines_of, more_line, long_line}
 use Rattle.sheets.specs.Counts.{Stands}

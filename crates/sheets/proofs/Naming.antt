@@ -1,13 +1,12 @@
 -- The next name of a list, and names that are opened.
 -- Assumes nothing.
-use Rattle.std.proofs.Common.{◌≡◌, ℕ, suc, ◌+◌, ◌-◌, ◌<◌, ◌≤◌, Bool, true, false, ◌&&◌, eqb, List, [], ◌∷◌, length, get_or, take, drop, sym, refl, ap, ◌∙◌, subst, add-one, arith, length-drop, drop_of_length-le, get_or-drop, drop-cons, rules, le-leb}
+use Rattle.std.proofs.Common.{◌≡◌, ℕ, suc, ◌+◌, ◌-◌, ◌<◌, ◌≤◌, Bool, true, false, eqb, List, ◌∷◌, length, get_or, take, drop, sym, refl, ap, ◌∙◌, add-one, arith, length-drop, drop_of_length-le, drop-cons, rules, le-leb}
 use borrow.Author.Tests.{not-false, lt-leb}
 use Rattle.slices.specs.Bytes.{if, other, span, past, all, empty}
 use Rattle.slices.specs.Run.{Run}
 use Rattle.slices.proofs.Runs.{span_end}
 use Rattle.slices.proofs.Ends.{run_length, run_span, run_rest, run_some}
-use Rattle.sheets.specs.Names.{later_lines, lines_of, named, names_of, openable, Next}
-use Rattle.sheets.specs.declared.names.NextName.{NextName}
+use Rattle.sheets.specs.Names.{later_lines, named, names_of, openable, Next}
 use Rattle.sheets.specs.declared.names.NextName.TheVariants.{Nothing, At}
 
 -- ---- lines

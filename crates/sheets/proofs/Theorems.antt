@@ -1,13 +1,11 @@
 -- The theorems of Statement.
 -- Assumes nothing.
-use Rattle.std.proofs.Common.{◌≡◌, ℕ, zero, suc, ◌+◌, ◌-◌, ◌<◌, ◌≤◌, Bool, true, false, eqb, List, [], ◌∷◌, ◌++◌, map, length, drop, replicate, sym, refl, ap, ◌∙◌, append_assoc, arith, length-drop, drop_at, eq-eqb, ne_eqb}
+use Rattle.std.proofs.Common.{◌≡◌, ℕ, zero, suc, ◌+◌, ◌-◌, ◌<◌, ◌≤◌, List, ◌∷◌, ◌++◌, map, length, drop, replicate, refl, ap, ◌∙◌, append_assoc, arith, length-drop, drop_at, eq-eqb, ne_eqb}
 use native.Mathlib.Decide.{dec_lt}
-use Rattle.slices.specs.Bytes.{if}
 use Rattle.document.specs.Tags.{Shown}
-use Rattle.document.specs.Rows.{Row, Warning, Tables, row_words_lem, row_text, words_from, warned}
+use Rattle.document.specs.Rows.{Row, Warning, row_words_lem, row_text, words_from, warned}
 use Rattle.document.specs.Reading as reading
-use Rattle.document.specs.Whole.{Room, verdict_of, rows_left_lem, warnings_left}
-use Rattle.document.specs.declared.Refusal.{Refusal}
+use Rattle.document.specs.Whole.{verdict_of, rows_left_lem, warnings_left}
 use Rattle.rows.proofs.Words.{length_row_words}
 use Rattle.sheets.specs.Sheet.{Outcome, unreadable, refused, accepted, occurs, Sheet, blank, added, summed, sheet_of}
 use Rattle.sheets.specs.Answer.{firsts, outcome_of}

@@ -1,12 +1,12 @@
 -- What holds of every sheet, and what a file's outcome is in the terms of what was read.
 -- Assumes nothing.
-use Rattle.std.specs.Prelude.{◌≡◌, ℕ, zero, suc, ◌+◌, ◌<◌, List, [], ◌∷◌, ◌++◌, map, length}
+use Rattle.std.specs.Prelude.{◌≡◌, ℕ, zero, suc, ◌+◌, ◌<◌, List, ◌∷◌, ◌++◌, map, length}
 use Rattle.document.specs.Tags.{Shown}
 use Rattle.document.specs.Rows.{Row, Warning, Tables}
 use Rattle.document.specs.Reading as reading
 use Rattle.document.specs.declared.Refusal.{Refusal}
 use Rattle.files.specs.Files.{read_file}
-use Rattle.sheets.specs.Sheet.{Outcome, unreadable, refused, accepted, Sheet, sheet_of}
+use Rattle.sheets.specs.Sheet.{Outcome, unreadable, refused, accepted, sheet_of}
 use Rattle.sheets.specs.Files.{program_room, program_decoded, document_outcome}
 
 -- the three numbers of the first line add up to the names looked at

@@ -1,8 +1,8 @@
 -- A docstring: its trimmed content in the rows, and the ways of its element.
 -- Assumes nothing.
-use Prim.Native.Nat.{ℕ, suc, ◌+◌, ◌-◌, ◌*◌, ◌≤◌, ◌<◌}
+use Prim.Native.Nat.{ℕ, ◌+◌, ◌-◌, ◌≤◌, ◌<◌}
 use mathlib.Core.Path.{◌≡◌, refl, sym, ◌∙◌, ap}
-use mathlib.Core.List.{List, [], ◌∷◌}
+use mathlib.Core.List.{List, ◌∷◌}
 use mathlib.Core.Bool.{Bool, true, false}
 use borrow.Author.Rules.{rules}
 use borrow.Author.Tests.{lt-ltb, le-ltb}
@@ -22,8 +22,8 @@ use Rattle.document.specs.Tags.{Shown}
 use Rattle.document.specs.Tokens.{Tag}
 use Rattle.slices.specs.Bytes.{if}
 use Rattle.document.specs.Rows.{Tables, documented}
-use Rattle.document.specs.Reading.{Name, Frame, State, reading, refused, closed, passing, captures, captured, docstring_in}
-use Rattle.document.specs.Outcome.{lent, name_at, Stands, Bounded, Ready, TagIs, Passes, Captures, runs, whole, moved}
+use Rattle.document.specs.Reading.{Name, Frame, reading, closed, passing, captures, captured, docstring_in}
+use Rattle.document.specs.Outcome.{name_at, Bounded, Ready, TagIs, Passes, Captures, runs, whole, moved}
 use Rattle.document.specs.declared.Refusal.{Refusal}
 use Rattle.document.specs.declared.StartTag.{StartTag}
 use Rattle.document.specs.declared.Fill.{Fill}

@@ -2,20 +2,20 @@
 -- Assumes nothing.
 use Prim.Native.Nat.{ℕ, suc, ◌+◌, ◌-◌, ◌≤◌, ◌<◌}
 use mathlib.Core.Path.{◌≡◌, refl, sym, ◌∙◌, ap}
-use mathlib.Core.List.{List, [], ◌∷◌}
-use mathlib.Core.Bool.{Bool, true, false}
+use mathlib.Core.List.{List, ◌∷◌}
+use mathlib.Core.Bool.{true, false}
 use borrow.Author.Rules.{rules}
 use borrow.Author.Tests.{le-leb, lt-leb}
 use native.Mathlib.Numerals.{add-one}
 use native.Mathlib.Omega.{arith}
 use lib.Dec.{leb}
-use lib.ListN.{length, take, drop, get_or}
+use lib.ListN.{length}
 use Rattle.document.specs.Tags.{Shown}
 use Rattle.document.specs.Tokens.{Tag}
 use Rattle.document.specs.Rows.{Tables}
 use Rattle.document.specs.Refusals.{bare}
-use Rattle.document.specs.Reading.{Name, Purpose, Frame, State, reading, refused, passing, shut, started}
-use Rattle.document.specs.Outcome.{name_at, Steps, OnwardNext, Leads, Passes, OnwardPassed, Passing, TagFits, TagIs, NameIs, runs, whole}
+use Rattle.document.specs.Reading.{Name, Purpose, Frame, reading, refused, passing, started}
+use Rattle.document.specs.Outcome.{name_at, Steps, Passes, TagFits, TagIs, runs, whole}
 use Rattle.document.specs.declared.Refusal.{Refusal}
 use Rattle.document.specs.declared.StartTag.{StartTag}
 use Rattle.document.specs.declared.Next.{Next}

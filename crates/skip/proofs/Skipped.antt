@@ -1,17 +1,17 @@
 -- An element that nobody asked for: its warning, and the ways on from there.
 -- Assumes nothing.
-use Prim.Native.Nat.{ℕ, suc, ◌+◌, ◌*◌, ◌≤◌, ◌<◌}
+use Prim.Native.Nat.{ℕ, ◌≤◌}
 use mathlib.Core.Path.{◌≡◌, refl, sym, ◌∙◌, ap}
-use mathlib.Core.List.{List, [], ◌∷◌}
-use mathlib.Core.Bool.{Bool, true, false}
+use mathlib.Core.List.{List, ◌∷◌}
+use mathlib.Core.Bool.{true, false}
 use borrow.Author.Rules.{rules}
 use native.Mathlib.Omega.{arith}
-use lib.ListN.{length, take, drop}
+use lib.ListN.{length, take}
 use lib.Seq.{take_all}
 use Rattle.document.specs.Tags.{Shown}
 use Rattle.document.specs.Tokens.{Tag}
 use Rattle.document.specs.Rows.{Tables}
-use Rattle.document.specs.Reading.{Name, Frame, State, reading, refused, closed, passing, ignored, with_warning, unsupported}
+use Rattle.document.specs.Reading.{Name, Frame, reading, closed, passing, ignored, with_warning, unsupported}
 use Rattle.document.specs.Outcome.{lent, name_at, Stands, Bounded, Ready, TagIs, Passes, Ignores, runs, whole, moved}
 use Rattle.document.specs.declared.Refusal.{Refusal}
 use Rattle.document.specs.declared.StartTag.{StartTag}

@@ -1,16 +1,16 @@
 -- Parts of a buffer whose beginning is known to be UTF-8.
 -- Assumes nothing.
 use Prim.Native.Nat.{ℕ, zero, suc, ◌+◌, ◌-◌, ◌≤◌, ◌<◌}
-use mathlib.Core.Path.{◌≡◌, refl, sym, ap, ◌∙◌}
-use mathlib.Core.List.{List, [], ◌∷◌}
-use mathlib.Core.Bool.{Bool, true, false, not, ◌||◌}
+use mathlib.Core.Path.{◌≡◌, refl, sym, ◌∙◌}
+use mathlib.Core.List.{List, ◌∷◌}
+use mathlib.Core.Bool.{Bool, true, false, not}
 use borrow.Author.Rules.{rules}
-use borrow.Author.Tests.{eq-eqb, ne_eqb, eqb-true, eqb-false, lt-ltb, le-ltb, not-true, not-false}
+use borrow.Author.Tests.{eq-eqb, ne_eqb, lt-ltb, le-ltb, not-true, not-false}
 use native.Mathlib.Omega.{arith}
 use lib.Dec.{eqb, ltb}
 use lib.ListN.{length, take, drop, get_or, length-drop}
 use lib.Seq.{length-take-le, drop-cons}
-use Rattle.utf8.specs.WellFormed.{within, sequence, ill_formed, well_formed}
+use Rattle.utf8.specs.WellFormed.{sequence, ill_formed, well_formed}
 use Rattle.utf8.specs.Sequence.{continuation}
 use Rattle.utf8.specs.Trim.{Start}
 use Rattle.utf8.proofs.Sequences.{below, within_true, within_false, shape}

@@ -2,7 +2,7 @@
 -- Assumes nothing.
 use Prim.Native.Nat.{ℕ, zero, suc, ◌+◌, ◌*◌, ◌-◌, ◌≤◌, ◌<◌}
 use mathlib.Core.Path.{◌≡◌, refl, sym, ap, ◌∙◌}
-use mathlib.Core.List.{List, [], ◌∷◌, ◌++◌, append-nil}
+use mathlib.Core.List.{List, ◌∷◌, ◌++◌, append-nil}
 use mathlib.Core.Bool.{Bool, true, false, not, and-false}
 use borrow.Author.Rules.{rules}
 use borrow.Author.Tests.{ne_eqb, eqb-true, eqb-false}
@@ -16,10 +16,10 @@ use Rattle.names.specs.Signature.{basic_signature}
 use Rattle.tables.specs.Triple.{shown}
 use Rattle.tables.specs.declared.Triple.{Triple}
 use Rattle.document.specs.Kinds as kinds
-use Rattle.items.specs.Words.{RowWords, Word, TripleIs, triple_at, row_of, rows_of, is_child}
+use Rattle.items.specs.Words.{RowWords, Word, TripleIs, row_of, rows_of, is_child}
 use Rattle.items.specs.Sound.{members_of, any_member, keyed, counted}
 use Rattle.items.proofs.Words.{word_in}
-use Rattle.soundness.specs.Outcome.{tally_of, added, More, Tallied, Zeros, counted_by, ByTally, Counted}
+use Rattle.soundness.specs.Outcome.{tally_of, added, More, Tallied, Zeros, ByTally, Counted}
 
 -- ---- one member more
 

@@ -2,7 +2,7 @@
 -- Assumes nothing.
 use Prim.Native.Nat.{ℕ, suc, ◌-◌, ◌≤◌, ◌<◌, ◌+◌, ◌^◌}
 use mathlib.Core.Path.{◌≡◌, refl, sym, ◌∙◌, ap}
-use mathlib.Core.List.{List, [], ◌∷◌}
+use mathlib.Core.List.{List, ◌∷◌}
 use mathlib.Core.Bool.{Bool, true, false}
 use borrow.Author.Rules.{rules}
 use borrow.Author.Tests.{eqb-false}
@@ -11,7 +11,7 @@ use native.Mathlib.Omega.{arith}
 use lib.Dec.{eqb}
 use lib.ListN.{length, take, drop}
 use Rattle.slices.specs.Bytes.{if, same, span}
-use Rattle.slices.proofs.Runs.{if_false, same_short}
+use Rattle.slices.proofs.Runs.{same_short}
 use Rattle.slices.proofs.Ends.{run_span}
 use Rattle.scan.specs.Classes.{name_byte}
 use Rattle.scan.specs.Colons.{colons_from, Scanned}

@@ -1,16 +1,16 @@
 -- Closing tags, and the end of a start tag.
 -- Assumes nothing.
 use Prim.Native.Nat.{ℕ, suc, ◌+◌, ◌-◌, ◌≤◌, ◌<◌}
-use mathlib.Core.Path.{◌≡◌, refl, ap, ◌∙◌}
-use mathlib.Core.List.{List, [], ◌∷◌}
-use mathlib.Core.Bool.{Bool, true, false}
+use mathlib.Core.Path.{◌≡◌, refl, ◌∙◌}
+use mathlib.Core.List.{List}
+use mathlib.Core.Bool.{true, false}
 use borrow.Author.Rules.{rules}
 use borrow.Author.Tests.{ne_eqb}
 use native.Mathlib.Numerals.{add-one}
 use native.Mathlib.Omega.{arith}
 use lib.ListN.{length, take, drop, get_or, drop_of_length-le}
 use lib.Seq.{drop-cons}
-use Rattle.slices.specs.Bytes.{if, span, past, empty}
+use Rattle.slices.specs.Bytes.{span, past}
 use Rattle.slices.specs.Run.{Run}
 use Rattle.slices.proofs.Ends.{run_length, run_span, run_rest, run_empty, run_some}
 use Rattle.scan.specs.Classes.{white, name_byte}

@@ -13,7 +13,7 @@ use Rattle.slices.specs.Bytes.{same}
 use Rattle.document.specs.Tokens.{start, close, fault, end}
 use Rattle.document.specs.Refusals.{showing, showing_both}
 use Rattle.document.specs.Reading as reading
-use Rattle.document.specs.Outcome.{whole, name_at, Tokenises, Steps}
+use Rattle.document.specs.Outcome.{whole, Tokenises, Steps}
 use Rattle.document.specs.declared.Excerpt.{Excerpt}
 use Rattle.document.specs.declared.Refusal.{Refusal}
 use Rattle.document.specs.declared.ClosingTag.{ClosingTag}

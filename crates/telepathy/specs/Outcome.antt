@@ -1,6 +1,6 @@
 -- What the functions say: a definition's kind and its parts, why it is dropped, and how a run goes on in it.
 -- Assumes nothing.
-use Rattle.std.specs.Prelude.{ℕ, ◌≤◌, ◌<◌, ◌≡◌, List, ◌∷◌, Bool, true, false, not, ◌||◌, eqb, take, drop}
+use Rattle.std.specs.Prelude.{ℕ, ◌≤◌, ◌<◌, ◌≡◌, List, ◌∷◌, Bool, true, false, not, ◌||◌, eqb, take}
 use Rattle.slices.specs.Bytes.{if, bytes}
 use Rattle.names.specs.Signature.{basic_signature}
 use Rattle.document.specs.Kinds as kinds

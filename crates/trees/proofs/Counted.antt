@@ -1,18 +1,18 @@
 -- Laws of how many rows stand in a row: no more than the rows after it.
 -- Assumes nothing.
-use Prim.Native.Nat.{ℕ, zero, suc, ◌+◌, ◌-◌, ◌*◌, ◌≤◌, ◌<◌}
+use Prim.Native.Nat.{ℕ, zero, suc, ◌+◌, ◌-◌, ◌≤◌, ◌<◌}
 use native.Mathlib.Omega.{arith}
 use mathlib.Core.Path.{◌≡◌, refl, ap, sym, subst, ◌∙◌}
-use mathlib.Core.List.{List, [], ◌∷◌, ◌++◌, map}
-use mathlib.Core.Bool.{Bool, true, false, ◌&&◌, and-false}
-use borrow.Author.Tests.{eq-eqb, ne_eqb, eqb-true, eqb-false}
+use mathlib.Core.List.{List, ◌∷◌, map}
+use mathlib.Core.Bool.{Bool, true, false, ◌&&◌}
+use borrow.Author.Tests.{ne_eqb, eqb-true}
 use lib.Dec.{T, eqb}
 use lib.ListN.{length, drop}
 use Rattle.slices.specs.Bytes.{if}
 use Rattle.document.specs.Elements.{among}
 use Rattle.items.specs.Words.{rows_of}
 use Rattle.items.proofs.Rows.{length_rows_of}
-use Rattle.trees.specs.Trees.{Tree, tree, Forest, bare, more, joined, size, sizes}
+use Rattle.trees.specs.Trees.{Forest, joined, sizes}
 use Rattle.trees.specs.Shape.{Link, link_of, links_of, forest, grouped, chosen, stands, under, types, args, members, annotations, nodes}
 use Rattle.trees.proofs.Zipper.{sizes_joined}
 

@@ -1,31 +1,28 @@
 -- Laws of the entry: what sound rows are known to have, which row is written, and what is answered.
 -- Assumes nothing.
-use Prim.Native.Nat.{ℕ, zero, suc, ◌+◌, ◌-◌, ◌*◌, ◌≤◌, ◌<◌, ◌^◌}
+use Prim.Native.Nat.{ℕ, zero, suc, ◌+◌, ◌-◌, ◌*◌, ◌≤◌, ◌<◌}
 use native.Mathlib.Omega.{arith}
 use native.Mathlib.Nat.{add-zero}
 use mathlib.Core.Path.{◌≡◌, refl, ap, sym, subst, ◌∙◌}
-use mathlib.Core.List.{List, [], ◌∷◌, ◌++◌}
-use mathlib.Core.Option.{Option, none, some}
-use mathlib.Core.Bool.{Bool, true, false, not, ◌&&◌, ◌||◌}
+use mathlib.Core.List.{List, ◌∷◌}
+use mathlib.Core.Bool.{Bool, true, false, not, ◌&&◌}
 use borrow.Author.Rules.{rules}
-use borrow.Author.Tests.{eq-eqb, ne_eqb, eqb-true, lt-ltb, le-ltb, ltb-true, leb-true, not-true, not-false}
+use borrow.Author.Tests.{eq-eqb, ne_eqb, lt-ltb, le-ltb, ltb-true, leb-true, not-true, not-false}
 use lib.Dec.{T, eqb, ltb, leb}
 use lib.ListN.{length, drop, get_or}
 use Rattle.slices.specs.Bytes.{if}
-use Rattle.tables.specs.Table.{Rep}
-use Rattle.answers.specs.Text.{Text, text, wrong, roomy, Says, Finishes}
+use Rattle.answers.specs.Text.{text, wrong, Says, Finishes}
 use Rattle.answers.specs.declared.TextAnswer.{TextAnswer}
 use Rattle.document.specs.Kinds as kinds
-use Rattle.document.specs.Elements.{among, held_by_lem, may_hold}
-use Rattle.items.specs.Words.{Word, word_at, triple_at, row_of, rows_of, RowWords}
-use Rattle.items.specs.Sound.{kind_at, placed, good_triple, doc_use, any_text, sound, unsound, soundness}
+use Rattle.document.specs.Elements.{among, may_hold}
+use Rattle.items.specs.Words.{Word, triple_at, row_of, rows_of, RowWords}
+use Rattle.items.specs.Sound.{kind_at, placed, good_triple, doc_use, any_text, sound, soundness}
 use Rattle.items.proofs.Rows.{row_word, kind_at_lem, both_true, row_parts, RowIs, sound_claimed, sound_held, sound_row_lem}
 use Rattle.soundness.specs.Outcome.{Judges}
 use Rattle.soundness.specs.declared.Soundness.{Soundness}
 use Rattle.soundness.proofs.Rows.{judged_sound, judged_unsound}
-use Rattle.trees.specs.Shape.{shape_at}
-use Rattle.trees.specs.Written.{element_at, tree_at, written_tree}
-use Rattle.trees.specs.Writing.{too_deep, tree_written, is_writable, tree_writing, WritesTree}
+use Rattle.trees.specs.Written.{tree_at, written_tree}
+use Rattle.trees.specs.Writing.{is_writable, tree_writing, WritesTree}
 use Rattle.trees.specs.Steps.{group_kinds, group_of, Held}
 use Rattle.trees.specs.declared.walk.Walked.{Walked}
 use Rattle.trees.specs.declared.walk.Walked.TheVariants.{Deep, Put}

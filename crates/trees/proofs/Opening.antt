@@ -3,37 +3,35 @@
 use Prim.Native.Nat.{ℕ, zero, suc, ◌+◌, ◌-◌, ◌*◌, ◌≤◌, ◌<◌, ◌^◌}
 use native.Mathlib.Omega.{arith}
 use mathlib.Core.Path.{◌≡◌, refl, ap, sym, subst, ◌∙◌}
-use mathlib.Core.List.{List, [], ◌∷◌, ◌++◌, map, append_assoc, append-nil}
+use mathlib.Core.List.{List, ◌∷◌, ◌++◌, append_assoc}
 use mathlib.Core.Option.{Option, none, some}
 use mathlib.Core.Bool.{Bool, true, false, not, ◌&&◌, ◌||◌, and-false}
 use borrow.Author.Rules.{rules}
-use borrow.Author.Tests.{eq-eqb, ne_eqb, eqb-true, eqb-false, leb-true, leb-false, le-leb, lt-leb, not-true, not-false}
+use borrow.Author.Tests.{eq-eqb, ne_eqb, eqb-true, leb-true, leb-false, le-leb, lt-leb, not-true, not-false}
 use native.Mathlib.Numerals.{add-one}
 use lib.Dec.{T, eqb, leb}
-use lib.ListN.{length, take, drop, get_or, length-drop}
+use lib.ListN.{length, take, drop, length-drop}
 use Rattle.slices.specs.Bytes.{if, bytes, empty}
-use Rattle.scan.specs.Classes.{Classes}
 use Rattle.utf8.specs.WellFormed.{well_formed}
 use Rattle.tables.specs.Triple.{inside, shown}
 use Rattle.tables.specs.declared.Triple.{Triple}
 use Rattle.answers.specs.Puts.{Puts}
 use Rattle.answers.proofs.Putting.{puts_then}
 use Rattle.document.specs.Kinds as kinds
-use Rattle.document.specs.Rows.{Doc}
 use Rattle.items.specs.View.{over}
 use Rattle.items.specs.Words.{Word, word_at, triple_at, absent, docstring_by}
 use Rattle.items.specs.Sound.{Use, good_triple, doc_use, any_text, in_document}
 use Rattle.items.specs.Written.{Pair, pairs, ending, tag, closing_tag, concat, element}
-use Rattle.items.proofs.Rows.{row_word, both_true}
-use Rattle.trees.specs.Trees.{Tree, tree, Forest, bare, more, map_tree, map_forest, sizes}
+use Rattle.items.proofs.Rows.{row_word}
+use Rattle.trees.specs.Trees.{tree, Forest, bare, more, map_tree, map_forest}
 use Rattle.trees.specs.Shape.{links_of, under}
 use Rattle.trees.specs.Written.{Element, docstring, element_at, tag_of, attributes, docstrings, written_tree, written_forest}
-use Rattle.trees.specs.Writing.{is_open, is_open_node, first, too_deep, too_deeps}
-use Rattle.trees.specs.Steps.{Held, Stands, Sought, HasChild, Puttable, StartPut, DocstringPut}
+use Rattle.trees.specs.Writing.{is_open, is_open_node, too_deep, too_deeps}
+use Rattle.trees.specs.Steps.{Held, Sought, HasChild, Puttable, StartPut, DocstringPut}
 use Rattle.trees.specs.declared.children.Standing.{Standing}
 use Rattle.trees.specs.declared.walk.Start.{Start}
 use Rattle.trees.specs.declared.walk.Start.TheVariants.{Closed, Opened, TooDeep}
-use Rattle.trees.specs.Walk.{bytes_of, bytes_in, inside_of, OpenIs, IsDeep, AmongOpen, IsAround, Resumes, Openable, OpenedPut, DeepNode, Opens, Beginning, ClosedPut, OpenPut, DeepAt, Begins}
+use Rattle.trees.specs.Walk.{bytes_of, bytes_in, inside_of, OpenIs, IsDeep, AmongOpen, IsAround, Resumes, Openable, Opens, Beginning, Begins}
 use Rattle.trees.proofs.Zipper.{some_tree, under_none, under_some}
 
 -- ---- docstrings

@@ -3,9 +3,9 @@
 use Prim.Native.Nat.{ℕ, zero, suc, ◌+◌, ◌-◌, ◌*◌, ◌≤◌, ◌<◌, ◌^◌}
 use native.Mathlib.Omega.{arith}
 use mathlib.Core.Path.{◌≡◌, refl, ap, sym, subst, ◌∙◌}
-use mathlib.Core.List.{List, [], ◌∷◌, ◌++◌, append_assoc, append-nil}
+use mathlib.Core.List.{List, ◌∷◌, ◌++◌, append_assoc, append-nil}
 use mathlib.Core.Option.{Option, none, some}
-use mathlib.Core.Bool.{Bool, true, false, not, ◌&&◌, ◌||◌}
+use mathlib.Core.Bool.{Bool, true, false, ◌&&◌, ◌||◌}
 use borrow.Author.Rules.{rules}
 use borrow.Author.Tests.{ne_eqb, eqb-true, leb-true}
 use lib.Dec.{eqb, leb}
@@ -27,7 +27,7 @@ use Rattle.items.specs.Sound.{Use, good_triple, doc_use, any_text, in_document, 
 use Rattle.items.specs.Written.{Pair, pair, pairs, tag, closing_tag, concat}
 use Rattle.items.proofs.Rows.{row_word}
 use Rattle.items.proofs.Words.{word_in}
-use Rattle.trees.specs.Written.{docstring, tag_of, given, name_key, value_key, tp_key, word_pairs, attributes, docstrings}
+use Rattle.trees.specs.Written.{docstring, tag_of, given, name_key, value_key, tp_key, word_pairs, docstrings}
 use Rattle.trees.specs.Steps.{Puttable, StartPut, DocstringPut, ClosePut, PartIn, PartOf, tag_texts, key_texts, word_texts, keyed, CountFits, PartPut, NamePut, RowHeld, GivenHeld, GivenPut, shown_at, AttributePut, NamedPut, AttributesPut, TaggedPut, WordHeld, WordPut}
 use Rattle.trees.specs.declared.elements.Part.{Part}
 

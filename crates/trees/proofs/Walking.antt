@@ -2,13 +2,12 @@
 -- Assumes nothing.
 use Prim.Native.Nat.{ℕ, zero, suc, ◌+◌, ◌-◌, ◌*◌, ◌≤◌, ◌<◌, ◌^◌}
 use native.Mathlib.Omega.{arith}
-use native.Mathlib.Numerals.{add-one}
 use mathlib.Core.Path.{◌≡◌, refl, ap, sym, subst, ◌∙◌}
-use mathlib.Core.List.{List, [], ◌∷◌, ◌++◌, append_assoc, append-nil}
+use mathlib.Core.List.{List, ◌++◌, append_assoc, append-nil}
 use mathlib.Core.Option.{Option, none, some}
-use mathlib.Core.Bool.{Bool, true, false, ◌&&◌}
+use mathlib.Core.Bool.{Bool, true, false}
 use borrow.Author.Rules.{rules}
-use borrow.Author.Tests.{eq-eqb, ne_eqb, eqb-true, eqb-false}
+use borrow.Author.Tests.{eq-eqb, eqb-true}
 use lib.Dec.{T, eqb}
 use lib.ListN.{length}
 use Rattle.slices.specs.Bytes.{if}
@@ -16,17 +15,16 @@ use Rattle.utf8.proofs.Sequences.{below}
 use Rattle.tables.specs.Table.{Rep}
 use Rattle.tables.proofs.Tables.{empty_stands}
 use Rattle.scan.specs.Classes.{Classes}
-use Rattle.answers.specs.Puts.{Puts}
 use Rattle.document.specs.Kinds as kinds
 use Rattle.document.specs.Elements.{among}
 use Rattle.items.specs.Words.{Word, word_at}
 use Rattle.items.specs.Written.{closing_tag}
 use Rattle.items.proofs.Rows.{both_true}
-use Rattle.trees.specs.Trees.{Tree, tree, Forest, bare, more, sizes}
+use Rattle.trees.specs.Trees.{tree, more, sizes}
 use Rattle.trees.specs.Shape.{links_of, under, shape_at, types, args, members, annotations, nodes}
 use Rattle.trees.specs.Written.{element_at, tree_at, tag_of, written_tree}
-use Rattle.trees.specs.Writing.{is_open, first, too_deep, too_deeps}
-use Rattle.trees.specs.Steps.{group_kinds, group_of, Held, Stands, Sought, NextAt, NoNext, Next, ClosePut, child_in}
+use Rattle.trees.specs.Writing.{first, too_deep, too_deeps}
+use Rattle.trees.specs.Steps.{group_kinds, group_of, Held, Stands, Sought, NextAt, NoNext, Next, ClosePut}
 use Rattle.trees.specs.declared.children.Found.{Found}
 use Rattle.trees.specs.declared.children.Found.TheVariants.{At, Nothing}
 use Rattle.trees.specs.declared.children.Standing.{Standing}
@@ -37,7 +35,7 @@ use Rattle.trees.specs.declared.walk.Turn.{Turn}
 use Rattle.trees.specs.declared.walk.Turn.TheVariants.{On, End}
 use Rattle.trees.specs.declared.walk.Start.{Start}
 use Rattle.trees.specs.declared.walk.Start.TheVariants.{Closed, Opened, TooDeep}
-use Rattle.trees.specs.Walk.{rest, bytes_of, bytes_in, inside_of, AmongOpen, IsAround, Resumes, Beginning, ClosedPut, OpenPut, DeepAt, Begins, Above, at_top, up, Walking, TopOpen, AllPut, DeepRow, Walks, Goes, Turns}
+use Rattle.trees.specs.Walk.{rest, bytes_of, bytes_in, inside_of, AmongOpen, IsAround, Resumes, Beginning, Begins, Above, at_top, up, Walking, TopOpen, Walks, Turns}
 use Rattle.trees.proofs.Zipper.{rest_all_on, rest_next, rest_next_on, rest_later, rest_none, rest_pass}
 use Rattle.trees.proofs.Counted.{only, under_most}
 use Rattle.trees.proofs.Opening.{closed_shallow, open_deep, open_shallow}

@@ -4,18 +4,17 @@ use Prim.Native.Nat.{ℕ, zero, suc, ◌+◌, ◌-◌, ◌*◌, ◌≤◌, ◌<�
 use native.Mathlib.Omega.{arith}
 use native.Mathlib.Numerals.{add-one}
 use mathlib.Core.Path.{◌≡◌, refl, ap, sym, subst, ◌∙◌}
-use mathlib.Core.List.{List, [], ◌∷◌, ◌++◌, map}
-use mathlib.Core.Bool.{Bool, true, false, ◌&&◌, and-false}
-use borrow.Author.Tests.{eq-eqb, ne_eqb, eqb-true, eqb-false}
-use lib.Dec.{T, eqb}
-use lib.ListN.{length, drop, get_or, drop_of_length-le}
-use Rattle.slices.specs.Bytes.{if}
+use mathlib.Core.List.{List, ◌∷◌, map}
+use mathlib.Core.Bool.{Bool, true, false, and-false}
+use borrow.Author.Tests.{eq-eqb, ne_eqb}
+use lib.Dec.{T}
+use lib.ListN.{drop}
 use Rattle.document.specs.Elements.{among}
-use Rattle.items.specs.Words.{RowWords, row_of, rows_of, word_at}
-use Rattle.items.proofs.Rows.{row-at, row_word, rows_past, length_rows_of, both_true}
-use Rattle.trees.specs.Trees.{Tree, tree, Forest, bare, more, joined, size, sizes}
-use Rattle.trees.specs.Shape.{Link, link_of, links_of, forest, grouped, chosen, stands, under, types, args, members, annotations, nodes}
-use Rattle.trees.specs.Steps.{group_kinds, group_of, child_in, Held, NextAt, NoNext, HasChild}
+use Rattle.items.specs.Words.{row_of, rows_of, word_at}
+use Rattle.items.proofs.Rows.{row-at, row_word, rows_past}
+use Rattle.trees.specs.Trees.{tree, Forest, bare, more, joined, sizes}
+use Rattle.trees.specs.Shape.{link_of, links_of, forest, chosen, stands, under}
+use Rattle.trees.specs.Steps.{group_kinds, group_of, child_in, NextAt, NoNext, HasChild}
 use Rattle.trees.specs.Walk.{seek, later, rest}
 
 -- ---- forests

@@ -1,6 +1,6 @@
 -- Trees: something, and the trees that stand in it, in order.
 -- Assumes nothing.
-use Rattle.std.specs.Prelude.{ℕ, zero, suc, ◌+◌}
+use Rattle.std.specs.Prelude.{ℕ, suc, ◌+◌}
 
 mutual
   pub data Tree (A : Type 0) : Type 0 where

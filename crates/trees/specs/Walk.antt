@@ -1,6 +1,6 @@
 -- What the functions that walk over a tree need and say: d is the document, x the text, ws the words of the rows, of which n are claimed.
 -- Assumes nothing.
-use Rattle.std.specs.Prelude.{ℕ, zero, suc, ◌+◌, ◌-◌, ◌*◌, ◌≤◌, ◌<◌, ◌^◌, ◌≡◌, List, [], ◌∷◌, ◌++◌, Bool, true, false, eqb, length, drop}
+use Rattle.std.specs.Prelude.{ℕ, zero, suc, ◌+◌, ◌-◌, ◌*◌, ◌≤◌, ◌<◌, ◌^◌, ◌≡◌, List, ◌++◌, Bool, true, false, eqb, length, drop}
 use Rattle.std.proofs.Math.Option.{Option, none, some}
 use Rattle.slices.specs.Bytes.{if, bytes}
 use Rattle.tables.specs.Table.{Rep}
@@ -11,10 +11,10 @@ use Rattle.answers.specs.declared.TextAnswer.{TextAnswer}
 use Rattle.document.specs.Kinds as kinds
 use Rattle.document.specs.Elements.{among}
 use Rattle.items.specs.Words.{word_at}
-use Rattle.items.specs.Written.{pairs, closing_tag, concat}
-use Rattle.trees.specs.Trees.{Tree, tree, Forest, bare, more, joined, map_tree, map_forest, size, sizes}
+use Rattle.items.specs.Written.{closing_tag, concat}
+use Rattle.trees.specs.Trees.{Tree, tree, Forest, bare, joined, map_tree, map_forest, sizes}
 use Rattle.trees.specs.Shape.{Link, links_of, forest, under, shape_at}
-use Rattle.trees.specs.Written.{element_at, tree_at, tag_of, attributes, docstrings, written_tree, written_forest}
+use Rattle.trees.specs.Written.{element_at, tree_at, tag_of, docstrings, written_tree, written_forest}
 use Rattle.trees.specs.Writing.{is_open, first, too_deep, too_deeps, is_writable, tree_written}
 use Rattle.trees.specs.Steps.{group_kinds, group_of, Held, Stands}
 use Rattle.trees.specs.declared.children.Standing.{Standing}

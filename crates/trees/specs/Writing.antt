@@ -1,6 +1,6 @@
 -- What writing a tree answers and leaves (docs/FORMAT.md, Answers), for the room lent.
 -- Assumes nothing.
-use Rattle.std.specs.Prelude.{ℕ, suc, List, [], ◌∷◌, Bool, true, false, not, ◌&&◌, ◌||◌, eqb, leb, ltb, length}
+use Rattle.std.specs.Prelude.{ℕ, suc, List, Bool, true, not, ◌&&◌, ◌||◌, eqb, leb, ltb, length}
 use Rattle.std.proofs.Math.Option.{Option, none, some}
 use Rattle.slices.specs.Bytes.{if, empty}
 use Rattle.answers.specs.Text.{Text, text, wrong, roomy, Says}

@@ -3,7 +3,7 @@
 use Prim.Native.Nat.{ℕ, suc, ◌+◌, ◌≤◌}
 use native.Mathlib.Omega.{arith}
 use mathlib.Core.Path.{◌≡◌, refl, ap, sym, subst, ◌∙◌}
-use mathlib.Core.List.{List, [], ◌∷◌, ◌++◌}
+use mathlib.Core.List.{List, ◌∷◌, ◌++◌}
 use mathlib.Core.Bool.{Bool, true, false, ◌||◌}
 use borrow.Author.Tests.{eqb-true, ne_eqb}
 use lib.Dec.{eqb}
@@ -15,7 +15,6 @@ use Rattle.document.specs.Elements.{among, kind_of, may_hold}
 use Rattle.document.specs.Reading as reading
 use Rattle.document.specs.Reading.{Parts, Frame, parts_reason, noted, closed, shut, too_deep, entered, begins, docstring_in, child, parent_of, step}
 use Rattle.items.specs.Content.{present}
-use Rattle.items.specs.Written.{tag, element}
 use Rattle.roundtrip.proofs.Tags.{Name, tag_at}
 use Rattle.roundtrip.proofs.Held.{keeps, Row, marked, table, inside}
 use Rattle.roundtrip.proofs.Elements.{name_from, same_self}
@@ -23,7 +22,7 @@ use Rattle.trees.specs.Trees.{Tree, tree, Forest, bare, more}
 use Rattle.trees.specs.Written.{Element, tag_of, doc_tag}
 use Rattle.trees_read.proofs.Good as good
 use Rattle.trees_read.proofs.Good.{kind_in, Goods}
-use Rattle.trees_read.proofs.Runs.{catching, written}
+use Rattle.trees_read.proofs.Runs.{catching}
 use Rattle.trees_read.proofs.Shapes.{Known}
 use Rattle.trees_read.proofs.Entering.{bare_for, framed_by, framed, no_parts, plus, start_at, Enters, kind_of_lem, no_docstring}
 

@@ -2,7 +2,7 @@
 -- Assumes nothing.
 use Prim.Native.Nat.{ℕ, zero, suc, ◌+◌, ◌*◌, ◌<◌}
 use mathlib.Core.Path.{◌≡◌, refl, ap, sym, ◌∙◌}
-use mathlib.Core.List.{List, [], ◌∷◌, ◌++◌, map, append-nil}
+use mathlib.Core.List.{List, ◌∷◌, ◌++◌, map, append-nil}
 use mathlib.Core.Option.{none}
 use mathlib.Core.Bool.{Bool, true, false}
 use native.Mathlib.Omega.{arith}
@@ -18,7 +18,7 @@ use Rattle.items.specs.Content as content
 use Rattle.accepted.proofs.Folding.{meaning_accepts}
 use Rattle.accepted.proofs.Rows.{rows_from, rows_words}
 use Rattle.accepted.proofs.Accepted.{words_shown}
-use Rattle.trees.specs.Trees.{tree, Forest, bare, more, joined, map_tree, map_forest}
+use Rattle.trees.specs.Trees.{tree, Forest, more, joined, map_tree, map_forest}
 use Rattle.trees.specs.Shape.{Link, link_of, types, args, members, annotations, nodes, grouped, chosen, stands, forest, under, shape_at}
 use Rattle.trees.specs.Written.{Element, element_of, element_at, tree_at}
 use Rattle.trees_read.specs.Statement.{tree_of}

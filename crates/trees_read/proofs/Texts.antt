@@ -2,7 +2,7 @@
 -- Assumes nothing.
 use Prim.Native.Nat.{ℕ}
 use mathlib.Core.Path.{◌≡◌, refl, sym, subst}
-use mathlib.Core.List.{List, [], ◌∷◌, ◌++◌, append_assoc}
+use mathlib.Core.List.{List, ◌∷◌, ◌++◌, append_assoc}
 use mathlib.Core.Option.{Option, none, some}
 use mathlib.Core.Bool.{Bool, true, false}
 use borrow.Author.Tests.{eqb-true, eq-eqb}
@@ -16,7 +16,7 @@ use Rattle.references.proofs.Formed.{escape_formed}
 use Rattle.document.specs.Kinds as kinds
 use Rattle.document.specs.Elements.{among}
 use Rattle.items.specs.Sound.{Use}
-use Rattle.items.specs.Written.{Pair, pairs, closing_tag, concat}
+use Rattle.items.specs.Written.{Pair, pairs, concat}
 use Rattle.roundtrip.proofs.Texts.{first, whole_tag, whole_close, whole_element}
 use Rattle.trees.specs.Trees.{Tree, tree, Forest, bare, more}
 use Rattle.trees.specs.Written.{Element, tag_of, given, name_key, value_key, tp_key, word_pairs, attributes, doc_tag, docstrings, written_tree, written_forest}

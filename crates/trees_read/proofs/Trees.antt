@@ -4,7 +4,7 @@ use Prim.Native.Nat.{ℕ, suc, ◌+◌, ◌≤◌}
 use native.Mathlib.Omega.{arith}
 use native.Mathlib.Nat.{add-zero}
 use mathlib.Core.Path.{◌≡◌, refl, ap, sym, subst, ◌∙◌}
-use mathlib.Core.List.{List, [], ◌∷◌, ◌++◌, map, map-append, append-nil, append_assoc}
+use mathlib.Core.List.{List, ◌∷◌, ◌++◌, map, map-append, append-nil, append_assoc}
 use mathlib.Core.Option.{Option, none, some}
 use mathlib.Core.Bool.{Bool, true, false, not, ◌&&◌}
 use borrow.Author.Tests.{eqb-true}
@@ -22,11 +22,11 @@ use Rattle.items.specs.Written.{Pair, tag, closing_tag, concat, element}
 use Rattle.roundtrip.proofs.Tags.{Name, TagName, Keys, tag_at}
 use Rattle.roundtrip.proofs.Held.{keeps, Row, State, marked, table, inside}
 use Rattle.roundtrip.proofs.Elements.{name_from, tag_name}
-use Rattle.trees.specs.Trees.{Tree, tree, Forest, bare, more, size, sizes}
+use Rattle.trees.specs.Trees.{Tree, tree, Forest, bare, more, size}
 use Rattle.trees.specs.Written.{Element, tag_of, attributes, docstrings, written_tree, written_forest}
 use Rattle.trees.specs.Writing.{is_open, is_open_node}
 use Rattle.trees_read.proofs.Good.{Fit, Documented, kind_in, open_in, Good, Goods}
-use Rattle.trees_read.proofs.Flat.{content_at, doc_at, row_for, flat, flats, concat-append, length_flat, length_flats}
+use Rattle.trees_read.proofs.Flat.{content_at, doc_at, row_for, flat, flats, concat-append, length_flat}
 use Rattle.trees_read.proofs.Runs.{after, tag_run, close_run, written, documented_last, docstring_run}
 use Rattle.trees_read.proofs.Shapes.{Known, held_known, node_in_node}
 use Rattle.trees_read.proofs.Entering.{bare_for, framed, no_parts, start_at, Enters, enters, tag_names}

@@ -4,8 +4,8 @@ use Prim.Native.Nat.{ℕ, zero, suc, ◌+◌, ◌-◌, ◌*◌, ◌≤◌, ◌<�
 use native.Mathlib.Omega.{arith}
 use native.Mathlib.Nat.{add-zero, zero-add}
 use mathlib.Core.Path.{◌≡◌, refl, ap, sym, subst, ◌∙◌}
-use mathlib.Core.List.{List, [], ◌∷◌, ◌++◌, map, append_assoc, append-nil}
-use mathlib.Core.Bool.{Bool, true, false, not, ◌&&◌, and-false}
+use mathlib.Core.List.{List, ◌∷◌, ◌++◌, map, append_assoc, append-nil}
+use mathlib.Core.Bool.{Bool, true, false, not, and-false}
 use borrow.Author.Rules.{rules}
 use borrow.Author.Tests.{ne_eqb}
 use lib.Dec.{T, eqb}
@@ -17,13 +17,12 @@ use Rattle.scan.specs.Classes.{Classes}
 use Rattle.document.specs.Kinds as kinds
 use Rattle.answers.specs.Puts.{Puts}
 use Rattle.answers.proofs.Putting.{puts_then}
-use Rattle.items.specs.Words.{RowWords, row_of, rows_of, triple_at, viewed, rows_shown, word_at, is_child}
+use Rattle.items.specs.Words.{RowWords, triple_at, viewed, rows_shown, word_at, is_child}
 use Rattle.items.specs.Written.{Annotation, Arg, Pair, pairs, optional, tag, closing_tag, concat, element, written_annotation, written_arg}
-use Rattle.items.specs.Content.{Row, direction, annotation_of, annotations, arg_of}
+use Rattle.items.specs.Content.{direction, annotation_of, annotations, arg_of}
 use Rattle.items.proofs.Children.{annotations_append}
 use Rattle.writers.specs.Rows.{words_in, row_at, rows_in, any_child, SomeChild, Held, RowHeld, Last}
 use Rattle.writers.specs.Writes.{Scannable, annotations_in, AnnotationsPut, name_at, type_at, direction_at, ArgTagPut, ArgPut, CountFits}
-use Rattle.writers.proofs.Scans.{rows_one}
 use Rattle.writers.proofs.Texts.{puts_as, present_shown, shown_one}
 
 -- the rows from row i on, in two parts

@@ -3,37 +3,35 @@
 use Prim.Native.Nat.{ℕ, zero, suc, ◌+◌, ◌-◌, ◌*◌, ◌≤◌, ◌<◌, ◌^◌}
 use native.Mathlib.Omega.{arith}
 use mathlib.Core.Path.{◌≡◌, refl, ap, sym, subst, ◌∙◌}
-use mathlib.Core.List.{List, [], ◌∷◌, ◌++◌, map}
-use mathlib.Core.Option.{Option, none, some}
-use mathlib.Core.Bool.{Bool, true, false, ◌||◌}
+use mathlib.Core.List.{List, ◌∷◌, map}
+use mathlib.Core.Option.{none, some}
+use mathlib.Core.Bool.{Bool, true, false}
 use borrow.Author.Rules.{rules}
 use borrow.Author.Tests.{eq-eqb, ne_eqb, eqb-true, lt-ltb, le-ltb}
-use lib.Dec.{T, eqb, ltb}
-use lib.ListN.{length, drop, get_or, drop_of_length-le}
+use lib.Dec.{T, eqb}
+use lib.ListN.{length, drop, drop_of_length-le}
 use lib.Seq.{get_or-drop}
 use Rattle.slices.specs.Bytes.{if, bytes}
 use Rattle.tables.proofs.Tables.{empty_stands}
 use Rattle.scan.specs.Classes.{Classes}
-use Rattle.answers.specs.Text.{Text, text, wrong, Says, Finishes}
-use Rattle.answers.specs.Puts.{Puts}
+use Rattle.answers.specs.Text.{text, wrong, Says, Finishes}
 use Rattle.answers.specs.declared.TextAnswer.{TextAnswer}
 use Rattle.document.specs.Elements.{among}
 use Rattle.soundness.specs.Outcome.{Judges}
 use Rattle.soundness.specs.declared.Soundness.{Soundness}
 use Rattle.soundness.proofs.Rows.{judged_sound, judged_unsound}
 use Rattle.document.specs.Kinds as kinds
-use Rattle.items.specs.Words.{word_at, Word, row_of, rows_of, viewed, rows_shown}
-use Rattle.items.specs.Sound.{sound, unsound, soundness}
-use Rattle.items.specs.Written.{Item, annotated, argument, method, signal, written, written_member}
+use Rattle.items.specs.Words.{Word, rows_of, viewed, rows_shown}
+use Rattle.items.specs.Written.{annotated, argument, method, signal, written, written_member}
 use Rattle.items.specs.Content.{Row, annotation_of, arg_of, member_of, item_of, first_item, content, content_at}
 use Rattle.items.specs.Writing.{item_written, writing, Writes}
 use Rattle.items.proofs.Rows.{row-at, length_rows_of, sound_claimed, sound_held, sound_parent}
-use Rattle.writers.specs.Rows.{row_at, Held, Last}
-use Rattle.writers.specs.Writes.{annotation_at, AnnotationPut, Scannable, ArgPut, tag_of, MemberScannable, MemberPut, Writable, ItemPut}
+use Rattle.writers.specs.Rows.{row_at, Held}
+use Rattle.writers.specs.Writes.{annotation_at, AnnotationPut, Scannable, ArgPut, MemberScannable, MemberPut, Writable, ItemPut}
 use Rattle.writers.specs.Entry.{Admitted, WritesSound}
 use Rattle.writers.proofs.Scans.{last_all}
 use Rattle.writers.proofs.Texts.{puts_as}
-use Rattle.writers.proofs.Members.{member_row, member_classes, member_held, member_within}
+use Rattle.writers.proofs.Members.{member_row, member_classes, member_within}
 
 -- kinds
 module _ {k : ℕ} where

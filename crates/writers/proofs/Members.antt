@@ -2,9 +2,8 @@
 -- Assumes nothing.
 use Prim.Native.Nat.{ℕ, zero, suc, ◌+◌, ◌-◌, ◌*◌, ◌≤◌, ◌<◌, ◌^◌}
 use native.Mathlib.Omega.{arith}
-use native.Mathlib.Nat.{add-zero}
 use mathlib.Core.Path.{◌≡◌, refl, ap, sym, subst, ◌∙◌}
-use mathlib.Core.List.{List, [], ◌∷◌, ◌++◌, map, append_assoc, append-nil}
+use mathlib.Core.List.{List, ◌∷◌, ◌++◌, map, append_assoc, append-nil}
 use mathlib.Core.Bool.{Bool, true, false, not, ◌&&◌, ◌||◌}
 use borrow.Author.Rules.{rules}
 use borrow.Author.Tests.{eq-eqb, ne_eqb, eqb-true}
@@ -19,12 +18,12 @@ use Rattle.answers.proofs.Putting.{puts_none, puts_then}
 use Rattle.references.specs.Escape.{escape}
 use Rattle.document.specs.Kinds as kinds
 use Rattle.items.proofs.Rows.{length_rows_of}
-use Rattle.items.specs.Words.{RowWords, row_of, rows_of, triple_at, viewed, rows_shown, word_at, is_child}
-use Rattle.items.specs.Written.{Annotation, Arg, Member, Pair, pair, pairs, named, tag, closing_tag, concat, element, written_annotation, written_arg, written_member}
+use Rattle.items.specs.Words.{RowWords, triple_at, viewed, rows_shown, word_at, is_child}
+use Rattle.items.specs.Written.{Annotation, Arg, named, tag, closing_tag, concat, written_annotation, written_arg, written_member}
 use Rattle.items.specs.Content.{Row, annotations, arg_of, args, member_of}
 use Rattle.items.proofs.Children.{args_append}
 use Rattle.items.specs.Order.{InOrder}
-use Rattle.writers.specs.Rows.{words_in, row_at, rows_in, any_child, Child, SomeChildren, Held, RowHeld, Last, Ordered, Orders, ChildOf}
+use Rattle.writers.specs.Rows.{words_in, row_at, rows_in, any_child, Child, SomeChildren, Held, RowHeld, Last, Ordered, ChildOf}
 use Rattle.writers.specs.Writes.{Puttable, ShownPut, Scannable, annotations_in, AnnotationsPut, ArgPut, if_arg, IfArgPut, ArgsScannable, Turn, args_in, NotesScannable, tag_of, MemberTagPut, MemberEndPut, MemberScannable, ChildrenPut, MemberPut, CountFits, KindPut}
 use Rattle.writers.proofs.Scans.{last_all}
 use Rattle.writers.proofs.Texts.{puts_as, present_shown, shown_one}

@@ -1,18 +1,18 @@
 -- Laws of scanning rows for children.
 -- Assumes nothing.
-use Prim.Native.Nat.{ℕ, zero, suc, ◌+◌, ◌-◌, ◌*◌, ◌≤◌, ◌<◌}
+use Prim.Native.Nat.{ℕ, suc, ◌+◌, ◌-◌, ◌*◌, ◌≤◌, ◌<◌}
 use native.Mathlib.Decide.{dec_lt}
 use native.Mathlib.Omega.{arith}
 use mathlib.Core.Path.{◌≡◌, refl, ap, sym, subst, ◌∙◌}
-use mathlib.Core.List.{List, [], ◌∷◌}
+use mathlib.Core.List.{List, ◌∷◌}
 use mathlib.Core.Bool.{Bool, true, false, not, ◌&&◌}
 use borrow.Author.Rules.{rules}
 use borrow.Author.Tests.{eq-eqb, ne_eqb, lt-ltb, le-ltb, ltb-true, eqb-true, eqb-false, not-true}
 use lib.Dec.{T, eqb, ltb}
-use lib.ListN.{length, drop, get_or}
+use lib.ListN.{length, drop}
 use lib.Seq.{drop-drop, get_or-drop}
 use Rattle.slices.specs.Bytes.{if}
-use Rattle.items.specs.Words.{RowWords, row_of, rows_of, word_at, Word, is_child}
+use Rattle.items.specs.Words.{row_of, word_at, Word}
 use Rattle.items.proofs.Rows.{both_true}
 use Rattle.items.specs.Order.{InOrder}
 use Rattle.writers.specs.Rows.{words_in, Held, any_child, Child, SomeChild, SomeChildren, strays, Stray, NextChild, Ordered, ChildOf, Last}

@@ -4,9 +4,9 @@ use Prim.Native.Nat.{ℕ, zero, suc, ◌+◌, ◌-◌, ◌*◌, ◌≤◌, ◌<�
 use native.Mathlib.Nat.{mul-one}
 use native.Mathlib.Omega.{arith}
 use mathlib.Core.Path.{◌≡◌, refl, ap, sym, subst, ◌∙◌}
-use mathlib.Core.List.{List, [], ◌∷◌, ◌++◌, map, append_assoc, append-nil}
+use mathlib.Core.List.{List, ◌∷◌, ◌++◌, append_assoc, append-nil}
 use mathlib.Core.Option.{Option, none, some}
-use mathlib.Core.Bool.{Bool, true, false, not, ◌&&◌, ◌||◌}
+use mathlib.Core.Bool.{Bool, true, false, not, ◌||◌}
 use borrow.Author.Rules.{rules}
 use borrow.Author.Tests.{lt-ltb, le-ltb, le-leb, lt-leb, ltb-true, ltb-false, not-true, not-false}
 use lib.Dec.{eqb, leb, ltb}
@@ -14,10 +14,10 @@ use lib.ListN.{length, drop, get_or, set, replicate, length-append, length-set, 
 use lib.Seq.{drop-cons, get_or-drop}
 use Rattle.slices.specs.Bytes.{if}
 use Rattle.utf8.proofs.Sequences.{below}
-use Rattle.tables.specs.Table.{Rep, Wiped, cleared}
+use Rattle.tables.specs.Table.{Rep, Wiped}
 use Rattle.tables.proofs.Tables.{empty_stands, one_room, clear_all, clear_rest}
 use Rattle.scan.specs.Classes.{Classes}
-use Rattle.answers.specs.Text.{Text, text, wrong, left_of, Says}
+use Rattle.answers.specs.Text.{text, wrong, Says}
 use Rattle.answers.specs.declared.TextAnswer.{TextAnswer}
 use Rattle.answers.specs.declared.TextAnswer.TheVariants.{Done}
 use Rattle.document.specs.Kinds as kinds
@@ -26,7 +26,7 @@ use Rattle.items.specs.Words.{word_at, Word, rows_shown, is_child}
 use Rattle.items.specs.Order.{parent_at}
 use Rattle.items.specs.Written.{Item, annotated, argument, method, signal, written, concat}
 use Rattle.items.specs.Content.{Row, annotations, annotation_of, arg_of, args, member_of, item_of, content_at}
-use Rattle.items.specs.Several.{there, first_missing, bytes_of, texts_of, ends_from, capped, fitted, missed, items_written, several_writing, ends_left, several_ends, WritesSeveral}
+use Rattle.items.specs.Several.{there, first_missing, bytes_of, texts_of, ends_from, capped, fitted, several_writing, several_ends, WritesSeveral}
 use Rattle.items.proofs.Rows.{both_true}
 use Rattle.items.proofs.Children.{args_append}
 use Rattle.items.proofs.Order.{run_ends}
@@ -37,7 +37,7 @@ use Rattle.soundness.proofs.Rows.{judged_sound, judged_unsound}
 use Rattle.writers.specs.Rows.{row_at, rows_in, Held, Last, RunEnd, Reach}
 use Rattle.writers.specs.Writes.{MemberScannable, Writable, ItemPut}
 use Rattle.writers.specs.Entry.{Admitted}
-use Rattle.writers.specs.Several.{is_item, IsItem, At, HasItem, Asks, RowPut, Missing, Fit, fault_of, VetsItems, Vets, Stand, SeveralPut, Fits, Left, FinishesItems, WritesFit, Clears}
+use Rattle.writers.specs.Several.{is_item, IsItem, At, HasItem, Asks, RowPut, Missing, Fit, VetsItems, Vets, Stand, SeveralPut, Fits, FinishesItems, WritesFit, Clears}
 use Rattle.writers.specs.declared.Vetting.{Vetting}
 use Rattle.writers.specs.declared.Vetting.TheVariants.{Fault, Fine}
 use Rattle.writers.proofs.Scans.{last_all}

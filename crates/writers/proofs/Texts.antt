@@ -3,14 +3,13 @@
 use Prim.Native.Nat.{ℕ, zero, suc, ◌+◌, ◌-◌, ◌*◌, ◌≤◌, ◌<◌, ◌^◌}
 use native.Mathlib.Omega.{arith}
 use mathlib.Core.Path.{◌≡◌, refl, ap, sym, subst, ◌∙◌}
-use mathlib.Core.List.{List, [], ◌∷◌, ◌++◌, map, append_assoc, append-nil}
-use mathlib.Core.Option.{Option, none, some}
-use mathlib.Core.Bool.{Bool, true, false, not, ◌&&◌}
+use mathlib.Core.List.{List, ◌∷◌, ◌++◌, map, append_assoc, append-nil}
+use mathlib.Core.Option.{none, some}
+use mathlib.Core.Bool.{Bool, true, false, ◌&&◌}
 use borrow.Author.Rules.{rules}
 use borrow.Author.Tests.{ne_eqb, eqb-true}
-use lib.Dec.{T, eqb, ltb}
-use lib.ListN.{length, take, drop, get_or, length-append, length-drop}
-use lib.Seq.{get_or-drop}
+use lib.Dec.{eqb}
+use lib.ListN.{length, take, drop, length-append, length-drop}
 use Rattle.slices.specs.Bytes.{if, bytes}
 use Rattle.tables.specs.Triple.{resolved, part, shown}
 use Rattle.tables.specs.declared.Triple.{Triple}
@@ -21,8 +20,8 @@ use Rattle.references.specs.Escape.{escape}
 use Rattle.references.proofs.Escapes.{escape_most}
 use Rattle.document.specs.Kinds as kinds
 use Rattle.items.specs.Words.{triple_at, shown_by, absent, viewed, word_at, Word, TripleIs, is_child}
-use Rattle.items.specs.Written.{Annotation, Pair, pair, pairs, optional, directions, tag, concat, written_annotation}
-use Rattle.items.specs.Content.{present, direction, annotation_of, annotations}
+use Rattle.items.specs.Written.{Annotation, Pair, pair, pairs, optional, tag, concat, written_annotation}
+use Rattle.items.specs.Content.{present, annotation_of, annotations}
 use Rattle.writers.specs.Rows.{Child, row_at, rows_in, RowHeld}
 use Rattle.writers.proofs.Scans.{rows_one}
 use Rattle.writers.specs.Writes.{ShownAt, Puttable, ShownPut, annotation_at, AnnotationPut, if_annotation, IfAnnotationPut, Scannable, annotations_in, AnnotationsPut, name_at, type_at, direction_at, PairsPut, DirectionPut, ArgTagPut, CountFits}

@@ -1,6 +1,6 @@
 -- What the steps of the entry `write_items` say.
 -- Assumes nothing.
-use Rattle.std.specs.Prelude.{ℕ, ◌≤◌, ◌<◌, ◌≡◌, List, ◌∷◌, Bool, true, false, not, ◌&&◌, ◌||◌, ltb, length, get_or, replicate}
+use Rattle.std.specs.Prelude.{ℕ, ◌≤◌, ◌<◌, ◌≡◌, List, Bool, true, false, not, ◌&&◌, ◌||◌, ltb, length, get_or, replicate}
 use Rattle.tables.specs.Table.{Rep}
 use Rattle.answers.specs.Text.{Text, wrong, Says}
 use Rattle.answers.specs.declared.TextAnswer.{TextAnswer}

@@ -1,7 +1,7 @@
 -- What the functions that put parts of an item say: d is the document, x the text, ws the words of the rows; n bytes are put
 -- before, and r are after.
 -- Assumes nothing.
-use Rattle.std.specs.Prelude.{ℕ, suc, ◌+◌, ◌-◌, ◌*◌, ◌≤◌, ◌<◌, ◌^◌, ◌≡◌, List, [], ◌∷◌, ◌++◌, map, Bool, eqb, length, drop}
+use Rattle.std.specs.Prelude.{ℕ, suc, ◌+◌, ◌-◌, ◌*◌, ◌≤◌, ◌<◌, ◌^◌, ◌≡◌, List, ◌∷◌, ◌++◌, map, Bool, eqb, length, drop}
 use Rattle.std.proofs.Math.Option.{Option, some}
 use Rattle.slices.specs.Bytes.{if, bytes}
 use Rattle.tables.specs.Triple.{shown}
@@ -11,8 +11,8 @@ use Rattle.references.specs.Escape.{escape}
 use Rattle.document.specs.Kinds as kinds
 use Rattle.document.specs.Elements.{among}
 use Rattle.items.specs.Words.{triple_at, shown_by, rows_shown, word_at, is_child}
-use Rattle.items.specs.Written.{Annotation, Arg, Member, Pair, pairs, named, optional, directions, arg_pairs, closing_tag, concat, written_annotation, written_arg, written_member, Item, written}
-use Rattle.items.specs.Content.{Row, present, direction, annotation_of, annotations, arg_of, args, member_of, content_at}
+use Rattle.items.specs.Written.{Pair, pairs, optional, directions, closing_tag, concat, written_annotation, written_arg, written_member, Item, written}
+use Rattle.items.specs.Content.{direction, annotation_of, annotations, arg_of, args, member_of, content_at}
 use Rattle.writers.specs.Rows.{row_at, rows_in, Held, RowHeld, Last, Orders}
 
 -- what the triple from word k on of row i shows

@@ -1,8 +1,7 @@
 -- What `attributes::quoted` leaves to show. Its loop is in Invariants.antt.
 -- Assumes nothing.
 use Prim.Native.Nat.{◌-◌}
-use lib.ListN.{length}
-use Rattle.attributes.proofs.Found.{Quoting, quotes}
+use Rattle.attributes.proofs.Found.{quotes}
 use Rattle.attributes.proofs.quoted.Goals as goal
 
 pub loop-at-init : goal.loop-at-init

@@ -2,7 +2,7 @@
 -- Assumes nothing.
 use Prim.Native.Nat.{◌-◌}
 use lib.ListN.{length}
-use Rattle.attributes.proofs.Found.{Quoting, quotes}
+use Rattle.attributes.proofs.Found.{Quoting}
 use Rattle.attributes.proofs.quoted.Given as goal
 
 abbrev pub invariant-loop-at : goal.invariant-loop-at

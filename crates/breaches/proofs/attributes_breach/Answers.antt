@@ -1,8 +1,6 @@
 -- What `breaches::attributes_breach` leaves to show. Its loop is in Invariants.antt.
 -- Assumes nothing.
 use Prim.Native.Nat.{◌-◌}
-use lib.ListN.{length}
-use Rattle.breaches.proofs.Collecting.{Collecting}
 use Rattle.breaches.proofs.Collecting.{collecting}
 use Rattle.breaches.proofs.attributes_breach.Goals as goal
 

@@ -3,7 +3,6 @@
 use Prim.Native.Nat.{◌-◌}
 use lib.ListN.{length}
 use Rattle.breaches.proofs.Collecting.{Collecting}
-use Rattle.breaches.proofs.Collecting.{collecting}
 use Rattle.breaches.proofs.attributes_breach.Given as goal
 
 abbrev pub invariant-loop-a : goal.invariant-loop-a

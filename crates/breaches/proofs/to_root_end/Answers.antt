@@ -1,8 +1,6 @@
 -- What `breaches::to_root_end` leaves to show. Its loop is in Invariants.antt.
 -- Assumes nothing.
 use Prim.Native.Nat.{◌-◌}
-use lib.ListN.{length}
-use Rattle.breaches.specs.Outcome.{Walking}
 use Rattle.breaches.proofs.Walking.{loops}
 use Rattle.breaches.proofs.to_root_end.Goals as goal
 

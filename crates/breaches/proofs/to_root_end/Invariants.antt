@@ -3,7 +3,6 @@
 use Prim.Native.Nat.{◌-◌}
 use lib.ListN.{length}
 use Rattle.breaches.specs.Outcome.{Walking}
-use Rattle.breaches.proofs.Walking.{loops}
 use Rattle.breaches.proofs.to_root_end.Given as goal
 
 abbrev pub invariant-loop-w : goal.invariant-loop-w

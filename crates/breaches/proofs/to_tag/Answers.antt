@@ -1,8 +1,6 @@
 -- What `breaches::to_tag` leaves to show. Its loop is in Invariants.antt.
 -- Assumes nothing.
 use Prim.Native.Nat.{◌-◌}
-use lib.ListN.{length}
-use Rattle.breaches.proofs.Passing.{Passing}
 use Rattle.breaches.proofs.Passing.{passing}
 use Rattle.breaches.proofs.to_tag.Goals as goal
 

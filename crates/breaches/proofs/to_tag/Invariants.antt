@@ -3,7 +3,6 @@
 use Prim.Native.Nat.{◌-◌}
 use lib.ListN.{length}
 use Rattle.breaches.proofs.Passing.{Passing}
-use Rattle.breaches.proofs.Passing.{passing}
 use Rattle.breaches.proofs.to_tag.Given as goal
 
 abbrev pub invariant-loop-at : goal.invariant-loop-at

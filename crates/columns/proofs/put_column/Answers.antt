@@ -1,7 +1,7 @@
 -- What `columns::put_column` leaves to show. Its loop is in Invariants.antt.
 -- Assumes nothing.
 use Rattle.std.proofs.Common.{◌-◌, arith}
-use Rattle.columns.proofs.Putting.{ColumnGoing, column-more, putting}
+use Rattle.columns.proofs.Putting.{column-more, putting}
 use Rattle.columns.proofs.put_column.Goals as goal
 
 pub overflow_mul-start : goal.overflow_mul-start

@@ -1,7 +1,7 @@
 -- `columns::put_column` meets its contract. The invariant: the words of the rows before `r` are put, and `above` is the word above row `r`.
 -- Assumes nothing.
-use Rattle.std.proofs.Common.{◌-◌, arith}
-use Rattle.columns.proofs.Putting.{ColumnGoing, column-more, putting}
+use Rattle.std.proofs.Common.{◌-◌}
+use Rattle.columns.proofs.Putting.{ColumnGoing}
 use Rattle.columns.proofs.put_column.Given as goal
 
 abbrev pub invariant-loop-r : goal.invariant-loop-r

@@ -1,8 +1,7 @@
 -- What `columns::put_column_block` leaves to show. Its loop is in Invariants.antt.
 -- Assumes nothing.
 use Rattle.std.proofs.Common.{◌-◌}
-use Rattle.columns.specs.Words.{in_columns, difference}
-use Rattle.columns.proofs.Filling.{Going, filling}
+use Rattle.columns.proofs.Filling.{filling}
 use Rattle.columns.proofs.put_column_block.Goals as goal
 
 pub loop-k-init : goal.loop-k-init

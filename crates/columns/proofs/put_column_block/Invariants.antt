@@ -2,7 +2,7 @@
 -- Assumes nothing.
 use Rattle.std.proofs.Common.{◌-◌}
 use Rattle.columns.specs.Words.{in_columns, difference}
-use Rattle.columns.proofs.Filling.{Going, filling}
+use Rattle.columns.proofs.Filling.{Going}
 use Rattle.columns.proofs.put_column_block.Given as goal
 
 abbrev pub invariant-loop-k : goal.invariant-loop-k

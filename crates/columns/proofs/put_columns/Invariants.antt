@@ -2,7 +2,7 @@
 -- Assumes nothing.
 use Rattle.std.proofs.Common.{◌-◌}
 use Rattle.columns.specs.Words.{in_columns, difference}
-use Rattle.columns.proofs.Filling.{Filled, filling}
+use Rattle.columns.proofs.Filling.{Filled}
 use Rattle.columns.proofs.put_columns.Given as goal
 
 abbrev pub invariant-loop-from : goal.invariant-loop-from

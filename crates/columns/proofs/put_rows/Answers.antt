@@ -1,8 +1,7 @@
 -- What `columns::put_rows` leaves to show. Its loop is in Invariants.antt.
 -- Assumes nothing.
 use Rattle.std.proofs.Common.{◌-◌}
-use Rattle.columns.specs.Words.{in_rows, restored}
-use Rattle.columns.proofs.Filling.{Filled, filling}
+use Rattle.columns.proofs.Filling.{filling}
 use Rattle.columns.proofs.put_rows.Goals as goal
 
 pub loop-from-init : goal.loop-from-init

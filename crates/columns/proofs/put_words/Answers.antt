@@ -1,7 +1,7 @@
 -- What `columns::put_words` leaves to show. Its loop is in Invariants.antt.
 -- Assumes nothing.
 use Rattle.std.proofs.Common.{◌-◌}
-use Rattle.columns.proofs.Putting.{WordsGoing, words_more, putting}
+use Rattle.columns.proofs.Putting.{words_more, putting}
 use Rattle.columns.proofs.put_words.Goals as goal
 
 pub overflow_mul-start : goal.overflow_mul-start

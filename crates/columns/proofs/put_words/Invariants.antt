@@ -1,7 +1,7 @@
 -- `columns::put_words` meets its contract. The invariant: the word `k` of the rows before `r` is put, and `above` is the last of them.
 -- Assumes nothing.
 use Rattle.std.proofs.Common.{◌-◌}
-use Rattle.columns.proofs.Putting.{WordsGoing, words_more, putting}
+use Rattle.columns.proofs.Putting.{WordsGoing}
 use Rattle.columns.proofs.put_words.Given as goal
 
 abbrev pub invariant-loop-r : goal.invariant-loop-r

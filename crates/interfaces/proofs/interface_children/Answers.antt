@@ -1,13 +1,8 @@
 -- What `interfaces::interface_children` leaves to show. Its loop is in Invariants.antt.
 -- Assumes nothing.
 use Prim.Native.Nat.{◌-◌}
-use mathlib.Core.Path.{◌≡◌}
-use mathlib.Core.List.{[], ◌∷◌}
-use mathlib.Core.Bool.{true}
-use lib.ListN.{length}
 use Rattle.document.specs.Kinds as kinds
-use Rattle.document.specs.Outcome.{lent}
-use Rattle.document.proofs.Loops.{Sofar, loops}
+use Rattle.document.proofs.Loops.{loops}
 use Rattle.interfaces.proofs.interface_children.Goals as goal
 
 pub loop-refusal-init : goal.loop-refusal-init

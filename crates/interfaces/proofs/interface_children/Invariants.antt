@@ -2,12 +2,11 @@
 -- Assumes nothing.
 use Prim.Native.Nat.{◌-◌}
 use mathlib.Core.Path.{◌≡◌}
-use mathlib.Core.List.{[], ◌∷◌}
 use mathlib.Core.Bool.{true}
 use lib.ListN.{length}
 use Rattle.document.specs.Kinds as kinds
 use Rattle.document.specs.Outcome.{lent}
-use Rattle.document.proofs.Loops.{Sofar, loops}
+use Rattle.document.proofs.Loops.{Sofar}
 use Rattle.interfaces.proofs.interface_children.Given as goal
 
 abbrev pub invariant-loop-refusal : goal.invariant-loop-refusal

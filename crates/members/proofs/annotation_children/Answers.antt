@@ -1,12 +1,6 @@
 -- What `members::annotation_children` leaves to show. Its loop is in Invariants.antt.
 -- Assumes nothing.
 use Prim.Native.Nat.{◌-◌}
-use mathlib.Core.Path.{◌≡◌}
-use mathlib.Core.List.{[]}
-use mathlib.Core.Bool.{false}
-use lib.ListN.{length}
-use Rattle.document.specs.Outcome.{lent}
-use Rattle.document.proofs.Loops.{Sofar}
 use Rattle.members.proofs.Members.{annotation_loop}
 use Rattle.members.proofs.annotation_children.Goals as goal
 

@@ -6,7 +6,7 @@ use mathlib.Core.Bool.{true}
 use lib.ListN.{length}
 use Rattle.document.specs.Kinds as kinds
 use Rattle.document.specs.Outcome.{lent}
-use Rattle.document.proofs.Loops.{Sofar, loops}
+use Rattle.document.proofs.Loops.{Sofar}
 use Rattle.members.proofs.value_children.Given as goal
 
 abbrev pub invariant-loop-refusal : goal.invariant-loop-refusal

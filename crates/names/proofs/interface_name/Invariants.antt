@@ -2,7 +2,7 @@
 -- Assumes nothing.
 use Prim.Native.Nat.{◌-◌}
 use lib.ListN.{length}
-use Rattle.names.proofs.Names.{Naming, name_loops}
+use Rattle.names.proofs.Names.{Naming}
 use Rattle.names.proofs.interface_name.Given as goal
 
 abbrev pub invariant-loop-at : goal.invariant-loop-at

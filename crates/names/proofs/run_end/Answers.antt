@@ -1,9 +1,5 @@
 -- What `names::run_end` leaves to show. Its loop is in Invariants.antt.
 -- Assumes nothing.
-use Prim.Native.Nat.{◌-◌}
-use lib.ListN.{length}
-use Rattle.slices.proofs.Runs.{Running}
-use Rattle.names.specs.Names.{element_byte}
 use Rattle.names.proofs.Names.{element_runs}
 use Rattle.names.proofs.run_end.Goals as goal
 

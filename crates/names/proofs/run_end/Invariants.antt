@@ -4,7 +4,6 @@ use Prim.Native.Nat.{◌-◌}
 use lib.ListN.{length}
 use Rattle.slices.proofs.Runs.{Running}
 use Rattle.names.specs.Names.{element_byte}
-use Rattle.names.proofs.Names.{element_runs}
 use Rattle.names.proofs.run_end.Given as goal
 
 abbrev pub invariant-loop-at : goal.invariant-loop-at

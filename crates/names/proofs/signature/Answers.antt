@@ -1,8 +1,6 @@
 -- What `names::signature` leaves to show. Its loop is in Invariants.antt.
 -- Assumes nothing.
-use Prim.Native.Nat.{◌-◌}
-use lib.ListN.{length}
-use Rattle.names.proofs.Checks.{Signing, signatures}
+use Rattle.names.proofs.Checks.{signatures}
 use Rattle.names.proofs.signature.Goals as goal
 
 pub returns-then-s-gt255 : goal.returns-then-s-gt255

@@ -2,7 +2,7 @@
 -- Assumes nothing.
 use Prim.Native.Nat.{◌-◌}
 use lib.ListN.{length}
-use Rattle.names.proofs.Checks.{Signing, signatures}
+use Rattle.names.proofs.Checks.{Signing}
 use Rattle.names.proofs.signature.Given as goal
 
 abbrev pub invariant-loop-at : goal.invariant-loop-at

@@ -1,8 +1,7 @@
 -- What `profile::after_fault` leaves to show. Its loop is in Invariants.antt.
 -- Assumes nothing.
 use Prim.Native.Nat.{◌-◌}
-use lib.ListN.{length}
-use Rattle.profile.proofs.Afters.{Reading, after_stops, afters}
+use Rattle.profile.proofs.Afters.{after_stops, afters}
 use Rattle.profile.proofs.after_fault.Goals as goal
 
 pub loop-at-init : goal.loop-at-init

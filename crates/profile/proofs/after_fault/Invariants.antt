@@ -2,7 +2,7 @@
 -- Assumes nothing.
 use Prim.Native.Nat.{◌-◌}
 use lib.ListN.{length}
-use Rattle.profile.proofs.Afters.{Reading, afters}
+use Rattle.profile.proofs.Afters.{Reading}
 use Rattle.profile.proofs.after_fault.Given as goal
 
 abbrev pub invariant-loop-at : goal.invariant-loop-at

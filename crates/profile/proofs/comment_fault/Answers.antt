@@ -1,9 +1,6 @@
 -- What `profile::comment_fault` leaves to show. Its loop is in Invariants.antt.
 -- Assumes nothing.
 use Prim.Native.Nat.{◌-◌}
-use lib.ListN.{length}
-use Rattle.profile.specs.Profile.{hyphens}
-use Rattle.profile.proofs.Going.{Going}
 use Rattle.profile.proofs.Marks.{comments}
 use Rattle.profile.proofs.comment_fault.Goals as goal
 

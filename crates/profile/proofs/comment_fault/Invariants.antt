@@ -4,7 +4,6 @@ use Prim.Native.Nat.{◌-◌}
 use lib.ListN.{length}
 use Rattle.profile.specs.Profile.{hyphens}
 use Rattle.profile.proofs.Going.{Going}
-use Rattle.profile.proofs.Marks.{comments}
 use Rattle.profile.proofs.comment_fault.Given as goal
 
 abbrev pub invariant-loop-at : goal.invariant-loop-at

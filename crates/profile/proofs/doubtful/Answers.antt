@@ -1,8 +1,6 @@
 -- What `profile::doubtful` leaves to show. Its loop is in Invariants.antt.
 -- Assumes nothing.
 use Prim.Native.Nat.{◌-◌}
-use mathlib.Core.Logic.{⊎_elim}
-use Rattle.profile.specs.Steps.{Clear}
 use Rattle.profile.proofs.NoChars.{clears}
 use Rattle.profile.proofs.doubtful.Goals as goal
 

@@ -1,9 +1,7 @@
 -- `profile::doubtful` meets its contract. The invariant: no such byte was passed, or it was told.
 -- Assumes nothing.
 use Prim.Native.Nat.{◌-◌}
-use mathlib.Core.Logic.{⊎_elim}
 use Rattle.profile.specs.Steps.{Clear}
-use Rattle.profile.proofs.NoChars.{clears}
 use Rattle.profile.proofs.doubtful.Given as goal
 
 abbrev pub invariant-loop-i : goal.invariant-loop-i

@@ -1,9 +1,7 @@
 -- What `profile::first_no_char` leaves to show. Its loop is in Invariants.antt.
 -- Assumes nothing.
 use Prim.Native.Nat.{◌-◌}
-use lib.ListN.{length}
-use Rattle.profile.specs.Steps.{no_char}
-use Rattle.profile.proofs.Going.{Going, goings}
+use Rattle.profile.proofs.Going.{goings}
 use Rattle.profile.proofs.first_no_char.Goals as goal
 
 pub next_doubt-at-requires : goal.next_doubt-at-requires

@@ -3,7 +3,7 @@
 use Prim.Native.Nat.{◌-◌}
 use lib.ListN.{length}
 use Rattle.profile.specs.Steps.{no_char}
-use Rattle.profile.proofs.Going.{Going, goings}
+use Rattle.profile.proofs.Going.{Going}
 use Rattle.profile.proofs.first_no_char.Given as goal
 
 abbrev pub invariant-loop-at : goal.invariant-loop-at

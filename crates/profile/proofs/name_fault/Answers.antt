@@ -2,8 +2,7 @@
 -- Assumes nothing.
 use Prim.Native.Nat.{◌-◌}
 use Rattle.std.proofs.Common.{rules}
-use lib.ListN.{length}
-use Rattle.profile.proofs.Naming.{Naming, name_fits, name_more, naming}
+use Rattle.profile.proofs.Naming.{name_fits, name_more, naming}
 use Rattle.profile.proofs.name_fault.Goals as goal
 
 pub returns-then-s-eq0 : goal.returns-then-s-eq0

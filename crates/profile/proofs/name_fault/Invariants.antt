@@ -2,7 +2,7 @@
 -- Assumes nothing.
 use Prim.Native.Nat.{◌-◌}
 use lib.ListN.{length}
-use Rattle.profile.proofs.Naming.{Naming, naming}
+use Rattle.profile.proofs.Naming.{Naming}
 use Rattle.profile.proofs.name_fault.Given as goal
 
 abbrev pub invariant-loop-at : goal.invariant-loop-at

@@ -1,8 +1,6 @@
 -- What `profile::next_doubt` leaves to show. Its loop is in Invariants.antt.
 -- Assumes nothing.
 use Prim.Native.Nat.{◌-◌}
-use lib.ListN.{length}
-use Rattle.profile.specs.Steps.{Free, no_char}
 use Rattle.profile.proofs.NoChars.{frees}
 use Rattle.profile.proofs.next_doubt.Goals as goal
 

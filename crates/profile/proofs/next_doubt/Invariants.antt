@@ -3,7 +3,6 @@
 use Prim.Native.Nat.{◌-◌}
 use lib.ListN.{length}
 use Rattle.profile.specs.Steps.{Free, no_char}
-use Rattle.profile.proofs.NoChars.{frees}
 use Rattle.profile.proofs.next_doubt.Given as goal
 
 abbrev pub invariant-loop-at : goal.invariant-loop-at

@@ -1,9 +1,7 @@
 -- What `profile::value_fault` leaves to show. Its loop is in Invariants.antt.
 -- Assumes nothing.
 use Prim.Native.Nat.{◌-◌}
-use lib.ListN.{length}
-use Rattle.profile.specs.Profile.{raw}
-use Rattle.profile.proofs.Going.{Going, goings}
+use Rattle.profile.proofs.Going.{goings}
 use Rattle.profile.proofs.value_fault.Goals as goal
 
 pub loop-at-init : goal.loop-at-init

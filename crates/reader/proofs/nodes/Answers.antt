@@ -1,10 +1,6 @@
 -- What `reader::nodes` leaves to show. Its loop is in Invariants.antt.
 -- Assumes nothing.
 use Prim.Native.Nat.{◌-◌}
-use mathlib.Core.Path.{◌≡◌}
-use lib.ListN.{length}
-use Rattle.document.specs.Outcome.{lent, name_at}
-use Rattle.reader.proofs.Rooted.{Sofar}
 use Rattle.reader.proofs.Rooted.{walking}
 use Rattle.reader.proofs.nodes.Goals as goal
 

@@ -5,7 +5,6 @@ use mathlib.Core.Path.{◌≡◌}
 use lib.ListN.{length}
 use Rattle.document.specs.Outcome.{lent, name_at}
 use Rattle.reader.proofs.Rooted.{Sofar}
-use Rattle.reader.proofs.Rooted.{walking}
 use Rattle.reader.proofs.nodes.Given as goal
 
 abbrev pub invariant-loop-refusal : goal.invariant-loop-refusal

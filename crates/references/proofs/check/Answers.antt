@@ -1,8 +1,6 @@
 -- What `references::check` leaves to show. Its loop is in Invariants.antt.
 -- Assumes nothing.
 use Prim.Native.Nat.{◌-◌}
-use lib.ListN.{length}
-use Rattle.references.proofs.Values.{Checking}
 use Rattle.references.proofs.Values.{checks}
 use Rattle.references.proofs.check.Goals as goal
 

@@ -3,7 +3,6 @@
 use Prim.Native.Nat.{◌-◌}
 use lib.ListN.{length}
 use Rattle.references.proofs.Values.{Checking}
-use Rattle.references.proofs.Values.{checks}
 use Rattle.references.proofs.check.Given as goal
 
 abbrev pub invariant-loop-at : goal.invariant-loop-at

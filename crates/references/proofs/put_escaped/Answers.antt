@@ -1,8 +1,6 @@
 -- What `references::put_escaped` leaves to show. Its loop is in Invariants.antt.
 -- Assumes nothing.
 use Prim.Native.Nat.{◌-◌}
-use lib.ListN.{length}
-use Rattle.references.proofs.Escapes.{Escaping}
 use Rattle.references.proofs.Escapes.{escapes}
 use Rattle.references.proofs.put_escaped.Goals as goal
 

@@ -3,7 +3,6 @@
 use Prim.Native.Nat.{◌-◌}
 use lib.ListN.{length}
 use Rattle.references.proofs.Escapes.{Escaping}
-use Rattle.references.proofs.Escapes.{escapes}
 use Rattle.references.proofs.put_escaped.Given as goal
 
 abbrev pub invariant-loop-at : goal.invariant-loop-at

@@ -1,8 +1,6 @@
 -- What `references::put_shown` leaves to show. Its loop is in Invariants.antt.
 -- Assumes nothing.
 use Prim.Native.Nat.{◌-◌}
-use lib.ListN.{length}
-use Rattle.references.proofs.Values.{Showing}
 use Rattle.references.proofs.Values.{shown}
 use Rattle.references.proofs.put_shown.Goals as goal
 

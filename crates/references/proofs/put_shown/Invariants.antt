@@ -3,7 +3,6 @@
 use Prim.Native.Nat.{◌-◌}
 use lib.ListN.{length}
 use Rattle.references.proofs.Values.{Showing}
-use Rattle.references.proofs.Values.{shown}
 use Rattle.references.proofs.put_shown.Given as goal
 
 abbrev pub invariant-loop-at : goal.invariant-loop-at

@@ -1,8 +1,5 @@
 -- What `scan::declaration` leaves to show. Its loop is in Invariants.antt.
 -- Assumes nothing.
-use Prim.Native.Nat.{◌-◌}
-use lib.ListN.{length}
-use Rattle.scan.proofs.Declarations.{Declaring}
 use Rattle.scan.proofs.Declarations.{declares}
 use Rattle.scan.proofs.declaration.Goals as goal
 

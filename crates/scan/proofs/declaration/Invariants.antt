@@ -3,7 +3,6 @@
 use Prim.Native.Nat.{◌-◌}
 use lib.ListN.{length}
 use Rattle.scan.proofs.Declarations.{Declaring}
-use Rattle.scan.proofs.Declarations.{declares}
 use Rattle.scan.proofs.declaration.Given as goal
 
 abbrev pub invariant-loop-at : goal.invariant-loop-at

@@ -1,8 +1,5 @@
 -- What `scan::ignorable` leaves to show. Its loop is in Invariants.antt.
 -- Assumes nothing.
-use Prim.Native.Nat.{◌-◌}
-use lib.ListN.{length}
-use Rattle.scan.proofs.Ignoring.{Ignoring}
 use Rattle.scan.proofs.Ignoring.{ignores}
 use Rattle.scan.proofs.ignorable.Goals as goal
 

@@ -3,7 +3,6 @@
 use Prim.Native.Nat.{◌-◌}
 use lib.ListN.{length}
 use Rattle.scan.proofs.Ignoring.{Ignoring}
-use Rattle.scan.proofs.Ignoring.{ignores}
 use Rattle.scan.proofs.ignorable.Given as goal
 
 abbrev pub invariant-loop-at : goal.invariant-loop-at

@@ -1,9 +1,5 @@
 -- What `scan::nc_name_end` leaves to show. Its loop is in Invariants.antt.
 -- Assumes nothing.
-use Prim.Native.Nat.{◌-◌}
-use lib.ListN.{length}
-use Rattle.scan.specs.Classes.{nc_name_byte}
-use Rattle.slices.proofs.Runs.{Running}
 use Rattle.slices.proofs.Runs.{runs}
 use Rattle.scan.proofs.nc_name_end.Goals as goal
 

@@ -1,8 +1,5 @@
 -- What `scan::prefixed` leaves to show. Its loop is in Invariants.antt.
 -- Assumes nothing.
-use Prim.Native.Nat.{◌-◌}
-use lib.ListN.{length}
-use Rattle.scan.proofs.Prefixes.{Prefixed}
 use Rattle.scan.proofs.Prefixes.{named}
 use Rattle.scan.proofs.prefixed.Goals as goal
 

@@ -3,7 +3,6 @@
 use Prim.Native.Nat.{◌-◌}
 use lib.ListN.{length}
 use Rattle.scan.proofs.Prefixes.{Prefixed}
-use Rattle.scan.proofs.Prefixes.{named}
 use Rattle.scan.proofs.prefixed.Given as goal
 
 abbrev pub invariant-loop-at : goal.invariant-loop-at

@@ -1,9 +1,5 @@
 -- What `scan::space_end` leaves to show. Its loop is in Invariants.antt.
 -- Assumes nothing.
-use Prim.Native.Nat.{◌-◌}
-use lib.ListN.{length}
-use Rattle.scan.specs.Classes.{white}
-use Rattle.slices.proofs.Runs.{Running}
 use Rattle.slices.proofs.Runs.{runs}
 use Rattle.scan.proofs.space_end.Goals as goal
 

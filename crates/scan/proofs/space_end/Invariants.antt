@@ -4,7 +4,6 @@ use Prim.Native.Nat.{◌-◌}
 use lib.ListN.{length}
 use Rattle.scan.specs.Classes.{white}
 use Rattle.slices.proofs.Runs.{Running}
-use Rattle.slices.proofs.Runs.{runs}
 use Rattle.scan.proofs.space_end.Given as goal
 
 abbrev pub invariant-loop-at : goal.invariant-loop-at

@@ -1,8 +1,5 @@
 -- What `scan::until` leaves to show. Its loop is in Invariants.antt.
 -- Assumes nothing.
-use Prim.Native.Nat.{◌-◌}
-use lib.ListN.{length}
-use Rattle.scan.proofs.Seek.{Seeking}
 use Rattle.scan.proofs.Seek.{seeks}
 use Rattle.scan.proofs.until.Goals as goal
 

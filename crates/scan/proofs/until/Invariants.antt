@@ -3,7 +3,6 @@
 use Prim.Native.Nat.{◌-◌}
 use lib.ListN.{length}
 use Rattle.scan.proofs.Seek.{Seeking}
-use Rattle.scan.proofs.Seek.{seeks}
 use Rattle.scan.proofs.until.Given as goal
 
 abbrev pub invariant-loop-at : goal.invariant-loop-at

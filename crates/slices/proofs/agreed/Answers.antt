@@ -1,7 +1,5 @@
 -- What `slices::agreed` leaves to show. Its loop is in Invariants.antt.
 -- Assumes nothing.
-use Rattle.std.proofs.Common.{◌-◌, length}
-use Rattle.slices.specs.Word.{Agrees}
 use Rattle.slices.proofs.Words.{agrees}
 use Rattle.slices.proofs.agreed.Goals as goal
 

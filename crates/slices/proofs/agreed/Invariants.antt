@@ -2,7 +2,6 @@
 -- Assumes nothing.
 use Rattle.std.proofs.Common.{◌-◌, length}
 use Rattle.slices.specs.Word.{Agrees}
-use Rattle.slices.proofs.Words.{agrees}
 use Rattle.slices.proofs.agreed.Given as goal
 
 abbrev pub invariant-loop-i : goal.invariant-loop-i

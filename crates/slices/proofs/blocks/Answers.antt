@@ -1,7 +1,5 @@
 -- What `slices::blocks` leaves to show. Its loop is in Invariants.antt.
 -- Assumes nothing.
-use Rattle.std.proofs.Common.{◌-◌, length}
-use Rattle.slices.specs.Run.{Without}
 use Rattle.slices.proofs.Skips.{skips}
 use Rattle.slices.proofs.blocks.Goals as goal
 

@@ -2,7 +2,6 @@
 -- Assumes nothing.
 use Rattle.std.proofs.Common.{◌-◌, length}
 use Rattle.slices.specs.Run.{Without}
-use Rattle.slices.proofs.Skips.{skips}
 use Rattle.slices.proofs.blocks.Given as goal
 
 abbrev pub invariant-loop-at : goal.invariant-loop-at

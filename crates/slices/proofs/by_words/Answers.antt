@@ -1,6 +1,6 @@
 -- What `slices::by_words` leaves to show. Its loop is in Invariants.antt.
 -- Assumes nothing.
-use Rattle.slices.proofs.Skips.{Seeking, skips}
+use Rattle.slices.proofs.Skips.{skips}
 use Rattle.slices.proofs.by_words.Goals as goal
 
 pub loop-left-init : goal.loop-left-init

@@ -1,6 +1,6 @@
 -- `slices::by_words` meets its contract: no byte up to here is b, and so many words are left.
 -- Assumes nothing.
-use Rattle.slices.proofs.Skips.{Seeking, skips}
+use Rattle.slices.proofs.Skips.{Seeking}
 use Rattle.slices.proofs.by_words.Given as goal
 
 abbrev pub invariant-loop-left : goal.invariant-loop-left

@@ -1,6 +1,6 @@
 -- `slices::byte` meets its contract.
 -- Assumes nothing.
-use Rattle.std.proofs.Common.{refl, arith, rules}
+use Rattle.std.proofs.Common.{refl, arith}
 use Rattle.slices.proofs.byte.Goals as goal
 
 pub overflow_cast-result : goal.overflow_cast-result

@@ -1,8 +1,5 @@
 -- What `slices::find` leaves to show. Its loop is in Invariants.antt.
 -- Assumes nothing.
-use Rattle.std.proofs.Common.{◌-◌, length}
-use Rattle.slices.specs.Bytes.{other}
-use Rattle.slices.proofs.Runs.{Running}
 use Rattle.slices.proofs.Skips.{finds}
 use Rattle.slices.proofs.find.Goals as goal
 

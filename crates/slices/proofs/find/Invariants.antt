@@ -3,7 +3,6 @@
 use Rattle.std.proofs.Common.{◌-◌, length}
 use Rattle.slices.specs.Bytes.{other}
 use Rattle.slices.proofs.Runs.{Running}
-use Rattle.slices.proofs.Skips.{finds}
 use Rattle.slices.proofs.find.Given as goal
 
 abbrev pub invariant-loop-at : goal.invariant-loop-at

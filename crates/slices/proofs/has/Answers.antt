@@ -1,7 +1,5 @@
 -- What `slices::has` leaves to show. Its loop is in Invariants.antt.
 -- Assumes nothing.
-use Rattle.std.proofs.Common.{◌-◌, ⊎_elim}
-use Rattle.slices.specs.Run.{Told}
 use Rattle.slices.proofs.Skips.{tells}
 use Rattle.slices.proofs.has.Goals as goal
 

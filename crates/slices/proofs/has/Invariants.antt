@@ -1,8 +1,7 @@
 -- `slices::has` meets its contract: up to here the flag tells whether b was there.
 -- Assumes nothing.
-use Rattle.std.proofs.Common.{◌-◌, ⊎_elim}
+use Rattle.std.proofs.Common.{◌-◌}
 use Rattle.slices.specs.Run.{Told}
-use Rattle.slices.proofs.Skips.{tells}
 use Rattle.slices.proofs.has.Given as goal
 
 abbrev pub invariant-loop-i : goal.invariant-loop-i

@@ -1,7 +1,6 @@
 -- What `slices::hash` leaves to show. Its loop is in Invariants.antt.
 -- Assumes nothing.
-use Rattle.slices.proofs.Hashing.{hashing, Hashing}
-use Rattle.std.proofs.Common.{◌-◌, length}
+use Rattle.slices.proofs.Hashing.{hashing}
 use Rattle.slices.proofs.hash.Goals as goal
 
 pub loop-i-init : goal.loop-i-init

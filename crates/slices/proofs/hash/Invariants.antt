@@ -1,6 +1,6 @@
 -- `slices::hash` meets its contract.
 -- Assumes nothing.
-use Rattle.slices.proofs.Hashing.{hashing, Hashing}
+use Rattle.slices.proofs.Hashing.{Hashing}
 use Rattle.std.proofs.Common.{◌-◌, length}
 use Rattle.slices.proofs.hash.Given as goal
 

@@ -1,7 +1,6 @@
 -- What `slices::starts_at` leaves to show. Its loop is in Invariants.antt.
 -- Assumes nothing.
-use Rattle.std.proofs.Common.{◌-◌, length}
-use Rattle.slices.proofs.Runs.{Matching, matches}
+use Rattle.slices.proofs.Runs.{matches}
 use Rattle.slices.proofs.starts_at.Goals as goal
 
 pub overflow_sub-s : goal.overflow_sub-s

@@ -1,6 +1,5 @@
 -- `slices::word` meets its contract: the sum of the 8 bytes, each at its place.
 -- Assumes nothing.
-use Rattle.std.proofs.Common.{rules}
 use Rattle.slices.proofs.Words.{worded}
 use Rattle.slices.proofs.word.Goals as goal
 

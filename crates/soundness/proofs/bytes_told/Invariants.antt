@@ -1,8 +1,6 @@
 -- `soundness::bytes_told` meets its contract: the sum stays small enough.
 -- Assumes nothing.
 use Prim.Native.Nat.{◌-◌, ◌*◌, ◌≤◌}
-use borrow.Author.Rules.{rules}
-use native.Mathlib.Omega.{arith}
 use Rattle.soundness.proofs.bytes_told.Given as goal
 
 abbrev pub invariant-loop-i : goal.invariant-loop-i

@@ -2,7 +2,7 @@
 -- Assumes nothing.
 use Prim.Native.Nat.{◌-◌}
 use Rattle.std.proofs.Common.{refl}
-use Rattle.soundness.proofs.Rows.{Checking, checks, check_more}
+use Rattle.soundness.proofs.Rows.{checks, check_more}
 use Rattle.soundness.proofs.first_known.Goals as goal
 
 pub loop-i-init : goal.loop-i-init

@@ -1,7 +1,7 @@
 -- `soundness::first_known` meets its contract: what is left of the rows decides.
 -- Assumes nothing.
 use Prim.Native.Nat.{◌-◌}
-use Rattle.soundness.proofs.Rows.{Checking, checks}
+use Rattle.soundness.proofs.Rows.{Checking}
 use Rattle.soundness.proofs.first_known.Given as goal
 
 abbrev pub invariant-loop-i : goal.invariant-loop-i

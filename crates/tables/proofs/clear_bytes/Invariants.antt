@@ -2,7 +2,7 @@
 -- Assumes nothing.
 use Prim.Native.Nat.{◌-◌}
 use lib.ListN.{length}
-use Rattle.tables.proofs.Tables.{Clearing, tables}
+use Rattle.tables.proofs.Tables.{Clearing}
 use Rattle.tables.proofs.clear_bytes.Given as goal
 
 abbrev pub invariant-loop-i : goal.invariant-loop-i

@@ -2,7 +2,7 @@
 -- Assumes nothing.
 use Prim.Native.Nat.{◌-◌}
 use lib.ListN.{length}
-use Rattle.tables.proofs.Tables.{Copying, tables}
+use Rattle.tables.proofs.Tables.{Copying}
 use Rattle.tables.proofs.copy_words.Given as goal
 
 abbrev pub invariant-loop-i : goal.invariant-loop-i

@@ -1,11 +1,7 @@
 -- What `telepathy::definition_children` leaves to show. Its loop is in Invariants.antt.
 -- Assumes nothing.
 use Prim.Native.Nat.{◌-◌}
-use mathlib.Core.Path.{◌≡◌}
-use lib.ListN.{length}
-use Rattle.scan.specs.Classes.{Classes}
-use Rattle.document.specs.Outcome.{lent}
-use Rattle.telepathy.proofs.Bodies.{Sofar, bodies}
+use Rattle.telepathy.proofs.Bodies.{bodies}
 use Rattle.telepathy.proofs.definition_children.Goals as goal
 
 pub no_parts-p-requires : goal.no_parts-p-requires

@@ -5,7 +5,7 @@ use mathlib.Core.Path.{◌≡◌}
 use lib.ListN.{length}
 use Rattle.scan.specs.Classes.{Classes}
 use Rattle.document.specs.Outcome.{lent}
-use Rattle.telepathy.proofs.Bodies.{Sofar, bodies}
+use Rattle.telepathy.proofs.Bodies.{Sofar}
 use Rattle.telepathy.proofs.definition_children.Given as goal
 
 abbrev pub invariant-loop-refusal : goal.invariant-loop-refusal

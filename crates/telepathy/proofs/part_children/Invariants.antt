@@ -2,12 +2,10 @@
 -- Assumes nothing.
 use Prim.Native.Nat.{◌-◌}
 use mathlib.Core.Path.{◌≡◌}
-use mathlib.Core.List.{[]}
 use mathlib.Core.Bool.{true}
 use lib.ListN.{length}
 use Rattle.document.specs.Outcome.{lent}
 use Rattle.document.proofs.Loops.{Sofar}
-use Rattle.telepathy.proofs.Sorts.{part_loop}
 use Rattle.telepathy.proofs.part_children.Given as goal
 
 abbrev pub invariant-loop-refusal : goal.invariant-loop-refusal

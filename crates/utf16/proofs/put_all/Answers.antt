@@ -1,8 +1,6 @@
 -- What `utf16::put_all` leaves to show. Its loop is in Invariants.antt.
 -- Assumes nothing.
 use Prim.Native.Nat.{◌-◌}
-use lib.ListN.{length}
-use Rattle.utf16.specs.Outcome.{Decodes}
 use Rattle.utf16.proofs.Decoding.{steps}
 use Rattle.utf16.proofs.put_all.Goals as goal
 

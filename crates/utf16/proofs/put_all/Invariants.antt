@@ -3,7 +3,6 @@
 use Prim.Native.Nat.{◌-◌}
 use lib.ListN.{length}
 use Rattle.utf16.specs.Outcome.{Decodes}
-use Rattle.utf16.proofs.Decoding.{steps}
 use Rattle.utf16.proofs.put_all.Given as goal
 
 abbrev pub invariant-loop-at : goal.invariant-loop-at

@@ -1,7 +1,7 @@
 -- What `utf16::put_block` leaves to show. Its loop is in Invariants.antt.
 -- Assumes nothing.
 use Prim.Native.Nat.{◌-◌}
-use Rattle.utf16.proofs.Decoding.{Blocks, blocks}
+use Rattle.utf16.proofs.Decoding.{blocks}
 use Rattle.utf16.proofs.put_block.Goals as goal
 
 pub low_byte-low-requires : goal.low_byte-low-requires

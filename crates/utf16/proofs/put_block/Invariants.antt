@@ -1,7 +1,7 @@
 -- `utf16::put_block` meets its contract.
 -- Assumes nothing.
 use Prim.Native.Nat.{◌-◌}
-use Rattle.utf16.proofs.Decoding.{Blocks, blocks}
+use Rattle.utf16.proofs.Decoding.{Blocks}
 use Rattle.utf16.proofs.put_block.Given as goal
 
 abbrev pub invariant-loop-i : goal.invariant-loop-i

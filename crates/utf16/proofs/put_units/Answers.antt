@@ -1,8 +1,6 @@
 -- What `utf16::put_units` leaves to show. Its loop is in Invariants.antt.
 -- Assumes nothing.
 use Prim.Native.Nat.{◌-◌}
-use lib.ListN.{length}
-use Rattle.utf16.specs.Outcome.{Decodes}
 use Rattle.utf16.proofs.Decoding.{puts}
 use Rattle.utf16.proofs.put_units.Goals as goal
 

@@ -3,7 +3,6 @@
 use Prim.Native.Nat.{◌-◌}
 use lib.ListN.{length}
 use Rattle.utf16.specs.Outcome.{Decodes}
-use Rattle.utf16.proofs.Decoding.{puts}
 use Rattle.utf16.proofs.put_units.Given as goal
 
 abbrev pub invariant-loop-at : goal.invariant-loop-at

@@ -1,7 +1,7 @@
 -- What `utf16::within` leaves to show. Its loop is in Invariants.antt.
 -- Assumes nothing.
 use Prim.Native.Nat.{◌-◌}
-use Rattle.utf16.proofs.Limits.{Limiting, limits}
+use Rattle.utf16.proofs.Limits.{limits}
 use Rattle.utf16.proofs.within.Goals as goal
 
 pub loop-i-init : goal.loop-i-init

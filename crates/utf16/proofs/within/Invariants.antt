@@ -1,7 +1,7 @@
 -- `utf16::within` meets its contract.
 -- Assumes nothing.
 use Prim.Native.Nat.{◌-◌}
-use Rattle.utf16.proofs.Limits.{Limiting, limits}
+use Rattle.utf16.proofs.Limits.{Limiting}
 use Rattle.utf16.proofs.within.Given as goal
 
 abbrev pub invariant-loop-i : goal.invariant-loop-i

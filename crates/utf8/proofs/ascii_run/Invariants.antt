@@ -3,7 +3,6 @@
 use Prim.Native.Nat.{◌-◌}
 use lib.ListN.{length}
 use Rattle.utf8.specs.Ascii.{Ascii}
-use Rattle.utf8.proofs.Ascii.{asciis}
 use Rattle.utf8.proofs.ascii_run.Given as goal
 
 abbrev pub invariant-loop-at : goal.invariant-loop-at

@@ -1,6 +1,6 @@
 -- What `utf8::back` leaves to show. Its loop is in Invariants.antt.
 -- Assumes nothing.
-use Rattle.utf8.proofs.Ends.{Backing, backs}
+use Rattle.utf8.proofs.Ends.{backs}
 use Rattle.utf8.proofs.back.Goals as goal
 
 pub overflow_sub-at : goal.overflow_sub-at

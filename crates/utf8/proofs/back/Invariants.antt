@@ -1,6 +1,6 @@
 -- `utf8::back` meets its contract. The invariant: the last character begins here or before. The measure is the place.
 -- Assumes nothing.
-use Rattle.utf8.proofs.Ends.{Backing, backs}
+use Rattle.utf8.proofs.Ends.{Backing}
 use Rattle.utf8.proofs.back.Given as goal
 
 abbrev pub invariant-loop-at : goal.invariant-loop-at

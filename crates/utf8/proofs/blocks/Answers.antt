@@ -1,8 +1,5 @@
 -- What `utf8::blocks` leaves to show. Its loop is in Invariants.antt.
 -- Assumes nothing.
-use Prim.Native.Nat.{◌-◌}
-use lib.ListN.{length}
-use Rattle.utf8.specs.Ascii.{Ascii}
 use Rattle.utf8.proofs.Ascii.{asciis}
 use Rattle.utf8.proofs.blocks.Goals as goal
 

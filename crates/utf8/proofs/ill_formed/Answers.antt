@@ -1,8 +1,6 @@
 -- What `utf8::ill_formed` leaves to show. Its loop is in Invariants.antt.
 -- Assumes nothing.
-use Prim.Native.Nat.{◌-◌}
-use lib.ListN.{length}
-use Rattle.utf8.proofs.Finding.{Found, finds}
+use Rattle.utf8.proofs.Finding.{finds}
 use Rattle.utf8.proofs.ill_formed.Goals as goal
 
 pub blocks-requires : goal.blocks-requires

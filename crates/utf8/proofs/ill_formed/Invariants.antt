@@ -2,7 +2,7 @@
 -- Assumes nothing.
 use Prim.Native.Nat.{◌-◌}
 use lib.ListN.{length}
-use Rattle.utf8.proofs.Finding.{Found, finds}
+use Rattle.utf8.proofs.Finding.{Found}
 use Rattle.utf8.proofs.ill_formed.Given as goal
 
 abbrev pub invariant-loop-at : goal.invariant-loop-at

@@ -1,8 +1,5 @@
 -- What `utf8::largest` leaves to show. Its loop is in Invariants.antt.
 -- Assumes nothing.
-use Prim.Native.Nat.{◌-◌}
-use mathlib.Core.Logic.{⊎_elim}
-use Rattle.utf8.specs.Ascii.{AtMost}
 use Rattle.utf8.proofs.Ascii.{mosts}
 use Rattle.utf8.proofs.largest.Goals as goal
 

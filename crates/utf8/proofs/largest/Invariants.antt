@@ -1,9 +1,7 @@
 -- `utf8::largest` meets its contract. The invariant: none of the bytes passed is larger than `m`.
 -- Assumes nothing.
 use Prim.Native.Nat.{◌-◌}
-use mathlib.Core.Logic.{⊎_elim}
 use Rattle.utf8.specs.Ascii.{AtMost}
-use Rattle.utf8.proofs.Ascii.{mosts}
 use Rattle.utf8.proofs.largest.Given as goal
 
 abbrev pub invariant-loop-i : goal.invariant-loop-i

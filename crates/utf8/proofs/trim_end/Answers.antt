@@ -1,6 +1,6 @@
 -- What `utf8::trim_end` leaves to show. Its loop is in Invariants.antt.
 -- Assumes nothing.
-use Rattle.utf8.proofs.Ends.{Ending, ends}
+use Rattle.utf8.proofs.Ends.{ends}
 use Rattle.utf8.proofs.trim_end.Goals as goal
 
 pub loop-end-init : goal.loop-end-init

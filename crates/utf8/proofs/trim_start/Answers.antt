@@ -1,8 +1,6 @@
 -- What `utf8::trim_start` leaves to show. Its loop is in Invariants.antt.
 -- Assumes nothing.
-use Prim.Native.Nat.{◌-◌}
-use lib.ListN.{length}
-use Rattle.utf8.proofs.Trims.{Trimming, trims}
+use Rattle.utf8.proofs.Trims.{trims}
 use Rattle.utf8.proofs.trim_start.Goals as goal
 
 pub loop-at-init : goal.loop-at-init

@@ -2,7 +2,7 @@
 -- Assumes nothing.
 use Prim.Native.Nat.{◌-◌}
 use lib.ListN.{length}
-use Rattle.utf8.proofs.Trims.{Trimming, trims}
+use Rattle.utf8.proofs.Trims.{Trimming}
 use Rattle.utf8.proofs.trim_start.Given as goal
 
 abbrev pub invariant-loop-at : goal.invariant-loop-at

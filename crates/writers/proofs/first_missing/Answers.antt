@@ -1,8 +1,7 @@
 -- What `writers::first_missing` leaves to show. Its loop is in Invariants.antt.
 -- Assumes nothing.
 use Prim.Native.Nat.{◌-◌}
-use lib.ListN.{length}
-use Rattle.writers.proofs.Several.{Looking, looks}
+use Rattle.writers.proofs.Several.{looks}
 use Rattle.writers.proofs.first_missing.Goals as goal
 
 pub loop-k-init : goal.loop-k-init

@@ -2,7 +2,7 @@
 -- Assumes nothing.
 use Prim.Native.Nat.{◌-◌}
 use lib.ListN.{length}
-use Rattle.writers.proofs.Several.{Looking, looks}
+use Rattle.writers.proofs.Several.{Looking}
 use Rattle.writers.proofs.first_missing.Given as goal
 
 abbrev pub invariant-loop-k : goal.invariant-loop-k

@@ -1,7 +1,7 @@
 -- What `writers::put_annotations` leaves to show. Its loop is in Invariants.antt.
 -- Assumes nothing.
 use Prim.Native.Nat.{◌-◌}
-use Rattle.writers.proofs.Texts.{Annotating, notes}
+use Rattle.writers.proofs.Texts.{notes}
 use Rattle.writers.proofs.put_annotations.Goals as goal
 
 pub loop-k-init : goal.loop-k-init

@@ -1,7 +1,7 @@
 -- `writers::put_annotations` meets its contract: what is put and what is left are the annotations asked for.
 -- Assumes nothing.
 use Prim.Native.Nat.{◌-◌}
-use Rattle.writers.proofs.Texts.{Annotating, notes}
+use Rattle.writers.proofs.Texts.{Annotating}
 use Rattle.writers.proofs.put_annotations.Given as goal
 
 abbrev pub invariant-loop-k : goal.invariant-loop-k

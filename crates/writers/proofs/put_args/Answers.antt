@@ -1,7 +1,7 @@
 -- What `writers::put_args` leaves to show. Its loop is in Invariants.antt.
 -- Assumes nothing.
 use Prim.Native.Nat.{◌-◌}
-use Rattle.writers.proofs.Members.{Arguing, argues}
+use Rattle.writers.proofs.Members.{argues}
 use Rattle.writers.proofs.put_args.Goals as goal
 
 pub loop-k-init : goal.loop-k-init

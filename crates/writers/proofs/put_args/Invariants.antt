@@ -1,7 +1,7 @@
 -- `writers::put_args` meets its contract: what is put and what is left are the args asked for.
 -- Assumes nothing.
 use Prim.Native.Nat.{◌-◌}
-use Rattle.writers.proofs.Members.{Arguing, argues}
+use Rattle.writers.proofs.Members.{Arguing}
 use Rattle.writers.proofs.put_args.Given as goal
 
 abbrev pub invariant-loop-k : goal.invariant-loop-k

@@ -1,8 +1,7 @@
 -- What `writers::put_rows` leaves to show. Its loop is in Invariants.antt.
 -- Assumes nothing.
 use Prim.Native.Nat.{◌-◌}
-use lib.ListN.{length}
-use Rattle.writers.proofs.Several.{Adding, adding}
+use Rattle.writers.proofs.Several.{adding}
 use Rattle.writers.proofs.put_rows.Goals as goal
 
 pub loop-k-init : goal.loop-k-init

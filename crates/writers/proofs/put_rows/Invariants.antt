@@ -2,7 +2,7 @@
 -- Assumes nothing.
 use Prim.Native.Nat.{◌-◌}
 use lib.ListN.{length}
-use Rattle.writers.proofs.Several.{Adding, adding}
+use Rattle.writers.proofs.Several.{Adding}
 use Rattle.writers.proofs.put_rows.Given as goal
 
 abbrev pub invariant-loop-k : goal.invariant-loop-k

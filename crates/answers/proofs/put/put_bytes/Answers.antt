@@ -1,8 +1,6 @@
 -- What `answers::put::put_bytes` leaves to show. Its loop is in Invariants.antt.
 -- Assumes nothing.
 use Prim.Native.Nat.{◌-◌}
-use lib.ListN.{length}
-use Rattle.answers.proofs.Putting.{Putting}
 use Rattle.answers.proofs.Putting.{puts}
 use Rattle.answers.proofs.put.put_bytes.Goals as goal
 

@@ -3,7 +3,6 @@
 use Prim.Native.Nat.{◌-◌}
 use lib.ListN.{length}
 use Rattle.answers.proofs.Putting.{Putting}
-use Rattle.answers.proofs.Putting.{puts}
 use Rattle.answers.proofs.put.put_bytes.Given as goal
 
 abbrev pub invariant-loop-i : goal.invariant-loop-i

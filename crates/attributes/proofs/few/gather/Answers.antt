@@ -3,8 +3,7 @@
 use Prim.Native.Nat.{◌-◌}
 use borrow.Author.Rules.{rules}
 use native.Mathlib.Omega.{arith}
-use lib.ListN.{length}
-use Rattle.attributes.proofs.Slots.{Slotting, slotting, slot_within, slot_onward, slot_after, slots_more}
+use Rattle.attributes.proofs.Slots.{slotting, slot_within, slot_onward, slot_after, slots_more}
 use Rattle.attributes.proofs.few.gather.Goals as goal
 
 pub loop-s-init : goal.loop-s-init

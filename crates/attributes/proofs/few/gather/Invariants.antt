@@ -1,10 +1,8 @@
 -- `attributes::few::gather` meets its contract: the slots hold the values of the attributes gathered.
 -- Assumes nothing.
 use Prim.Native.Nat.{◌-◌}
-use borrow.Author.Rules.{rules}
-use native.Mathlib.Omega.{arith}
 use lib.ListN.{length}
-use Rattle.attributes.proofs.Slots.{Slotting, slotting, slot_within, slot_onward, slot_after, slots_more}
+use Rattle.attributes.proofs.Slots.{Slotting}
 use Rattle.attributes.proofs.few.gather.Given as goal
 
 abbrev pub invariant-loop-s : goal.invariant-loop-s

@@ -1,9 +1,7 @@
 -- What `attributes::few::plain_end` leaves to show. Its loop is in Invariants.antt.
 -- Assumes nothing.
 use Prim.Native.Nat.{◌-◌}
-use lib.ListN.{length}
 use Rattle.std.proofs.Common.{arith}
-use Rattle.attributes.proofs.Found.{Quoting}
 use Rattle.attributes.proofs.Starting.{plain_more, plains}
 use Rattle.attributes.proofs.few.plain_end.Goals as goal
 

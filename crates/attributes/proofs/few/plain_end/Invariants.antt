@@ -3,7 +3,6 @@
 use Prim.Native.Nat.{◌-◌}
 use lib.ListN.{length}
 use Rattle.attributes.proofs.Found.{Quoting}
-use Rattle.attributes.proofs.Starting.{plains}
 use Rattle.attributes.proofs.few.plain_end.Given as goal
 
 abbrev pub invariant-loop-at : goal.invariant-loop-at

@@ -1,6 +1,6 @@
 -- What `attributes::gathered::check` leaves to show. Its loop is in Invariants.antt.
 -- Assumes nothing.
-use Rattle.attributes.proofs.Checking.{Turn, turn_fault, turn_more, turn_end}
+use Rattle.attributes.proofs.Checking.{turn_fault, turn_more, turn_end}
 use Rattle.attributes.proofs.gathered.check.Goals as goal
 
 pub returns-in-Fault : goal.returns-in-Fault

@@ -1,6 +1,6 @@
 -- What `attributes::gathered::judge` leaves to show.
 -- Assumes nothing.
-use Rattle.std.proofs.Common.{◌≡◌, false, get_or, sym, subst}
+use Rattle.std.proofs.Common.{◌≡◌, false, get_or, subst}
 use Rattle.std.proofs.lemmas.List.{get_or_default}
 use Rattle.attributes.specs.declared.Attribute.{Attribute}
 use Rattle.attributes.specs.Lookup.{blank, wanted, Picks}

@@ -3,9 +3,9 @@
 use Prim.Native.Nat.{◌-◌}
 use mathlib.Core.Bool.{false}
 use native.Mathlib.Omega.{arith}
-use lib.ListN.{length, length-replicate}
+use lib.ListN.{length-replicate}
 use Rattle.attributes.specs.Lookup.{blank}
-use Rattle.attributes.proofs.Marking.{Marking, marks, mark_begins}
+use Rattle.attributes.proofs.Marking.{marks, mark_begins}
 use Rattle.attributes.proofs.many.gather.Goals as goal
 
 pub loop-attrs-init : goal.loop-attrs-init

@@ -1,11 +1,8 @@
 -- `attributes::many::gather` meets its contract: what was asked is what is asked from here on, after the first n, whose entries are taken.
 -- Assumes nothing.
 use Prim.Native.Nat.{◌-◌}
-use mathlib.Core.Bool.{false}
-use native.Mathlib.Omega.{arith}
-use lib.ListN.{length, length-replicate}
-use Rattle.attributes.specs.Lookup.{blank}
-use Rattle.attributes.proofs.Marking.{Marking, marks, mark_begins}
+use lib.ListN.{length}
+use Rattle.attributes.proofs.Marking.{Marking}
 use Rattle.attributes.proofs.many.gather.Given as goal
 
 abbrev pub invariant-loop-attrs : goal.invariant-loop-attrs

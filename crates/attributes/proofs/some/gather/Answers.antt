@@ -1,9 +1,7 @@
 -- What `attributes::some::gather` leaves to show. Its loop is in Invariants.antt.
 -- Assumes nothing.
 use Prim.Native.Nat.{◌-◌}
-use lib.ListN.{length}
-use Rattle.attributes.specs.Outcome.{Fresh}
-use Rattle.attributes.proofs.Gathering.{Gathering, gathers}
+use Rattle.attributes.proofs.Gathering.{gathers}
 use Rattle.attributes.proofs.some.gather.Goals as goal
 
 pub loop-attrs-init : goal.loop-attrs-init

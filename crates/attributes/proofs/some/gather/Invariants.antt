@@ -3,7 +3,7 @@
 use Prim.Native.Nat.{◌-◌}
 use lib.ListN.{length}
 use Rattle.attributes.specs.Outcome.{Fresh}
-use Rattle.attributes.proofs.Gathering.{Gathering, gathers}
+use Rattle.attributes.proofs.Gathering.{Gathering}
 use Rattle.attributes.proofs.some.gather.Given as goal
 
 abbrev pub invariant-loop-attrs : goal.invariant-loop-attrs

@@ -1,9 +1,6 @@
 -- What `order::candidate::link_all` leaves to show. Its loop is in Invariants.antt.
 -- Assumes nothing.
 use Rattle.order.proofs.Keeping.{linking}
-use mathlib.Core.Path.{◌≡◌}
-use lib.ListN.{length}
-use Rattle.order.specs.Index.{Indexed}
 use Prim.Native.Nat.{◌-◌}
 use Rattle.order.proofs.candidate.link_all.Goals as goal
 

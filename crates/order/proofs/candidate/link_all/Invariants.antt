@@ -1,6 +1,5 @@
 -- `order::candidate::link_all` meets its contract.
 -- Assumes nothing.
-use Rattle.order.proofs.Keeping.{linking}
 use mathlib.Core.Path.{◌≡◌}
 use lib.ListN.{length}
 use Rattle.order.specs.Index.{Indexed}

@@ -1,6 +1,5 @@
 -- `order::candidate::release_all` meets its contract.
 -- Assumes nothing.
-use borrow.Author.Rules.{rules}
 use mathlib.Core.Path.{◌≡◌}
 use lib.ListN.{length}
 use Rattle.order.proofs.candidate.release_all.Given as goal

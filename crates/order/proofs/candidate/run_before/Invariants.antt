@@ -1,6 +1,5 @@
 -- `order::candidate::run_before` meets its contract.
 -- Assumes nothing.
-use borrow.Author.Rules.{rules}
 use Rattle.order.proofs.candidate.run_before.Given as goal
 
 abbrev pub invariant-loop-j : goal.invariant-loop-j

@@ -1,6 +1,6 @@
 -- What `order::certificate::are_placed` leaves to show. Its loop is in Invariants.antt.
 -- Assumes nothing.
-use Rattle.order.proofs.Checking.{placings, PlacedRows}
+use Rattle.order.proofs.Checking.{placings}
 use Prim.Native.Nat.{◌-◌}
 use Rattle.order.proofs.certificate.are_placed.Goals as goal
 

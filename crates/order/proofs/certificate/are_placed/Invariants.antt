@@ -1,6 +1,6 @@
 -- `order::certificate::are_placed` meets its contract.
 -- Assumes nothing.
-use Rattle.order.proofs.Checking.{placings, PlacedRows}
+use Rattle.order.proofs.Checking.{PlacedRows}
 use Prim.Native.Nat.{◌-◌}
 use Rattle.order.proofs.certificate.are_placed.Given as goal
 

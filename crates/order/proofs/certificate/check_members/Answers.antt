@@ -1,6 +1,6 @@
 -- What `order::certificate::check_members` leaves to show. Its loop is in Invariants.antt.
 -- Assumes nothing.
-use Rattle.order.proofs.Checking.{fallings, Fallen}
+use Rattle.order.proofs.Checking.{fallings}
 use Prim.Native.Nat.{◌-◌}
 use Rattle.order.proofs.certificate.check_members.Goals as goal
 

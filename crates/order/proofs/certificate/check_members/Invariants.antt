@@ -1,6 +1,6 @@
 -- `order::certificate::check_members` meets its contract.
 -- Assumes nothing.
-use Rattle.order.proofs.Checking.{fallings, Fallen}
+use Rattle.order.proofs.Checking.{Fallen}
 use Prim.Native.Nat.{◌-◌}
 use Rattle.order.proofs.certificate.check_members.Given as goal
 

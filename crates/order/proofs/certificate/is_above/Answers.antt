@@ -1,6 +1,6 @@
 -- What `order::certificate::is_above` leaves to show. Its loop is in Invariants.antt.
 -- Assumes nothing.
-use Rattle.order.proofs.Checking.{rising, Rising}
+use Rattle.order.proofs.Checking.{rising}
 use Rattle.order.proofs.certificate.is_above.Goals as goal
 
 pub loop-j-init : goal.loop-j-init

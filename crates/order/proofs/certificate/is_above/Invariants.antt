@@ -1,6 +1,6 @@
 -- `order::certificate::is_above` meets its contract.
 -- Assumes nothing.
-use Rattle.order.proofs.Checking.{rising, Rising}
+use Rattle.order.proofs.Checking.{Rising}
 use Rattle.order.proofs.certificate.is_above.Given as goal
 
 abbrev pub invariant-loop-j : goal.invariant-loop-j

@@ -1,7 +1,6 @@
 -- What `order::certificate::is_ascending` leaves to show. Its loop is in Invariants.antt.
 -- Assumes nothing.
 use Rattle.order.proofs.Checking.{ascending}
-use Rattle.order.specs.Certificate.{PlacedBefore}
 use Prim.Native.Nat.{◌-◌}
 use Rattle.order.proofs.certificate.is_ascending.Goals as goal
 

@@ -1,6 +1,5 @@
 -- `order::certificate::is_ascending` meets its contract.
 -- Assumes nothing.
-use Rattle.order.proofs.Checking.{ascending}
 use Rattle.order.specs.Certificate.{PlacedBefore}
 use Prim.Native.Nat.{◌-◌}
 use Rattle.order.proofs.certificate.is_ascending.Given as goal

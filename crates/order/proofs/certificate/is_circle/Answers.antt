@@ -1,7 +1,6 @@
 -- What `order::certificate::is_circle` leaves to show. Its loop is in Invariants.antt.
 -- Assumes nothing.
-use Rattle.order.proofs.Checking.{leading, Leads}
-use Rattle.items.specs.Words.{rows_shown}
+use Rattle.order.proofs.Checking.{leading}
 use Prim.Native.Nat.{◌-◌}
 use Rattle.order.proofs.certificate.is_circle.Goals as goal
 

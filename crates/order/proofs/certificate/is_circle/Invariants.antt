@@ -1,6 +1,6 @@
 -- `order::certificate::is_circle` meets its contract.
 -- Assumes nothing.
-use Rattle.order.proofs.Checking.{leading, Leads}
+use Rattle.order.proofs.Checking.{Leads}
 use Rattle.items.specs.Words.{rows_shown}
 use Prim.Native.Nat.{◌-◌}
 use Rattle.order.proofs.certificate.is_circle.Given as goal

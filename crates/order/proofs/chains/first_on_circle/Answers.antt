@@ -1,6 +1,6 @@
 -- What `order::chains::first_on_circle` leaves to show. Its loop is in Invariants.antt.
 -- Assumes nothing.
-use Rattle.order.proofs.Reaching.{circles, Uncircled}
+use Rattle.order.proofs.Reaching.{circles}
 use Prim.Native.Nat.{◌-◌}
 use Rattle.order.proofs.chains.first_on_circle.Goals as goal
 

@@ -1,6 +1,6 @@
 -- `order::chains::first_on_circle` meets its contract.
 -- Assumes nothing.
-use Rattle.order.proofs.Reaching.{circles, Uncircled}
+use Rattle.order.proofs.Reaching.{Uncircled}
 use Prim.Native.Nat.{◌-◌}
 use Rattle.order.proofs.chains.first_on_circle.Given as goal
 

@@ -1,6 +1,6 @@
 -- What `order::chains::next_reached` leaves to show. Its loop is in Invariants.antt.
 -- Assumes nothing.
-use Rattle.order.proofs.Reaching.{scans, Scanned}
+use Rattle.order.proofs.Reaching.{scans}
 use Prim.Native.Nat.{◌-◌}
 use Rattle.order.proofs.chains.next_reached.Goals as goal
 

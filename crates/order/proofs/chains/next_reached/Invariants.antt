@@ -1,6 +1,6 @@
 -- `order::chains::next_reached` meets its contract.
 -- Assumes nothing.
-use Rattle.order.proofs.Reaching.{scans, Scanned}
+use Rattle.order.proofs.Reaching.{Scanned}
 use Prim.Native.Nat.{◌-◌}
 use Rattle.order.proofs.chains.next_reached.Given as goal
 

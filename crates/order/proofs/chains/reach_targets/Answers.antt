@@ -1,6 +1,6 @@
 -- What `order::chains::reach_targets` leaves to show. Its loop is in Invariants.antt.
 -- Assumes nothing.
-use Rattle.order.proofs.Reaching.{reaching, Reaching}
+use Rattle.order.proofs.Reaching.{reaching}
 use Prim.Native.Nat.{◌-◌}
 use Rattle.order.proofs.chains.reach_targets.Goals as goal
 

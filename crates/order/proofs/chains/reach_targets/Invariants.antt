@@ -1,6 +1,6 @@
 -- `order::chains::reach_targets` meets its contract.
 -- Assumes nothing.
-use Rattle.order.proofs.Reaching.{reaching, Reaching}
+use Rattle.order.proofs.Reaching.{Reaching}
 use Prim.Native.Nat.{◌-◌}
 use Rattle.order.proofs.chains.reach_targets.Given as goal
 

@@ -1,7 +1,6 @@
 -- What `order::chains::search` leaves to show. Its loop is in Invariants.antt.
 -- Assumes nothing.
 use Rattle.order.proofs.Reaching.{searching}
-use Rattle.order.specs.Steps.{todo, Searching}
 use Rattle.order.proofs.chains.search.Goals as goal
 
 pub begin-k-requires : goal.begin-k-requires

@@ -1,6 +1,5 @@
 -- `order::chains::search` meets its contract.
 -- Assumes nothing.
-use Rattle.order.proofs.Reaching.{searching}
 use Rattle.order.specs.Steps.{todo, Searching}
 use Rattle.order.proofs.chains.search.Given as goal
 

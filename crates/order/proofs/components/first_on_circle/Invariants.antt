@@ -1,6 +1,5 @@
 -- `order::components::first_on_circle` meets its contract.
 -- Assumes nothing.
-use borrow.Author.Rules.{rules}
 use Prim.Native.Nat.{◌-◌}
 use Rattle.order.proofs.components.first_on_circle.Given as goal
 

@@ -1,6 +1,5 @@
 -- `order::components::is_used` meets its contract.
 -- Assumes nothing.
-use borrow.Author.Rules.{rules}
 use Rattle.order.proofs.components.is_used.Given as goal
 
 abbrev pub invariant-loop-steps : goal.invariant-loop-steps

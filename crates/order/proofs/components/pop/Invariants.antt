@@ -1,6 +1,5 @@
 -- `order::components::pop` meets its contract.
 -- Assumes nothing.
-use borrow.Author.Rules.{rules}
 use mathlib.Core.Path.{◌≡◌}
 use lib.ListN.{length}
 use Rattle.order.proofs.components.pop.Given as goal

@@ -1,6 +1,6 @@
 -- What `order::counts::count_definitions` leaves to show. Its loop is in Invariants.antt.
 -- Assumes nothing.
-use Rattle.order.proofs.Counting.{defining, Defining}
+use Rattle.order.proofs.Counting.{defining}
 use Prim.Native.Nat.{◌-◌}
 use Rattle.order.proofs.counts.count_definitions.Goals as goal
 

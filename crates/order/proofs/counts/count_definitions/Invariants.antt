@@ -1,6 +1,6 @@
 -- `order::counts::count_definitions` meets its contract.
 -- Assumes nothing.
-use Rattle.order.proofs.Counting.{defining, Defining}
+use Rattle.order.proofs.Counting.{Defining}
 use Prim.Native.Nat.{◌-◌}
 use Rattle.order.proofs.counts.count_definitions.Given as goal
 

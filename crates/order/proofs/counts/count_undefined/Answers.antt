@@ -1,6 +1,6 @@
 -- What `order::counts::count_undefined` leaves to show. Its loop is in Invariants.antt.
 -- Assumes nothing.
-use Rattle.order.proofs.Counting.{missing, Missing}
+use Rattle.order.proofs.Counting.{missing}
 use Prim.Native.Nat.{◌-◌}
 use Rattle.order.proofs.counts.count_undefined.Goals as goal
 

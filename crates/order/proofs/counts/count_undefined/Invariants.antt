@@ -1,6 +1,6 @@
 -- `order::counts::count_undefined` meets its contract.
 -- Assumes nothing.
-use Rattle.order.proofs.Counting.{missing, Missing}
+use Rattle.order.proofs.Counting.{Missing}
 use Prim.Native.Nat.{◌-◌}
 use Rattle.order.proofs.counts.count_undefined.Given as goal
 

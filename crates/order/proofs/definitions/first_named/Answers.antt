@@ -1,6 +1,6 @@
 -- What `order::definitions::first_named` leaves to show. Its loop is in Invariants.antt.
 -- Assumes nothing.
-use Rattle.order.proofs.Finding.{seeks, Seeking}
+use Rattle.order.proofs.Finding.{seeks}
 use Prim.Native.Nat.{◌-◌}
 use Rattle.order.proofs.definitions.first_named.Goals as goal
 

@@ -1,6 +1,6 @@
 -- `order::definitions::first_named` meets its contract.
 -- Assumes nothing.
-use Rattle.order.proofs.Finding.{seeks, Seeking}
+use Rattle.order.proofs.Finding.{Seeking}
 use Prim.Native.Nat.{◌-◌}
 use Rattle.order.proofs.definitions.first_named.Given as goal
 

@@ -1,7 +1,7 @@
 -- What `order::index::build` leaves to show. Its loop is in Invariants.antt.
 -- Assumes nothing.
 use borrow.Author.Rules.{rules}
-use Rattle.order.proofs.Indexing.{building, building_index, Building}
+use Rattle.order.proofs.Indexing.{building, building_index}
 use Rattle.order.proofs.index.build.Goals as goal
 
 pub clear_words-requires : goal.clear_words-requires

@@ -1,7 +1,6 @@
 -- `order::index::build` meets its contract.
 -- Assumes nothing.
-use borrow.Author.Rules.{rules}
-use Rattle.order.proofs.Indexing.{building, building_index, Building}
+use Rattle.order.proofs.Indexing.{Building}
 use Rattle.order.proofs.index.build.Given as goal
 
 abbrev pub invariant-loop-k : goal.invariant-loop-k

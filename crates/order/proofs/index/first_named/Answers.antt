@@ -1,9 +1,8 @@
 -- What `order::index::first_named` leaves to show. Its loop is in Invariants.antt.
 -- Assumes nothing.
 use borrow.Author.Rules.{rules}
-use Rattle.order.proofs.Indexing.{follows, follow_tagged, Following}
+use Rattle.order.proofs.Indexing.{follows, follow_tagged}
 use Prim.Native.Nat.{◌-◌}
-use lib.ListN.{length}
 use Rattle.order.proofs.index.first_named.Goals as goal
 
 pub hash-f-requires : goal.hash-f-requires

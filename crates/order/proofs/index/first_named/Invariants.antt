@@ -1,7 +1,6 @@
 -- `order::index::first_named` meets its contract.
 -- Assumes nothing.
-use borrow.Author.Rules.{rules}
-use Rattle.order.proofs.Indexing.{follows, follow_tagged, Following}
+use Rattle.order.proofs.Indexing.{Following}
 use Prim.Native.Nat.{◌-◌}
 use lib.ListN.{length}
 use Rattle.order.proofs.index.first_named.Given as goal

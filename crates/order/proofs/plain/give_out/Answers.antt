@@ -1,9 +1,6 @@
 -- What `order::plain::give_out` leaves to show. Its loop is in Invariants.antt.
 -- Assumes nothing.
-use Rattle.order.proofs.Giving.{giving, Giving}
-use lib.ListN.{length}
-use Rattle.items.specs.Words.{rows_shown}
-use Rattle.order.specs.Steps.{left_in}
+use Rattle.order.proofs.Giving.{giving}
 use Rattle.order.proofs.plain.give_out.Goals as goal
 
 pub next_ready-row-requires : goal.next_ready-row-requires

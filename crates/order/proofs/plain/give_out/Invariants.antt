@@ -1,6 +1,6 @@
 -- `order::plain::give_out` meets its contract.
 -- Assumes nothing.
-use Rattle.order.proofs.Giving.{giving, Giving}
+use Rattle.order.proofs.Giving.{Giving}
 use lib.ListN.{length}
 use Rattle.items.specs.Words.{rows_shown}
 use Rattle.order.specs.Steps.{left_in}

@@ -1,6 +1,6 @@
 -- What `order::plain::next_ready` leaves to show. Its loop is in Invariants.antt.
 -- Assumes nothing.
-use Rattle.order.proofs.Waiting.{nexts, Passed}
+use Rattle.order.proofs.Waiting.{nexts}
 use Prim.Native.Nat.{◌-◌}
 use Rattle.order.proofs.plain.next_ready.Goals as goal
 

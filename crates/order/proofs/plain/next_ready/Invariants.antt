@@ -1,6 +1,6 @@
 -- `order::plain::next_ready` meets its contract.
 -- Assumes nothing.
-use Rattle.order.proofs.Waiting.{nexts, Passed}
+use Rattle.order.proofs.Waiting.{Passed}
 use Prim.Native.Nat.{◌-◌}
 use Rattle.order.proofs.plain.next_ready.Given as goal
 

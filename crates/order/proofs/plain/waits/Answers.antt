@@ -1,6 +1,6 @@
 -- What `order::plain::waits` leaves to show. Its loop is in Invariants.antt.
 -- Assumes nothing.
-use Rattle.order.proofs.Waiting.{waiting, Waiting}
+use Rattle.order.proofs.Waiting.{waiting}
 use Prim.Native.Nat.{◌-◌}
 use Rattle.order.proofs.plain.waits.Goals as goal
 

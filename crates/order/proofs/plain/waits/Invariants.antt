@@ -1,6 +1,6 @@
 -- `order::plain::waits` meets its contract.
 -- Assumes nothing.
-use Rattle.order.proofs.Waiting.{waiting, Waiting}
+use Rattle.order.proofs.Waiting.{Waiting}
 use Prim.Native.Nat.{◌-◌}
 use Rattle.order.proofs.plain.waits.Given as goal
 

@@ -1,8 +1,6 @@
 -- What `references::digits::of_digits` leaves to show. Its loop is in Invariants.antt.
 -- Assumes nothing.
 use Prim.Native.Nat.{◌-◌}
-use lib.ListN.{length}
-use Rattle.references.proofs.Numbers.{Numbering}
 use Rattle.references.proofs.Numbers.{numbers}
 use Rattle.references.proofs.digits.of_digits.Goals as goal
 

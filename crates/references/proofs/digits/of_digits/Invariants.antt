@@ -3,7 +3,6 @@
 use Prim.Native.Nat.{◌-◌}
 use lib.ListN.{length}
 use Rattle.references.proofs.Numbers.{Numbering}
-use Rattle.references.proofs.Numbers.{numbers}
 use Rattle.references.proofs.digits.of_digits.Given as goal
 
 abbrev pub invariant-loop-at : goal.invariant-loop-at

@@ -1,7 +1,7 @@
 -- What `soundness::members::next_member` leaves to show. Its loop is in Invariants.antt.
 -- Assumes nothing.
 use Prim.Native.Nat.{◌-◌}
-use Rattle.soundness.proofs.Definitions.{Seeking, seeks}
+use Rattle.soundness.proofs.Definitions.{seeks}
 use Rattle.soundness.proofs.members.next_member.Goals as goal
 
 pub loop-k-init : goal.loop-k-init

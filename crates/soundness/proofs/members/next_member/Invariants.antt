@@ -1,7 +1,7 @@
 -- `soundness::members::next_member` meets its contract: the members left are the same.
 -- Assumes nothing.
 use Prim.Native.Nat.{◌-◌}
-use Rattle.soundness.proofs.Definitions.{Seeking, seeks}
+use Rattle.soundness.proofs.Definitions.{Seeking}
 use Rattle.soundness.proofs.members.next_member.Given as goal
 
 abbrev pub invariant-loop-k : goal.invariant-loop-k

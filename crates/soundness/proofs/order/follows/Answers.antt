@@ -1,6 +1,6 @@
 -- What `soundness::order::follows` leaves to show. Its loop is in Invariants.antt.
 -- Assumes nothing.
-use Rattle.soundness.proofs.Definitions.{Walk, walks}
+use Rattle.soundness.proofs.Definitions.{walks}
 use Rattle.soundness.proofs.order.follows.Goals as goal
 
 pub word-parent-requires : goal.word-parent-requires

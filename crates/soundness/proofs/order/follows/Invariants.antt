@@ -1,6 +1,6 @@
 -- `soundness::order::follows` meets its contract: the walk goes up.
 -- Assumes nothing.
-use Rattle.soundness.proofs.Definitions.{Walk, walks}
+use Rattle.soundness.proofs.Definitions.{Walk}
 use Rattle.soundness.proofs.order.follows.Given as goal
 
 abbrev pub invariant-loop-up : goal.invariant-loop-up

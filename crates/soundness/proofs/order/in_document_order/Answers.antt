@@ -2,7 +2,6 @@
 -- Assumes nothing.
 use Prim.Native.Nat.{◌-◌}
 use Rattle.soundness.proofs.Definitions.{orders}
-use Rattle.items.specs.Order.{DocumentOrder}
 use Rattle.soundness.proofs.order.in_document_order.Goals as goal
 
 pub loop-k-init : goal.loop-k-init

@@ -1,7 +1,6 @@
 -- `soundness::order::in_document_order` meets its contract.
 -- Assumes nothing.
 use Prim.Native.Nat.{◌-◌}
-use Rattle.soundness.proofs.Definitions.{orders}
 use Rattle.items.specs.Order.{DocumentOrder}
 use Rattle.soundness.proofs.order.in_document_order.Given as goal
 

@@ -1,9 +1,6 @@
 -- What `soundness::tally::count_all` leaves to show. Its loop is in Invariants.antt.
 -- Assumes nothing.
-use Prim.Native.Nat.{◌-◌, ◌≤◌}
-use mathlib.Core.Path.{◌≡◌}
-use lib.ListN.{length}
-use Rattle.soundness.specs.Outcome.{Tallied}
+use Prim.Native.Nat.{◌-◌}
 use Rattle.soundness.proofs.Tallies.{tallied}
 use Rattle.soundness.proofs.tally.count_all.Goals as goal
 

@@ -4,7 +4,6 @@ use Prim.Native.Nat.{◌-◌, ◌≤◌}
 use mathlib.Core.Path.{◌≡◌}
 use lib.ListN.{length}
 use Rattle.soundness.specs.Outcome.{Tallied}
-use Rattle.soundness.proofs.Tallies.{tallied}
 use Rattle.soundness.proofs.tally.count_all.Given as goal
 
 abbrev pub invariant-loop-k : goal.invariant-loop-k

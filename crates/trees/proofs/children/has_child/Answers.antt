@@ -1,7 +1,7 @@
 -- What `trees::children::has_child` leaves to show. Its loop is in Invariants.antt.
 -- Assumes nothing.
 use Prim.Native.Nat.{◌-◌}
-use Rattle.trees.proofs.Standing.{Having, haves}
+use Rattle.trees.proofs.Standing.{haves}
 use Rattle.trees.proofs.children.has_child.Goals as goal
 
 pub overflow_add-k : goal.overflow_add-k

@@ -1,7 +1,7 @@
 -- `trees::children::has_child` meets its contract: no row up to here is a child.
 -- Assumes nothing.
 use Prim.Native.Nat.{◌-◌}
-use Rattle.trees.proofs.Standing.{Having, haves}
+use Rattle.trees.proofs.Standing.{Having}
 use Rattle.trees.proofs.children.has_child.Given as goal
 
 abbrev pub invariant-loop-k : goal.invariant-loop-k

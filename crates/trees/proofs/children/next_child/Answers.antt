@@ -1,7 +1,7 @@
 -- What `trees::children::next_child` leaves to show. Its loop is in Invariants.antt.
 -- Assumes nothing.
 use Prim.Native.Nat.{◌-◌}
-use Rattle.trees.proofs.Standing.{Looking, looks}
+use Rattle.trees.proofs.Standing.{looks}
 use Rattle.trees.proofs.children.next_child.Goals as goal
 
 pub loop-k-init : goal.loop-k-init

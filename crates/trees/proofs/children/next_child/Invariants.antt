@@ -1,7 +1,7 @@
 -- `trees::children::next_child` meets its contract: no row up to here is a child.
 -- Assumes nothing.
 use Prim.Native.Nat.{◌-◌}
-use Rattle.trees.proofs.Standing.{Looking, looks}
+use Rattle.trees.proofs.Standing.{Looking}
 use Rattle.trees.proofs.children.next_child.Given as goal
 
 abbrev pub invariant-loop-k : goal.invariant-loop-k

@@ -1,7 +1,7 @@
 -- What `trees::children::nodes_stand_last` leaves to show. Its loop is in Invariants.antt.
 -- Assumes nothing.
 use Prim.Native.Nat.{◌-◌}
-use Rattle.trees.proofs.Standing.{Lasting, lasts}
+use Rattle.trees.proofs.Standing.{lasts}
 use Rattle.trees.proofs.children.nodes_stand_last.Goals as goal
 
 pub loop-k-init : goal.loop-k-init

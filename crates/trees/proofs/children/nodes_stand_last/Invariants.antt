@@ -1,7 +1,7 @@
 -- `trees::children::nodes_stand_last` meets its contract: up to here no row stands late.
 -- Assumes nothing.
 use Prim.Native.Nat.{◌-◌}
-use Rattle.trees.proofs.Standing.{Lasting, lasts}
+use Rattle.trees.proofs.Standing.{Lasting}
 use Rattle.trees.proofs.children.nodes_stand_last.Given as goal
 
 abbrev pub invariant-loop-k : goal.invariant-loop-k

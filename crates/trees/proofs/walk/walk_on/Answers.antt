@@ -1,6 +1,6 @@
 -- What `trees::walk::walk_on` leaves to show. Its loop is in Invariants.antt.
 -- Assumes nothing.
-use Rattle.trees.proofs.Walking.{Looping, looping}
+use Rattle.trees.proofs.Walking.{looping}
 use Rattle.trees.proofs.walk.walk_on.Goals as goal
 
 pub loop-w-init : goal.loop-w-init

@@ -1,6 +1,6 @@
 -- `trees::walk::walk_on` meets its contract: each turn leaves fewer turns.
 -- Assumes nothing.
-use Rattle.trees.proofs.Walking.{Looping, looping}
+use Rattle.trees.proofs.Walking.{Looping}
 use Rattle.trees.proofs.walk.walk_on.Given as goal
 
 abbrev pub invariant-loop-w : goal.invariant-loop-w

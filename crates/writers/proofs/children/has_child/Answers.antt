@@ -1,7 +1,7 @@
 -- What `writers::children::has_child` leaves to show. Its loop is in Invariants.antt.
 -- Assumes nothing.
 use Prim.Native.Nat.{◌-◌}
-use Rattle.writers.proofs.Scans.{Seeking, scans}
+use Rattle.writers.proofs.Scans.{scans}
 use Rattle.writers.proofs.children.has_child.Goals as goal
 
 pub loop-k-init : goal.loop-k-init

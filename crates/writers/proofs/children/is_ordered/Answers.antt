@@ -1,7 +1,7 @@
 -- What `writers::children::is_ordered` leaves to show. Its loop is in Invariants.antt.
 -- Assumes nothing.
 use Prim.Native.Nat.{◌-◌}
-use Rattle.writers.proofs.Scans.{Ordering, scans}
+use Rattle.writers.proofs.Scans.{scans}
 use Rattle.writers.proofs.children.is_ordered.Goals as goal
 
 pub overflow_add-p : goal.overflow_add-p

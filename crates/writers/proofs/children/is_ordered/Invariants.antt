@@ -1,7 +1,7 @@
 -- `writers::children::is_ordered` meets its contract: up to here the rows are in order.
 -- Assumes nothing.
 use Prim.Native.Nat.{◌-◌}
-use Rattle.writers.proofs.Scans.{Ordering, scans}
+use Rattle.writers.proofs.Scans.{Ordering}
 use Rattle.writers.proofs.children.is_ordered.Given as goal
 
 abbrev pub invariant-loop-k : goal.invariant-loop-k

@@ -1,7 +1,7 @@
 -- What `writers::children::next_child` leaves to show. Its loop is in Invariants.antt.
 -- Assumes nothing.
 use Prim.Native.Nat.{◌-◌}
-use Rattle.writers.proofs.Scans.{Passing, scans}
+use Rattle.writers.proofs.Scans.{scans}
 use Rattle.writers.proofs.children.next_child.Goals as goal
 
 pub loop-k-init : goal.loop-k-init

@@ -1,7 +1,7 @@
 -- What `writers::children::run_end` leaves to show. Its loop is in Invariants.antt.
 -- Assumes nothing.
 use Prim.Native.Nat.{◌-◌}
-use Rattle.writers.proofs.Several.{Running, runs}
+use Rattle.writers.proofs.Several.{runs}
 use Rattle.writers.proofs.children.run_end.Goals as goal
 
 pub overflow_add-k : goal.overflow_add-k

@@ -1,7 +1,7 @@
 -- `writers::children::run_end` meets its contract.
 -- Assumes nothing.
 use Prim.Native.Nat.{◌-◌}
-use Rattle.writers.proofs.Several.{Running, runs}
+use Rattle.writers.proofs.Several.{Running}
 use Rattle.writers.proofs.children.run_end.Given as goal
 
 abbrev pub invariant-loop-k : goal.invariant-loop-k
