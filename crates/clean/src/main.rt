@@ -64,18 +64,19 @@ fn told_plainly(number: u32) -> Told {
 }
 
 // The message of a refusal on standard error, as a line.
-fn tell(document: &[u8], told: Told, space: &mut [u8]) {
+fn tell(rt: &HostRuntime, document: &[u8], told: Told, space: &mut [u8]) {
     match messages::message(document, told, space) {
         TextAnswer::Refused(_, _) => {}
         TextAnswer::Done(n) => {
-            io::write_all(2, output::front(space, n));
-            io::write_all(2, b"\n");
+            let _ = rt.stderr().write_all(output::front(space, n));
+            let _ = rt.stderr().write_all(b"\n");
         }
     }
 }
 
 // Writes the tree of the rows that were read.
 fn put_tree<'a>(
+    rt: &HostRuntime,
     document: &'a [u8],
     text: &'a [u8],
     rows: &[u32],
@@ -83,10 +84,10 @@ fn put_tree<'a>(
     space: &mut [u8],
 ) {
     match trees::write_tree(document, text, rows, claimed, 0, space) {
-        TextAnswer::Refused(number, _) => tell(document, told_plainly(number), space),
+        TextAnswer::Refused(number, _) => tell(rt, document, told_plainly(number), space),
         TextAnswer::Done(n) => {
-            if !output::flush(space, n) {
-                os::fail(b"clean: cannot write standard output");
+            if let Err(why) = output::flush(rt, space, n) {
+                output::failure::fail(&rt.stderr(), b"clean: cannot write standard output", why);
             }
         }
     }
@@ -94,6 +95,7 @@ fn put_tree<'a>(
 
 // The tree of a document that was read, or why it is refused.
 fn put_verdict<'a>(
+    rt: &HostRuntime,
     document: &'a [u8],
     text: &'a [u8],
     rows: &[u32],
@@ -101,44 +103,46 @@ fn put_verdict<'a>(
     space: &mut [u8],
 ) {
     match verdict {
-        Verdict::Refused(refusal) => tell(document, told_of(refusal), space),
-        Verdict::Accepted(r, t, _) => { put_tree(document, output::front(text, t), rows, r, space) }
+        Verdict::Refused(refusal) => tell(rt, document, told_of(refusal), space),
+        Verdict::Accepted(r, t, _) => {
+            put_tree(rt, document, output::front(text, t), rows, r, space)
+        }
     }
 }
 
 // Reads a document, and writes its tree or why it is refused; of a file in UTF-16 the document is what was decoded.
-fn put_clean(file: &[u8], space: &mut [u8]) {
+fn put_clean(rt: &HostRuntime, file: &[u8], space: &mut [u8]) {
     let mut rows = [0u32; 16384];
     let mut warnings = [0u32; 16384];
-    let mut text = io::large_buffer();
-    let mut decoded = io::large_buffer();
+    let mut text = output::large_buffer();
+    let mut decoded = output::large_buffer();
     let reading = reader::read(file, &mut rows, &mut warnings, &mut text, &mut decoded);
     let verdict = reading.verdict;
     let n = reading.decoded;
     if n == 0 {
-        put_verdict(file, &text, &rows, verdict, space);
+        put_verdict(rt, file, &text, &rows, verdict, space);
     } else {
-        put_verdict(output::front(&decoded, n), &text, &rows, verdict, space);
+        put_verdict(rt, output::front(&decoded, n), &text, &rows, verdict, space);
     }
 }
 
 // Cleans what the buffer can hold of standard input; more than the program takes is over-long. Where that cannot be read or the tree not be written,
 // says so and why on standard error.
-fn clean(file: &mut [u8]) {
-    let came = output::input::read_all(0, file);
-    if came.failed {
-        os::fail(b"clean: cannot read standard input");
+fn clean(rt: &HostRuntime, file: &mut [u8]) {
+    let came = output::input::read_all(&mut rt.stdin(), file);
+    if let Some(why) = came.failed {
+        output::failure::fail(&rt.stderr(), b"clean: cannot read standard input", why);
         return;
     }
     let mut space = room();
     if 65536 < came.end {
-        tell(b"", told_plainly(2), &mut space);
+        tell(rt, b"", told_plainly(2), &mut space);
         return;
     }
-    put_clean(output::front(file, came.end), &mut space);
+    put_clean(rt, output::front(file, came.end), &mut space);
 }
 
-fn main() {
+fn main(rt: HostRuntime) {
     let mut file = [0u8; 65537];
-    clean(&mut file);
+    clean(&rt, &mut file);
 }

@@ -1,5 +1,6 @@
 // What each operation says of a text, and putting that.
 use scan::Scan;
+use std::io::Result;
 
 // The bytes of the words from one place up to another, then so many numbers.
 #[derive(Clone, Copy)]
@@ -93,15 +94,15 @@ pub fn of_text(operation: usize, t: &[u8]) -> Said {
 }
 
 // Puts what is said.
-pub fn put(out: &mut [u8], n: usize, said: Said) -> usize {
+pub fn put<P: Print>(to: &P, out: &mut [u8], n: usize, said: Said) -> Result<usize> {
     let all = output::front(b"yesno-not UTF-8refused no such operation", said.to);
-    let m = output::put_bytes(out, n, output::after(all, said.from));
+    let m = output::put_bytes(to, out, n, output::after(all, said.from))?;
     if said.count == 0 {
-        return m;
+        return Ok(m);
     }
-    let k = output::put_number(out, m, said.first);
+    let k = output::put_number(to, out, m, said.first)?;
     if said.count == 1 {
-        return k;
+        return Ok(k);
     }
-    output::put_word(out, k, said.second)
+    output::put_word(to, out, k, said.second)
 }

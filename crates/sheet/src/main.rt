@@ -5,7 +5,10 @@ ghost use Rattle.std.specs.Prelude.{◌≡◌, ◌≤◌, length, take};
 ghost use Rattle.sheets.specs.Counts.{Adds};
 ghost use Rattle.sheets.specs.Files.{document_outcome, file_outcome, AddsFile, AddsName, Sums, PrintsList};
 
-use sheets::names::NextName;
+use sheets::file_names::NextName;
+use std::io::{Error, ErrorKind, Read, Result};
+use std::rt::Files;
+use std::{fs, str};
 
 // Room for 1,024 rows, or for 4,096 warnings.
 fn table() -> [u32; 16384]
@@ -21,8 +24,8 @@ fn add_document(counts: &mut [u32], document: &[u8])
 {
     let mut rows = table();
     let mut warnings = table();
-    let mut text = io::large_buffer();
-    let mut decoded = io::large_buffer();
+    let mut text = output::large_buffer();
+    let mut decoded = output::large_buffer();
     let reading = reader::read(document, &mut rows, &mut warnings, &mut text, &mut decoded);
     let verdict = reading.verdict;
     sheets::add(counts, verdict, &rows, &warnings);
@@ -52,42 +55,50 @@ fn buffer() -> [u8; 65537]
     [0; 65537]
 }
 
-// Reads what the buffer can hold of an open file, and adds what came of it.
-fn add_file(counts: &mut [u32], fd: i32)
+// Reads what the buffer can hold of a file, if it could be opened, and adds what came of it.
+fn add_file<F: Read + Drop>(counts: &mut [u32], file: Result<F>)
     requires { length counts.old ≡ 128 }
     ensures { AddsFile counts.old counts.new }
 {
-    if fd < 0 {
-        sheets::add_unreadable(counts);
-        return;
+    match file {
+        Err(_) => sheets::add_unreadable(counts),
+        Ok(mut file) => {
+            let mut document = buffer();
+            let came = output::input::read_all(&mut file, &mut document);
+            add_read(counts, &document, came.failed.is_some(), came.end);
+        }
     }
-    let mut document = buffer();
-    let came = output::input::read_all(fd, &mut document);
-    libc::close(fd);
-    add_read(counts, &document, came.failed, came.end);
+}
+
+// Opens the file of a name, which std takes as text alone.
+fn open<R: Files>(rt: &R, name: &[u8]) -> Result<R::File> {
+    match str::from_utf8(name) {
+        Ok(name) => fs::open(rt, name),
+        Err(_) => Err(Error::from(ErrorKind::InvalidFilename)),
+    }
 }
 
 // Adds the file of a name.
-fn add_name(counts: &mut [u32], name: &[u8])
+fn add_name<R: Files>(rt: &R, counts: &mut [u32], name: &[u8])
     requires { length counts.old ≡ 128 }
     ensures { AddsName name.now counts.old counts.new }
 {
-    if sheets::names::is_openable(name) {
-        add_file(counts, os::open_read(name));
+    if sheets::file_names::is_openable(name) {
+        add_file(counts, open(rt, name));
         return;
     }
     sheets::add_unreadable(counts);
 }
 
 // Adds the files of the first 512 names, and answers whether there are more.
-fn add_names(counts: &mut [u32], list: &[u8]) -> bool
+fn add_names<R: Files>(rt: &R, counts: &mut [u32], list: &[u8]) -> bool
     requires { length counts.old ≡ 128 }
     ensures { Sums list.now counts.old counts.new result }
 {
     let mut at = 0;
     let mut names: usize = 0;
     loop {
-        match sheets::names::next(list, at) {
+        match sheets::file_names::next(list, at) {
             NextName::Nothing => {
                 return false;
             }
@@ -95,7 +106,7 @@ fn add_names(counts: &mut [u32], list: &[u8]) -> bool
                 if names == 512 {
                     return true;
                 }
-                add_name(counts, &list[from..to]);
+                add_name(rt, counts, &list[from..to]);
                 names += 1;
                 at = to;
             }
@@ -104,39 +115,39 @@ fn add_names(counts: &mut [u32], list: &[u8]) -> bool
 }
 
 // Puts the sheet of the files named in a list.
-fn put_sheet(out: &mut [u8], list: &[u8]) -> usize
+fn put_sheet<R: Files>(rt: &R, out: &mut [u8], list: &[u8]) -> usize
     requires fact_1 { 8192 ≤ length out.old }
     requires fact_2 { length list.now ≤ 262144 }
     ensures { PrintsList list.now out.new result }
 {
     let mut counts = [0u32; 128];
-    let more = add_names(&mut counts, list);
+    let more = add_names(rt, &mut counts, list);
     sheets::lines::put_sheet(out, &counts, more)
 }
 
 // The same of any list; of one that is over-long no file is opened.
-fn put_answer(out: &mut [u8], list: &[u8]) -> usize
+fn put_answer<R: Files>(rt: &R, out: &mut [u8], list: &[u8]) -> usize
     requires { 8192 ≤ length out.old }
     ensures { PrintsList list.now out.new result }
 {
     if 262144 < list.len() {
         return sheets::lines::put_long(out);
     }
-    put_sheet(out, list)
+    put_sheet(rt, out, list)
 }
 
 // Writes the sheet of the names on standard input, of which the buffer holds as many bytes as it has room for; where that cannot be read or
 // the sheet not be written, says so and why on standard error.
-fn run(list: &mut [u8]) {
-    let came = output::input::read_all(0, list);
-    if came.failed {
-        os::fail(b"sheet: cannot read standard input");
+fn run(rt: &HostRuntime, list: &mut [u8]) {
+    let came = output::input::read_all(&mut rt.stdin(), list);
+    if let Some(why) = came.failed {
+        output::failure::fail(&rt.stderr(), b"sheet: cannot read standard input", why);
         return;
     }
-    let mut out = io::large_buffer();
-    let n = put_answer(&mut out, output::front(list, came.end));
-    if !output::flush(&out, n) {
-        os::fail(b"sheet: cannot write standard output");
+    let mut out = output::large_buffer();
+    let n = put_answer(rt, &mut out, output::front(list, came.end));
+    if let Err(why) = output::flush(rt, &out, n) {
+        output::failure::fail(&rt.stderr(), b"sheet: cannot write standard output", why);
     }
 }
 
@@ -147,7 +158,7 @@ fn list_buffer() -> [u8; 262145]
     [0; 262145]
 }
 
-fn main() {
+fn main(rt: HostRuntime) {
     let mut list = list_buffer();
-    run(&mut list);
+    run(&rt, &mut list);
 }

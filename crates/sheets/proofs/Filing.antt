@@ -13,8 +13,8 @@ use Rattle.sheets.specs.Lines.{lines_of, more_line, long_line}
 use Rattle.sheets.specs.Counts.{Stands, Adds}
 use Rattle.sheets.specs.Printed.{Prints}
 use Rattle.sheets.specs.Files.{program_room, program_decoded, document_outcome, file_outcome, name_outcome, Came, AddsFile, AddsName, Sums, PrintsList}
-use Rattle.sheets.specs.declared.names.NextName.{NextName}
-use Rattle.sheets.specs.declared.names.NextName.TheVariants.{Nothing, At}
+use Rattle.sheets.specs.declared.file_names.NextName.{NextName}
+use Rattle.sheets.specs.declared.file_names.NextName.TheVariants.{Nothing, At}
 
 -- ---- a document
 

@@ -7,7 +7,7 @@ use Rattle.slices.specs.Run.{Run}
 use Rattle.slices.proofs.Runs.{span_end}
 use Rattle.slices.proofs.Ends.{run_length, run_span, run_rest, run_some}
 use Rattle.sheets.specs.Names.{later_lines, named, names_of, openable, Next}
-use Rattle.sheets.specs.declared.names.NextName.TheVariants.{Nothing, At}
+use Rattle.sheets.specs.declared.file_names.NextName.TheVariants.{Nothing, At}
 
 -- ---- lines
 

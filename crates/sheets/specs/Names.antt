@@ -2,8 +2,8 @@
 -- Assumes nothing.
 use Rattle.std.specs.Prelude.{◌≡◌, ℕ, ◌-◌, ◌<◌, ◌≤◌, Bool, ◌&&◌, List, ◌∷◌, length, take, drop, ◌==◌, nat_le, nat_lt}
 use Rattle.slices.specs.Bytes.{if, other, span, all, empty}
-use Rattle.sheets.specs.declared.names.NextName.{NextName}
-use Rattle.sheets.specs.declared.names.NextName.TheVariants.{Nothing, At}
+use Rattle.sheets.specs.declared.file_names.NextName.{NextName}
+use Rattle.sheets.specs.declared.file_names.NextName.TheVariants.{Nothing, At}
 
 -- a line begins at the start and after each LF, and goes up to the next LF or to the end
 abbrev pub later_lines : List ℕ → List (List ℕ)

@@ -8,8 +8,8 @@ ghost use Rattle.sheets.specs.Counts.{Counted, Adds};
 
 use document::Verdict;
 
+pub mod file_names;
 pub mod lines;
-pub mod names;
 
 // Counts a word below 32, at its place from `base` on.
 fn count(counts: &mut [u32], base: usize, word: u32)

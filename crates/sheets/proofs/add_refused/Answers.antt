@@ -1,0 +1,16 @@
+-- `sheets::add_refused` meets its contract.
+-- Assumes nothing.
+use Rattle.sheets.proofs.Adding.{adds}
+use Rattle.sheets.proofs.add_refused.Goals as goal
+
+pub count-requires : goal.count-requires
+count-requires c = search adds
+
+pub count-requires-2 : goal.count-requires-2
+count-requires-2 c = search adds
+
+pub shape_of-counts : goal.shape_of-counts
+shape_of-counts c = search adds
+
+pub returns : goal.returns
+returns c = search adds
