@@ -1,6 +1,6 @@
 -- The first attribute of a kind, its value, and the values of a tag.
 -- Assumes nothing.
-use Rattle.std.specs.Prelude.{ℕ, ◌+◌, ◌≡◌, List, ◌∷◌, Bool, true, false, ◌&&◌, leb, length, take}
+use Rattle.std.specs.Prelude.{ℕ, ◌+◌, ◌≡◌, List, [], ◌∷◌, Bool, true, false, ◌&&◌, leb, length, take}
 use Rattle.std.proofs.Math.Option.{Option, none, some}
 use Rattle.slices.specs.Bytes.{if, bytes, same}
 use Rattle.document.specs.declared.Value.{Value}

@@ -1,6 +1,6 @@
 -- Worked examples: documents that are accepted, and the least breach of each.
 -- Assumes nothing.
-use Rattle.std.specs.Prelude.{ℕ, ◌≡◌, refl, List, ◌∷◌, ◌++◌, map}
+use Rattle.std.specs.Prelude.{ℕ, ◌≡◌, refl, List, [], ◌∷◌, ◌++◌, map}
 use Prim.Native.String as string
 use Rattle.slices.specs.Bytes.{bytes}
 use Rattle.utf8.specs.WellFormed.{sequence}

@@ -1,6 +1,6 @@
 -- The least of some places.
 -- Assumes nothing.
-use Rattle.std.specs.Prelude.{ℕ, min, List, ◌∷◌}
+use Rattle.std.specs.Prelude.{ℕ, min, List, [], ◌∷◌}
 use Rattle.breaches.specs.declared.Breach.{Breach}
 use Rattle.breaches.specs.declared.Breach.TheVariants.{Nowhere, At}
 

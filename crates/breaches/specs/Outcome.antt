@@ -1,6 +1,6 @@
 -- What the functions that look for breaches say.
 -- Assumes nothing.
-use Rattle.std.specs.Prelude.{ℕ, suc, ◌+◌, ◌-◌, ◌≤◌, ◌<◌, ◌≡◌, List, ◌++◌, length, take, drop, get_or}
+use Rattle.std.specs.Prelude.{ℕ, suc, ◌+◌, ◌-◌, ◌≤◌, ◌<◌, ◌≡◌, List, [], ◌++◌, length, take, drop, get_or}
 use Rattle.utf8.specs.WellFormed.{ill_formed}
 use Rattle.scan.specs.Ignorable.{ignorable}
 use Rattle.scan.specs.declared.Scan.TheVariants.{At}

@@ -1,6 +1,6 @@
 -- Content that may stand in an element whose content is passed over.
 -- Assumes nothing.
-use Rattle.std.specs.Prelude.{ℕ, ◌+◌, ◌≡◌, List, ◌∷◌, ◌++◌, false, length, take, drop}
+use Rattle.std.specs.Prelude.{ℕ, ◌+◌, ◌≡◌, List, [], ◌∷◌, ◌++◌, false, length, take, drop}
 use Rattle.std.proofs.Math.Option.{Option, none, some}
 use Rattle.slices.specs.Bytes.{empty}
 use Rattle.utf8.specs.WhiteSpace.{trim_start, trim_end}

@@ -1,7 +1,7 @@
 -- Worked cases: documents, each with what reading it comes to (the refusal, or the words and text of the tables), and a value
 -- with what it is escaped to.
 -- Assumes nothing.
-use Rattle.std.specs.Prelude.{ℕ, ◌≡◌, refl, List, ◌∷◌, ◌++◌, map, replicate}
+use Rattle.std.specs.Prelude.{ℕ, ◌≡◌, refl, List, [], ◌∷◌, ◌++◌, map, replicate}
 use Prim.Native.String as string
 use Rattle.slices.specs.Bytes.{bytes}
 use Rattle.utf8.specs.WellFormed.{sequence, ill_formed}

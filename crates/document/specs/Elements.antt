@@ -1,6 +1,6 @@
 -- Elements (docs/FORMAT.md, Elements): which name is which kind, what may stand in what, and what a start tag needs.
 -- Assumes nothing.
-use Rattle.std.specs.Prelude.{ℕ, suc, List, ◌∷◌, Bool, true, false, not, ◌&&◌, eqb}
+use Rattle.std.specs.Prelude.{ℕ, suc, List, [], ◌∷◌, Bool, true, false, not, ◌&&◌, eqb}
 use Rattle.std.proofs.Math.Option.{Option, none, some}
 use Rattle.slices.specs.Bytes.{if, bytes, other, all, empty, same}
 use Rattle.names.specs.Names.{interface_name, member_name, property_name}

@@ -1,6 +1,6 @@
 -- Rows and warnings, and the words and text that they are in the tables (docs/FORMAT.md, Tables).
 -- Assumes nothing.
-use Rattle.std.specs.Prelude.{ℕ, zero, suc, ◌+◌, List, ◌∷◌, ◌++◌, length}
+use Rattle.std.specs.Prelude.{ℕ, zero, suc, ◌+◌, List, [], ◌∷◌, ◌++◌, length}
 use Rattle.std.proofs.Math.Option.{Option, none, some}
 use Rattle.slices.specs.Bytes.{if, all}
 use Rattle.references.specs.Unescape.{plain}

@@ -1,7 +1,7 @@
 -- What stands in a tag (docs/FORMAT.md, Tags): well_formed attributes are gathered first; then, one by one, duplicate
 -- before reference. Each function has what is left of the document and the place where that begins.
 -- Assumes nothing.
-use Rattle.std.specs.Prelude.{ℕ, zero, suc, ◌+◌, List, ◌∷◌, Bool, true, false, not, ◌&&◌, eqb, length}
+use Rattle.std.specs.Prelude.{ℕ, zero, suc, ◌+◌, List, [], ◌∷◌, Bool, true, false, not, ◌&&◌, eqb, length}
 use Rattle.std.proofs.Math.Option.{Option, none, some}
 use Rattle.slices.specs.Bytes.{if, bytes, other, span, past, empty, same}
 use Rattle.scan.specs.Classes.{white, name_byte}

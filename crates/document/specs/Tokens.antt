@@ -1,7 +1,7 @@
 -- The tokens of a document (docs/FORMAT.md, Tags): what is ignorable is passed over; then comes a start tag, a closing
 -- tag, a fault or the end.
 -- Assumes nothing.
-use Rattle.std.specs.Prelude.{ℕ, zero, suc, ◌+◌, ◌-◌, List, ◌∷◌, Bool, true, false, eqb, length, drop}
+use Rattle.std.specs.Prelude.{ℕ, zero, suc, ◌+◌, ◌-◌, List, [], ◌∷◌, Bool, true, false, eqb, length, drop}
 use Rattle.slices.specs.Bytes.{if, span, past, empty}
 use Rattle.scan.specs.Classes.{white, name_byte}
 use Rattle.scan.specs.Ignorable.{ignorable}

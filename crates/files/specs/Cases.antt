@@ -1,6 +1,6 @@
 -- Worked cases: files, each with the room for its text, and what reading it comes to: the refusal or the counts, and the decoded length.
 -- Assumes nothing.
-use Rattle.std.specs.Prelude.{ℕ, ◌≡◌, refl, List, ◌∷◌, map}
+use Rattle.std.specs.Prelude.{ℕ, ◌≡◌, refl, List, [], ◌∷◌, map}
 use Rattle.utf8.specs.WellFormed.{sequence, ill_formed}
 use Rattle.utf8.specs.Encoding.{utf8}
 use Rattle.scan.specs.Ignorable.{ignorable}

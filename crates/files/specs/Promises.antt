@@ -1,6 +1,6 @@
 -- What is promised of every file that is read: its document is the one that what follows is handed, and how much room is always enough.
 -- Assumes nothing.
-use Rattle.std.specs.Prelude.{ℕ, ◌*◌, ◌≤◌, ◌≡◌, List, ◌∷◌, true, false, length}
+use Rattle.std.specs.Prelude.{ℕ, ◌*◌, ◌≤◌, ◌≡◌, List, [], ◌∷◌, true, false, length}
 use Rattle.slices.specs.Bytes.{all}
 use Rattle.answers.specs.Text.{text, wrong}
 use Rattle.utf16.specs.Entry.{marked}

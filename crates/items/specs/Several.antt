@@ -1,6 +1,6 @@
 -- What writing several items answers and leaves (docs/FORMAT.md, Answers), for the room lent.
 -- Assumes nothing.
-use Rattle.std.specs.Prelude.{ℕ, ◌+◌, ◌-◌, ◌≡◌, List, ◌∷◌, ◌++◌, map, Bool, true, false, ◌||◌, ltb, length, replicate}
+use Rattle.std.specs.Prelude.{ℕ, ◌+◌, ◌-◌, ◌≡◌, List, [], ◌∷◌, ◌++◌, map, Bool, true, false, ◌||◌, ltb, length, replicate}
 use Rattle.std.proofs.Math.Option.{Option, none, some}
 use Rattle.slices.specs.Bytes.{if}
 use Rattle.answers.specs.Text.{Text, text, wrong, Says}

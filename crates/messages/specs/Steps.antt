@@ -1,6 +1,6 @@
 -- What the steps of the entries say.
 -- Assumes nothing.
-use Rattle.std.specs.Prelude.{ℕ, ◌+◌, ◌-◌, ◌≤◌, ◌<◌, ◌≡◌, List, ◌∷◌, ◌++◌, eqb, length, take, drop}
+use Rattle.std.specs.Prelude.{ℕ, ◌+◌, ◌-◌, ◌≤◌, ◌<◌, ◌≡◌, List, [], ◌∷◌, ◌++◌, eqb, length, take, drop}
 use Rattle.slices.specs.Bytes.{if, bytes}
 use Rattle.answers.specs.Text.{text, roomy, Says}
 use Rattle.answers.specs.Puts.{Puts}

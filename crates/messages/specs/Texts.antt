@@ -1,7 +1,7 @@
 -- The texts of messages (docs/FORMAT.md, Messages): a line for each message of xml.rs and lib.rs of zbus_xml 6.0.0, and for each number
 -- whose text is not there a word for what is wrong.
 -- Assumes nothing.
-use Rattle.std.specs.Prelude.{ℕ, List, ◌∷◌, eqb}
+use Rattle.std.specs.Prelude.{ℕ, List, [], ◌∷◌, eqb}
 use Rattle.slices.specs.Bytes.{if, bytes}
 
 -- what a message is made of: words; the first or the second excerpt as it stands; the first one unescaped; the key

@@ -1,6 +1,6 @@
 -- The comments that are passed over on the way to the next tag: by the same recursion as what is ignorable.
 -- Assumes nothing.
-use Rattle.std.specs.Prelude.{ℕ, zero, suc, ◌-◌, List, ◌∷◌, eqb}
+use Rattle.std.specs.Prelude.{ℕ, zero, suc, ◌-◌, List, [], ◌∷◌, eqb}
 use Rattle.slices.specs.Bytes.{if, bytes, starts}
 use Rattle.scan.specs.Ignorable.{markup}
 use Rattle.scan.specs.declared.Scan.TheVariants.{Fault, At}

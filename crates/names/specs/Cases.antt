@@ -1,6 +1,6 @@
 -- Worked examples, most of the D-Bus Specification: texts, and whether each is a signature.
 -- Assumes nothing.
-use Rattle.std.specs.Prelude.{ℕ, ◌≡◌, refl, List, ◌∷◌, ◌++◌, map, Bool, true, false, replicate}
+use Rattle.std.specs.Prelude.{ℕ, ◌≡◌, refl, List, [], ◌∷◌, ◌++◌, map, Bool, true, false, replicate}
 use Prim.Native.String as string
 use Rattle.slices.specs.Bytes.{bytes}
 use Rattle.names.specs.Names.{interface_name, member_name, property_name}

@@ -1,6 +1,6 @@
 -- What the functions that check a part of a name or of a signature say.
 -- Assumes nothing.
-use Rattle.std.specs.Prelude.{ℕ, ◌+◌, ◌≤◌, ◌<◌, ◌≡◌, List, ◌∷◌, Bool, false, not, length, drop}
+use Rattle.std.specs.Prelude.{ℕ, ◌+◌, ◌≤◌, ◌<◌, ◌≡◌, List, [], ◌∷◌, Bool, false, not, length, drop}
 use Rattle.slices.specs.Bytes.{if, span}
 use Rattle.names.specs.Names.{digit, element_byte}
 use Rattle.names.specs.Signature.{Open, State, is_array, count, begins, accepts, ended}

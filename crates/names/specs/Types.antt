@@ -1,6 +1,6 @@
 -- Types and what they are written as, by the D-Bus Specification, Type System.
 -- Assumes nothing.
-use Rattle.std.specs.Prelude.{ℕ, suc, max, ◌≤◌, ◌≡◌, List, ◌∷◌, ◌++◌, length}
+use Rattle.std.specs.Prelude.{ℕ, suc, max, ◌≤◌, ◌≡◌, List, [], ◌∷◌, ◌++◌, length}
 
 -- the basic types
 pub data Basic : Type 0 where

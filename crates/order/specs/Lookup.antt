@@ -1,7 +1,7 @@
 -- Uses by looking names up, as code does: each member's tp type, and where it ends in `[]` what stands before that, is looked up
 -- among the definitions; and a row waits for those of the rows found that are not given out.
 -- Assumes nothing.
-use Rattle.std.specs.Prelude.{ℕ, suc, ◌-◌, List, ◌∷◌, ◌++◌, Bool, length, take, drop}
+use Rattle.std.specs.Prelude.{ℕ, suc, ◌-◌, List, [], ◌∷◌, ◌++◌, Bool, length, take, drop}
 use Rattle.std.proofs.Math.Option.{Option, none, some}
 use Rattle.slices.specs.Bytes.{if, bytes, same}
 use Rattle.document.specs.Elements.{among}

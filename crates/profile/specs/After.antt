@@ -1,6 +1,6 @@
 -- What may follow the root: [1] document ::= prolog element Misc*, [27] Misc ::= Comment | PI | S.
 -- Assumes nothing.
-use Rattle.std.specs.Prelude.{ℕ, zero, suc, ◌+◌, ◌-◌, ◌≤◌, ◌<◌, ◌≡◌, List, ◌∷◌, Bool, false, ◌||◌, eqb, ltb, length, take, drop}
+use Rattle.std.specs.Prelude.{ℕ, zero, suc, ◌+◌, ◌-◌, ◌≤◌, ◌<◌, ◌≡◌, List, [], ◌∷◌, Bool, false, ◌||◌, eqb, ltb, length, take, drop}
 use Rattle.slices.specs.Bytes.{if, bytes, starts}
 use Rattle.scan.specs.Ignorable.{seek}
 use Rattle.scan.specs.declared.Scan.{Scan}

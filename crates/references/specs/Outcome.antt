@@ -1,6 +1,6 @@
 -- What the functions on values say.
 -- Assumes nothing.
-use Rattle.std.specs.Prelude.{ℕ, suc, ◌+◌, ◌-◌, ◌≤◌, ◌<◌, ◌≡◌, List, ◌∷◌, length, drop, get_or}
+use Rattle.std.specs.Prelude.{ℕ, suc, ◌+◌, ◌-◌, ◌≤◌, ◌<◌, ◌≡◌, List, [], ◌∷◌, length, drop, get_or}
 use Rattle.answers.specs.Puts.{Puts}
 use Rattle.utf8.specs.Encoding.{utf8}
 use Rattle.answers.specs.Text.{text, wrong}

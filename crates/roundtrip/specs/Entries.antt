@@ -1,6 +1,6 @@
 -- The same of the code: in the records that the contracts of `writers::write` and `reader::parse_with_warnings` cite.
 -- Assumes nothing.
-use Rattle.std.specs.Prelude.{ℕ, ◌+◌, ◌≡◌, List, ◌∷◌, true, length, take}
+use Rattle.std.specs.Prelude.{ℕ, ◌+◌, ◌≡◌, List, [], ◌∷◌, true, length, take}
 use Rattle.std.proofs.Math.Option.{some}
 use Rattle.names.specs.Names.{interface_name}
 use Rattle.answers.specs.declared.TextAnswer.TheVariants.{Done}

@@ -1,6 +1,6 @@
 -- Nobody who chooses the texts in sound rows can make a written method, signal or annotation read as something else.
 -- Assumes nothing.
-use Rattle.std.specs.Prelude.{ℕ, ◌+◌, ◌/◌, ◌≤◌, ◌≡◌, List, ◌∷◌, ◌++◌, true, length}
+use Rattle.std.specs.Prelude.{ℕ, ◌+◌, ◌/◌, ◌≤◌, ◌≡◌, List, [], ◌∷◌, ◌++◌, true, length}
 use Rattle.std.proofs.Math.Option.{some}
 use Rattle.slices.specs.Bytes.{bytes}
 use Rattle.names.specs.Names.{interface_name}

@@ -1,6 +1,6 @@
 -- Worked examples: what is ignorable from a document's beginning on, and the colons of a name.
 -- Assumes nothing.
-use Rattle.std.specs.Prelude.{ℕ, ◌≡◌, refl, List, ◌∷◌, map, drop}
+use Rattle.std.specs.Prelude.{ℕ, ◌≡◌, refl, List, [], ◌∷◌, map, drop}
 use Prim.Native.String as string
 use Rattle.slices.specs.Bytes.{bytes, span}
 use Rattle.scan.specs.Classes.{name_byte}

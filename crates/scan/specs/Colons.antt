@@ -1,6 +1,6 @@
 -- A name and its colons (58): the first and the last, as places in the document.
 -- Assumes nothing.
-use Rattle.std.specs.Prelude.{ℕ, suc, ◌≡◌, List, ◌∷◌, eqb, drop}
+use Rattle.std.specs.Prelude.{ℕ, suc, ◌≡◌, List, [], ◌∷◌, eqb, drop}
 use Rattle.slices.specs.Bytes.{if, span}
 use Rattle.slices.specs.Run.{Run}
 use Rattle.scan.specs.Classes.{name_byte}

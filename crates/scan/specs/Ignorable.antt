@@ -1,7 +1,7 @@
 -- What is ignorable between tags: text, comments, CDATA sections, processing instructions, declarations.
 -- Each function has what is left of the document and the place where that begins.
 -- Assumes nothing.
-use Rattle.std.specs.Prelude.{ℕ, zero, suc, pred, ◌+◌, ◌-◌, ◌≤◌, ◌<◌, ◌≡◌, List, ◌∷◌, Bool, false, ◌&&◌, ◌||◌, eqb, length, drop}
+use Rattle.std.specs.Prelude.{ℕ, zero, suc, pred, ◌+◌, ◌-◌, ◌≤◌, ◌<◌, ◌≡◌, List, [], ◌∷◌, Bool, false, ◌&&◌, ◌||◌, eqb, length, drop}
 use Rattle.slices.specs.Bytes.{if, bytes, starts}
 use Rattle.scan.specs.declared.Scan.{Scan}
 use Rattle.scan.specs.declared.Scan.TheVariants.{Fault, At}

@@ -1,6 +1,6 @@
 -- Words counted at their places: one, and word 0 of each of n records.
 -- Assumes nothing.
-use Rattle.std.proofs.Common.{◌≡◌, ℕ, zero, suc, ◌+◌, ◌-◌, ◌%◌, ◌^◌, ◌<◌, ◌≤◌, Bool, true, false, eqb, List, ◌∷◌, length, get_or, drop, set, sym, refl, ap, ◌∙◌, subst, add-zero, arith, length-drop, length-set, drop_of_length-le, drop-cons, get_or-set_other, get_or-set_same, drop-drop, rules, eq-eqb, ne_eqb, eqb-true}
+use Rattle.std.proofs.Common.{◌≡◌, ℕ, zero, suc, ◌+◌, ◌-◌, ◌%◌, ◌^◌, ◌<◌, ◌≤◌, Bool, true, false, eqb, List, [], ◌∷◌, length, get_or, drop, set, sym, refl, ap, ◌∙◌, subst, add-zero, arith, length-drop, length-set, drop_of_length-le, drop-cons, get_or-set_other, get_or-set_same, drop-drop, rules, eq-eqb, ne_eqb, eqb-true}
 use borrow.Author.Tests.{eqb-false}
 use Rattle.slices.specs.Bytes.{if}
 use Rattle.sheets.specs.Sheet.{occurs}

@@ -1,6 +1,6 @@
 -- Files and names added, a list of them, and what is printed.
 -- Assumes nothing.
-use Rattle.std.proofs.Common.{◌≡◌, ℕ, suc, ◌+◌, ◌-◌, ◌<◌, ◌≤◌, Bool, true, false, ltb, List, ◌∷◌, ◌++◌, length, take, drop, replicate, sym, refl, ap, ◌∙◌, subst, append_assoc, append-nil, arith, length-append, length-take-le, take_all, take_at, rules, le-ltb, lt-ltb}
+use Rattle.std.proofs.Common.{◌≡◌, ℕ, suc, ◌+◌, ◌-◌, ◌<◌, ◌≤◌, Bool, true, false, ltb, List, [], ◌∷◌, ◌++◌, length, take, drop, replicate, sym, refl, ap, ◌∙◌, subst, append_assoc, append-nil, arith, length-append, length-take-le, take_all, take_at, rules, le-ltb, lt-ltb}
 use lib.ListN.{get_or-replicate}
 use Rattle.document.specs.Whole.{Room, verdict_of, rows_left_lem, room_of}
 use Rattle.document.specs.declared.Verdict.{Verdict}

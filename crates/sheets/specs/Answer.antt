@@ -1,6 +1,6 @@
 -- The outcome of a file, of what the reader answers and leaves: word 0 of a row is its kind, word 0 of a warning its reason.
 -- Assumes nothing.
-use Rattle.std.specs.Prelude.{ℕ, zero, suc, ◌-◌, List, ◌∷◌, drop}
+use Rattle.std.specs.Prelude.{ℕ, zero, suc, ◌-◌, List, [], ◌∷◌, drop}
 use Rattle.document.specs.declared.Verdict.{Verdict}
 use Rattle.document.specs.declared.Verdict.TheVariants.{Refused, Accepted}
 use Rattle.sheets.specs.Sheet.{Outcome, refused, accepted}

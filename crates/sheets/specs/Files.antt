@@ -1,6 +1,6 @@
 -- What came of names (docs/FORMAT.md, Sheets, The sheet program): of the document that was read of a file, of a file, of a name, of a list.
 -- Assumes nothing.
-use Rattle.std.specs.Prelude.{◌≡◌, ℕ, ◌≤◌, Bool, List, ◌∷◌, length, take, nat_lt}
+use Rattle.std.specs.Prelude.{◌≡◌, ℕ, ◌≤◌, Bool, List, [], ◌∷◌, length, take, nat_lt}
 use Rattle.slices.specs.Bytes.{if}
 use Rattle.document.specs.Whole.{Room, verdict_of, rows_left_lem, warnings_left}
 use Rattle.files.specs.Files.{read_file}

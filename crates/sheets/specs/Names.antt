@@ -1,6 +1,6 @@
 -- The names of a list of files, and which of them are opened (docs/FORMAT.md, Sheets).
 -- Assumes nothing.
-use Rattle.std.specs.Prelude.{◌≡◌, ℕ, ◌-◌, ◌<◌, ◌≤◌, Bool, ◌&&◌, List, ◌∷◌, length, take, drop, ◌==◌, nat_le, nat_lt}
+use Rattle.std.specs.Prelude.{◌≡◌, ℕ, ◌-◌, ◌<◌, ◌≤◌, Bool, ◌&&◌, List, [], ◌∷◌, length, take, drop, ◌==◌, nat_le, nat_lt}
 use Rattle.slices.specs.Bytes.{if, other, span, all, empty}
 use Rattle.sheets.specs.declared.file_names.NextName.{NextName}
 use Rattle.sheets.specs.declared.file_names.NextName.TheVariants.{Nothing, At}

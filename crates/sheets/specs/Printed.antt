@@ -1,6 +1,6 @@
 -- What the functions that put lines into a buffer say.
 -- Assumes nothing.
-use Rattle.std.specs.Prelude.{◌≡◌, ℕ, ◌+◌, ◌≤◌, Bool, List, ◌∷◌, ◌++◌, take, slice_index}
+use Rattle.std.specs.Prelude.{◌≡◌, ℕ, ◌+◌, ◌≤◌, Bool, List, [], ◌∷◌, ◌++◌, take, slice_index}
 use Rattle.answers.specs.Puts.{Puts}
 use Rattle.sheets.specs.Sheet.{Sheet}
 use Rattle.sheets.specs.Lines.{decimal, spaced, lines_by, lines_of, more_line}

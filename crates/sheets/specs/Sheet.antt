@@ -1,6 +1,6 @@
 -- What comes of files, and their sheet (docs/FORMAT.md, Sheets): a fold of one file's outcome after the other.
 -- Assumes nothing.
-use Rattle.std.specs.Prelude.{ℕ, suc, ◌+◌, List, ◌∷◌, ◌==◌}
+use Rattle.std.specs.Prelude.{ℕ, suc, ◌+◌, List, [], ◌∷◌, ◌==◌}
 use Rattle.slices.specs.Bytes.{if}
 
 -- nothing was read; refused with a number; accepted, with the kinds of its rows and the reasons of its warnings

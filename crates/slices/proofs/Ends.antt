@@ -1,6 +1,6 @@
 -- A run of a class, by its two places: its list, what follows it, and whether it is empty.
 -- Assumes nothing.
-use Rattle.std.proofs.Common.{◌≡◌, ℕ, ◌-◌, ◌<◌, ◌≤◌, Bool, true, false, List, ◌∷◌, length, take, drop, refl, ap, ◌∙◌, arith}
+use Rattle.std.proofs.Common.{◌≡◌, ℕ, ◌-◌, ◌<◌, ◌≤◌, Bool, true, false, List, [], ◌∷◌, length, take, drop, refl, ap, ◌∙◌, arith}
 use Rattle.slices.specs.Bytes.{if, span, past, empty}
 use Rattle.slices.specs.Run.{Run}
 use Rattle.slices.proofs.Runs.{past_at}

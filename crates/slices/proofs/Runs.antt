@@ -1,6 +1,6 @@
 -- Runs of a class of bytes, equal lists and beginnings.
 -- Assumes nothing.
-use Rattle.std.proofs.Common.{◌≡◌, ℕ, suc, ◌+◌, ◌-◌, ◌<◌, ◌≤◌, Bool, true, false, ◌&&◌, eqb, List, ◌∷◌, ◌++◌, length, get_or, drop, sym, refl, ap, ◌∙◌, subst, add-zero, add-one, arith, length-drop, drop_of_length-le, get_or-drop, drop-cons, drop-drop, rules, eq-eqb, ne_eqb, eqb-true}
+use Rattle.std.proofs.Common.{◌≡◌, ℕ, suc, ◌+◌, ◌-◌, ◌<◌, ◌≤◌, Bool, true, false, ◌&&◌, eqb, List, [], ◌∷◌, ◌++◌, length, get_or, drop, sym, refl, ap, ◌∙◌, subst, add-zero, add-one, arith, length-drop, drop_of_length-le, get_or-drop, drop-cons, drop-drop, rules, eq-eqb, ne_eqb, eqb-true}
 use mathlib.Core.Bool.{false≢true, and-eq-true_iff}
 use borrow.Author.Tests.{eqb-false}
 use Rattle.slices.specs.Bytes.{if, other, span, past, all, same, starts}

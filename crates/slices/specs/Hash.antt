@@ -1,6 +1,6 @@
 -- The hash of bytes. Nothing is asked of it but that equal bytes have equal hashes.
 -- Assumes nothing.
-use Rattle.std.specs.Prelude.{◌≡◌, ℕ, ◌+◌, ◌*◌, ◌%◌, List, ◌∷◌}
+use Rattle.std.specs.Prelude.{◌≡◌, ℕ, ◌+◌, ◌*◌, ◌%◌, List, [], ◌∷◌}
 
 -- byte by byte, modulo 2^32
 unfoldable pub mixed : ℕ → ℕ → ℕ

@@ -1,6 +1,6 @@
 -- What is promised of the strict profile: the theorems that proofs/Promised.antt proves.
 -- Assumes nothing.
-use Rattle.std.specs.Prelude.{ℕ, ◌≤◌, ◌≡◌, List, true, false}
+use Rattle.std.specs.Prelude.{ℕ, ◌≤◌, ◌≡◌, List, [], true, false}
 use Rattle.slices.specs.Bytes.{empty}
 use Rattle.answers.specs.Text.{text}
 use Rattle.document.specs.Tags.{Shown}

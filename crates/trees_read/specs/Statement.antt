@@ -1,6 +1,6 @@
 -- A tree that was written is read back as itself.
 -- Assumes nothing.
-use Rattle.std.specs.Prelude.{ℕ, ◌*◌, ◌/◌, ◌≤◌, ◌<◌, ◌≡◌, List, ◌++◌, true, length, drop}
+use Rattle.std.specs.Prelude.{ℕ, ◌*◌, ◌/◌, ◌≤◌, ◌<◌, ◌≡◌, List, [], ◌++◌, true, length, drop}
 use Rattle.std.proofs.Math.Option.{none}
 use Rattle.answers.specs.Text.{text}
 use Rattle.document.specs.Tags.{Shown}

@@ -1,6 +1,6 @@
 -- What the entry `decode` answers and leaves, for the room lent.
 -- Assumes nothing.
-use Rattle.std.specs.Prelude.{ℕ, ◌%◌, List, ◌∷◌, Bool, ◌||◌, eqb, ltb, length, replicate}
+use Rattle.std.specs.Prelude.{ℕ, ◌%◌, List, [], ◌∷◌, Bool, ◌||◌, eqb, ltb, length, replicate}
 use Rattle.slices.specs.Bytes.{if, starts}
 use Rattle.answers.specs.Text.{Text, text, wrong, left_of}
 use Rattle.answers.specs.declared.TextAnswer as answers

@@ -1,6 +1,6 @@
 -- What the functions on units say.
 -- Assumes nothing.
-use Rattle.std.specs.Prelude.{ℕ, ◌+◌, ◌*◌, ◌≤◌, ◌<◌, ◌≡◌, List, ◌∷◌, Bool, true, false, length, get_or}
+use Rattle.std.specs.Prelude.{ℕ, ◌+◌, ◌*◌, ◌≤◌, ◌<◌, ◌≡◌, List, [], ◌∷◌, Bool, true, false, length, get_or}
 use Rattle.slices.specs.Bytes.{if}
 use Rattle.answers.specs.Puts.{Puts}
 use Rattle.utf16.specs.Units.{unit}

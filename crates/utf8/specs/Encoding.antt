@@ -1,6 +1,6 @@
 -- The UTF-8 of a character.
 -- Assumes nothing.
-use Rattle.std.specs.Prelude.{ℕ, ◌+◌, ◌/◌, ◌%◌, List, ◌∷◌, ltb}
+use Rattle.std.specs.Prelude.{ℕ, ◌+◌, ◌/◌, ◌%◌, List, [], ◌∷◌, ltb}
 use Rattle.slices.specs.Bytes.{if}
 
 -- the Unicode Standard's table 3-6, UTF-8 Bit Distribution

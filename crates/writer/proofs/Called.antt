@@ -8,7 +8,7 @@
 -- The laws take `Logic`. The rest assumes nothing.
 use mathlib.Core.Path.{◌≡◌, refl, sym, ap, subst}
 use Prim.Native.Nat.{ℕ, ◌+◌, ◌*◌, ◌<◌, ◌^◌}
-use mathlib.Core.List.{List, ◌∷◌}
+use mathlib.Core.List.{List, [], ◌∷◌}
 use lib.Dec.{T as Holds}
 use lib.ListN.{length}
 use seplogic.Ra.Ura.{Ura}

@@ -1,5 +1,6 @@
 -- What `names::interface_name` leaves to show. Its loop is in Invariants.antt.
 -- Assumes nothing.
+use Prim.Native.Nat.{◌-◌}
 use Rattle.names.proofs.Names.{name_loops}
 use Rattle.names.proofs.interface_name.Goals as goal
 

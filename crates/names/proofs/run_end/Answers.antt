@@ -1,5 +1,6 @@
 -- What `names::run_end` leaves to show. Its loop is in Invariants.antt.
 -- Assumes nothing.
+use Prim.Native.Nat.{◌-◌}
 use Rattle.names.proofs.Names.{element_runs}
 use Rattle.names.proofs.run_end.Goals as goal
 

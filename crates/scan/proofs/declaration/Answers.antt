@@ -1,5 +1,6 @@
 -- What `scan::declaration` leaves to show. Its loop is in Invariants.antt.
 -- Assumes nothing.
+use Prim.Native.Nat.{◌-◌}
 use Rattle.scan.proofs.Declarations.{declares}
 use Rattle.scan.proofs.declaration.Goals as goal
 

@@ -1,5 +1,6 @@
 -- What `scan::ignorable` leaves to show. Its loop is in Invariants.antt.
 -- Assumes nothing.
+use Prim.Native.Nat.{◌-◌}
 use Rattle.scan.proofs.Ignoring.{ignores}
 use Rattle.scan.proofs.ignorable.Goals as goal
 

@@ -1,5 +1,6 @@
 -- What `scan::nc_name_end` leaves to show. Its loop is in Invariants.antt.
 -- Assumes nothing.
+use Prim.Native.Nat.{◌-◌}
 use Rattle.slices.proofs.Runs.{runs}
 use Rattle.scan.proofs.nc_name_end.Goals as goal
 

@@ -1,5 +1,6 @@
 -- What `scan::space_end` leaves to show. Its loop is in Invariants.antt.
 -- Assumes nothing.
+use Prim.Native.Nat.{◌-◌}
 use Rattle.slices.proofs.Runs.{runs}
 use Rattle.scan.proofs.space_end.Goals as goal
 

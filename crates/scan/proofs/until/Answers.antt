@@ -1,5 +1,6 @@
 -- What `scan::until` leaves to show. Its loop is in Invariants.antt.
 -- Assumes nothing.
+use Prim.Native.Nat.{◌-◌}
 use Rattle.scan.proofs.Seek.{seeks}
 use Rattle.scan.proofs.until.Goals as goal
 

@@ -1,5 +1,6 @@
 -- What `slices::agreed` leaves to show. Its loop is in Invariants.antt.
 -- Assumes nothing.
+use Rattle.std.proofs.Common.{◌-◌}
 use Rattle.slices.proofs.Words.{agrees}
 use Rattle.slices.proofs.agreed.Goals as goal
 

@@ -1,5 +1,6 @@
 -- What `slices::blocks` leaves to show. Its loop is in Invariants.antt.
 -- Assumes nothing.
+use Rattle.std.proofs.Common.{◌-◌}
 use Rattle.slices.proofs.Skips.{skips}
 use Rattle.slices.proofs.blocks.Goals as goal
 

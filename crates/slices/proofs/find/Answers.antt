@@ -1,5 +1,6 @@
 -- What `slices::find` leaves to show. Its loop is in Invariants.antt.
 -- Assumes nothing.
+use Rattle.std.proofs.Common.{◌-◌}
 use Rattle.slices.proofs.Skips.{finds}
 use Rattle.slices.proofs.find.Goals as goal
 

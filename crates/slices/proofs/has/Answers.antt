@@ -1,5 +1,6 @@
 -- What `slices::has` leaves to show. Its loop is in Invariants.antt.
 -- Assumes nothing.
+use Rattle.std.proofs.Common.{◌-◌}
 use Rattle.slices.proofs.Skips.{tells}
 use Rattle.slices.proofs.has.Goals as goal
 

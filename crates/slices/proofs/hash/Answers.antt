@@ -1,6 +1,7 @@
 -- What `slices::hash` leaves to show. Its loop is in Invariants.antt.
 -- Assumes nothing.
 use Rattle.slices.proofs.Hashing.{hashing}
+use Rattle.std.proofs.Common.{◌-◌}
 use Rattle.slices.proofs.hash.Goals as goal
 
 pub loop-i-init : goal.loop-i-init

@@ -1,5 +1,6 @@
 -- What `slices::starts_at` leaves to show. Its loop is in Invariants.antt.
 -- Assumes nothing.
+use Rattle.std.proofs.Common.{◌-◌}
 use Rattle.slices.proofs.Runs.{matches}
 use Rattle.slices.proofs.starts_at.Goals as goal
 

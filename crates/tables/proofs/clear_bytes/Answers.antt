@@ -1,5 +1,6 @@
 -- What `tables::clear_bytes` leaves to show. Its loop is in Invariants.antt.
 -- Assumes nothing.
+use Prim.Native.Nat.{◌-◌}
 use Rattle.tables.proofs.Tables.{tables}
 use Rattle.tables.proofs.clear_bytes.Goals as goal
 

@@ -1,5 +1,6 @@
 -- What `utf8::ascii_run` leaves to show. Its loop is in Invariants.antt.
 -- Assumes nothing.
+use Prim.Native.Nat.{◌-◌}
 use Rattle.utf8.proofs.Ascii.{asciis}
 use Rattle.utf8.proofs.ascii_run.Goals as goal
 

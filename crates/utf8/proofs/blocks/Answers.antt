@@ -1,5 +1,6 @@
 -- What `utf8::blocks` leaves to show. Its loop is in Invariants.antt.
 -- Assumes nothing.
+use Prim.Native.Nat.{◌-◌}
 use Rattle.utf8.proofs.Ascii.{asciis}
 use Rattle.utf8.proofs.blocks.Goals as goal
 

@@ -1,5 +1,6 @@
 -- What `utf8::ill_formed` leaves to show. Its loop is in Invariants.antt.
 -- Assumes nothing.
+use Prim.Native.Nat.{◌-◌}
 use Rattle.utf8.proofs.Finding.{finds}
 use Rattle.utf8.proofs.ill_formed.Goals as goal
 

@@ -1,5 +1,6 @@
 -- What `utf8::largest` leaves to show. Its loop is in Invariants.antt.
 -- Assumes nothing.
+use Prim.Native.Nat.{◌-◌}
 use Rattle.utf8.proofs.Ascii.{mosts}
 use Rattle.utf8.proofs.largest.Goals as goal
 

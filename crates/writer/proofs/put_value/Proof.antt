@@ -3,7 +3,7 @@
 -- Assumes nothing.
 use mathlib.Core.Path.{◌≡◌, refl, ◌∙◌}
 use Prim.Native.Nat.{ℕ, ◌<◌, ◌^◌, ◌+◌, ◌*◌}
-use mathlib.Core.List.{◌∷◌, List, ◌++◌}
+use mathlib.Core.List.{[], ◌∷◌, List, ◌++◌}
 use native.Mathlib.Omega.{arith}
 use lib.ListN.{length}
 use seplogic.Ra.Ura.{Ura}
