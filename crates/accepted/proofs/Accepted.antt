@@ -72,11 +72,6 @@ module _ (doc : List ℕ) (r : Room) (t : Tables Shown) (e : read doc r ≡ acce
       rw e
       (words_shown doc t read_accepts (replicate (r.text - length (texts t.rows)) 0) (replicate (r.rows - length (words_from 0 t.rows)) 0))
 
-  pub left_sound : soundness doc (text_left r (read doc r)) (rows_left_lem r (read doc r)) (length t.rows) ≡ sound
-  left_sound =
-      rw e
-      (tables_sound doc t read_accepts (replicate (r.text - length (texts t.rows)) 0) (replicate (r.rows - length (words_from 0 t.rows)) 0))
-
 -- ---- words of rows
 
 -- kind, parent's row plus one, and place

@@ -15,3 +15,4 @@ pub mod Order
 pub mod Members
 pub mod Soundness
 pub mod Accepted
+pub mod Left
