@@ -6,11 +6,13 @@ use mathlib.Core.List.{List, [], ◌∷◌, append-nil}
 use mathlib.Core.Bool.{Bool, true, false}
 use borrow.Author.Rules.{rules}
 use borrow.Author.Tests.{eqb-true}
+use native.Mathlib.Numerals.{add-one}
 use native.Mathlib.Omega.{arith}
 use lib.Dec.{eqb}
 use lib.ListN.{length, take, drop}
+use lib.Seq.{drop-drop}
 use Rattle.slices.specs.Bytes.{if, bytes, starts}
-use Rattle.scan.specs.Ignorable.{Marks, seek}
+use Rattle.scan.specs.Ignorable.{Marks, seek, markup}
 use Rattle.scan.specs.declared.Scan.TheVariants as scans
 use Rattle.scan.specs.declared.Markup.TheVariants.{Ignored}
 use Rattle.document.proofs.Tests.{never}

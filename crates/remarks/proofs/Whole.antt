@@ -24,7 +24,7 @@ use Rattle.remarks.specs.Differing.{Differ, EquallyLong, Unsteered, CallsUnsteer
 use Rattle.remarks.proofs.Meets.{Out, AllOut, tokens_same}
 use Rattle.remarks.proofs.Folding.{StateOk, AllOk, step_alike, fold_alike}
 use Rattle.remarks.proofs.Contents.{Opens, Shuts, content_alike, ends_same}
-use Rattle.remarks.proofs.Standing.{Begins, starts_split, Found, seek_split}
+use Rattle.remarks.proofs.Standing.{Begins, starts_split, Found, seek_split, comment_stands}
 
 -- ---- the two documents, from `<` to `>` and around it
 

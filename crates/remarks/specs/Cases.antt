@@ -2,7 +2,7 @@
 -- between `<!--` and `-->` does steer.
 -- Assumes nothing.
 use Prim.Native.String as string
-use Rattle.std.specs.Prelude.{◌≡◌, refl, List, map, Bool}
+use Rattle.std.specs.Prelude.{◌≡◌, refl, List, [], ◌∷◌, map, Bool, false}
 use Rattle.slices.specs.Bytes.{bytes}
 use Rattle.utf8.specs.WellFormed.{sequence, ill_formed}
 use Rattle.utf8.specs.WhiteSpace.{characters, trim_start, trim_end}
@@ -10,11 +10,12 @@ use Rattle.scan.specs.Ignorable.{ignorable}
 use Rattle.document.specs.Tags.{attribute, gather}
 use Rattle.document.specs.Tokens.{opening, closing, next, tokens}
 use Rattle.document.specs.Rows.{row_words_lem}
-use Rattle.document.specs.Refusals.{fault_in}
+use Rattle.document.specs.Refusals.{bare, fault_in}
 use Rattle.document.specs.Elements.{among, kind_of, may_hold, opens_as}
 use Rattle.document.specs.Reading.{step, begins, unsupported, docstring_in, run}
 use Rattle.document.specs.Whole.{Room, meaning, read, verdict_of}
 use Rattle.document.specs.declared.Verdict.{Verdict}
+use Rattle.document.specs.declared.Verdict.TheVariants.{Refused, Accepted}
 use Rattle.met.specs.Passed.{passed_over}
 use Rattle.met.specs.Met.{met_tokens, met_comments}
 use Rattle.remarks.specs.Differing.{Differ}

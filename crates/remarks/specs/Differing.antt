@@ -4,6 +4,7 @@ use Rattle.std.specs.Prelude.{ℕ, ◌+◌, ◌≡◌, List, true, length, take,
 use Rattle.slices.specs.Bytes.{bytes}
 use Rattle.utf8.specs.WellFormed.{ill_formed}
 use Rattle.scan.specs.Ignorable.{seek}
+use Rattle.scan.specs.declared.Scan.TheVariants.{At}
 use Rattle.document.specs.Elements.{among}
 use Rattle.document.specs.Whole.{Room, read, Says}
 use Rattle.document.specs.declared.Verdict.{Verdict}
