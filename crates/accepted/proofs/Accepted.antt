@@ -8,13 +8,15 @@ use mathlib.Core.Bool.{Bool, true, false, ◌||◌}
 use native.Mathlib.Omega.{arith}
 use lib.Dec.{ltb}
 use lib.ListN.{length, replicate}
+use Rattle.std.specs.Prelude.{Ok}
 use Rattle.slices.specs.Bytes.{if}
 use Rattle.document.specs.Tags.{Shown}
 use Rattle.document.specs.Rows.{Row, Tables, words_from, texts}
 use Rattle.document.specs.Refusals.{bare}
 use Rattle.document.specs.Reading.{State, begun, reading, accepted, refused}
 use Rattle.document.specs.Whole.{Room, meaning, fitted, read, verdict_of, rows_left_lem, text_left, Says}
-use Rattle.document.specs.declared.Verdict.TheVariants.{Accepted}
+use Rattle.document.specs.declared.Counts.{Counts}
+use Rattle.document.specs.Verdict.{counts}
 use Rattle.items.specs.Words.{RowWords, word_at, rows_shown}
 use Rattle.items.specs.View.{view_row, text_shown}
 use Rattle.items.specs.Sound.{sound, soundness}
@@ -86,14 +88,15 @@ words_back rs z i l =
     )
 
 -- what holds of the rows of a document that is accepted, whatever stands after them, holds of the rows that the reader leaves
-of_rows : (P : List ℕ → List ℕ → ℕ → Type 0) → ((doc : List ℕ) (t : Tables Shown) → meaning doc ≡ accepted t → (z : List ℕ) → P doc (words_from 0 t.rows ++ z) (length t.rows)) → (doc rows warnings text : List ℕ) (room : Room) (n x w : ℕ) → Says doc room rows warnings text (Accepted n x w) → P doc rows n
+of_rows : (P : List ℕ → List ℕ → ℕ → Type 0) → ((doc : List ℕ) (t : Tables Shown) → meaning doc ≡ accepted t → (z : List ℕ) → P doc (words_from 0 t.rows ++ z) (length t.rows)) → (doc rows warnings text : List ℕ) (room : Room) (n x w : ℕ) → Says doc room rows warnings text (Ok (counts n x w)) → P doc rows n
 of_rows P h doc rows warnings text room n x w s = go (read doc room) refl s.verdict s.rows_left
   where
-    go : (r : State Shown) → read doc room ≡ r → Accepted n x w ≡ verdict_of r → rows ≡ rows_left_lem room r → P doc rows n
+    go : (r : State Shown) → read doc room ≡ r → Ok (counts n x w) ≡ verdict_of r → rows ≡ rows_left_lem room r → P doc rows n
     go begun q e f = let z : ◌≡◌ {A = ℕ} 0 1 = cc in absurd (omega arith)
     go (reading fs u) q e f = let z : ◌≡◌ {A = ℕ} 0 1 = cc in absurd (omega arith)
     go (accepted t) q e f =
-        let l : n ≡ length t.rows = cc in
+        let k : counts n x w ≡ counts (length t.rows) (length (texts t.rows)) (length t.warnings) = cc in
+        let l : n ≡ length t.rows = ap (λ (c : Counts). c.rows) k in
         rw (f, l) (h doc t (read_accepts doc room t q) (replicate (room.rows - length (words_from 0 t.rows)) 0))
     go (refused y) q e f = let z : ◌≡◌ {A = ℕ} 0 1 = cc in absurd (omega arith)
 

@@ -13,7 +13,7 @@ use Rattle.document.specs.Elements.{among, may_hold}
 use Rattle.document.specs.Reading.{Definition, Purpose, ignored, captures, Frame, element, definition, passing, parts_reason, reason_of}
 use Rattle.items.specs.Sound.{tp_use, any_text, valid_word}
 use Rattle.accepted.proofs.Tokens.{After}
-use Rattle.document.specs.Kinds.{definitions, parts}
+use Rattle.document.specs.Kinds.{definitions}
 use Rattle.accepted.proofs.Entries.{GoodIn, Brief, Complete}
 
 -- ---- rows by their numbers

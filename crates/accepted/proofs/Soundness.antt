@@ -12,7 +12,7 @@ use lib.Dec.{eqb}
 use lib.ListN.{length, take, drop, length-append}
 use Rattle.utf8.specs.WellFormed.{ill_formed}
 use Rattle.names.specs.Signature.{basic_signature}
-use Rattle.tables.specs.Triple.{inside, shown}
+use Rattle.tables.specs.Triple.{shown}
 use Rattle.tables.specs.declared.Triple.{Triple}
 use Rattle.references.proofs.Formed.{unescape_formed}
 use Rattle.document.specs.Tags.{Shown}

@@ -11,15 +11,15 @@ use native.Mathlib.Omega.{arith}
 use lib.Dec.{eqb}
 use lib.ListN.{length, take, drop, get_or, length-append, length-drop, take-append-drop}
 use lib.Seq.{drop-drop, drop-append-le, get_or-drop}
+use Rattle.std.specs.Prelude.{Result, Ok, Err}
+use Rattle.faults.specs.declared.Fault.{Fault}
 use Rattle.slices.specs.Bytes.{other, span, past, empty}
 use Rattle.slices.proofs.Runs.{Stops}
 use Rattle.scan.specs.Classes.{white, name_byte}
 use Rattle.scan.proofs.Class.{white_small}
 use Rattle.scan.specs.Ignorable.{quote, markup, further, ignorable_from, ignorable}
-use Rattle.scan.specs.declared.Scan.{Scan}
-use Rattle.scan.specs.declared.Scan.TheVariants.{Fault, At}
 use Rattle.scan.specs.declared.Markup.{Markup}
-use Rattle.scan.specs.declared.Markup.TheVariants as markups
+use Rattle.scan.specs.declared.Markup.TheVariants.{Tag as is_tag, Ignored}
 use Rattle.answers.specs.Text.{Text, text, wrong}
 use Rattle.references.specs.Unescape.{unescape}
 use Rattle.document.specs.Tags.{Attr, Found, absent, found, close_quote, open_quote, equals, spaced, attribute, Gathered, gathered, too_many, with, another, no_more, gather, Shown, Checked, good, also, member, check}
@@ -292,9 +292,9 @@ module _ (doc : List ℕ) where
       (λ t. opening_comes (b ∷ l) at i h e)
 
   -- what is ignorable ends at a `<`, or at the end
-  abbrev Meets : Scan → Type 0
-  Meets (Fault n p) = Unit {0}
-  Meets (At p) = Stops (other 60) (drop p doc)
+  abbrev Meets : Result ℕ Fault → Type 0
+  Meets (Err f) = Unit {0}
+  Meets (Ok p) = Stops (other 60) (drop p doc)
 
   ignorable_meets : (k : ℕ) (l : List ℕ) (at : ℕ) → drop at doc ≡ l → Meets (ignorable_from k l at)
   ignorable_meets k [] at e = rw e tt
@@ -306,10 +306,10 @@ module _ (doc : List ℕ) where
       m : drop (suc at) doc ≡ l
       m = next-left doc at b l e
 
-      go : (u : Markup) → eqb b 60 ≡ true → ((k : ℕ) → Meets (ignorable_from k l (suc at))) → Meets (further u at (λ p. ignorable_from (p - suc at) l (suc at)))
-      go markups.Tag t i = rw (e, t) refl
-      go (markups.Ignored (Fault n p)) t i = tt
-      go (markups.Ignored (At p)) t i = i (p - suc at)
+      go : (u : Result Markup Fault) → eqb b 60 ≡ true → ((k : ℕ) → Meets (ignorable_from k l (suc at))) → Meets (further u at (λ p. ignorable_from (p - suc at) l (suc at)))
+      go (Ok is_tag) t i = rw (e, t) refl
+      go (Err f) t i = tt
+      go (Ok (Ignored p)) t i = i (p - suc at)
   ignorable_meets (suc k) (b ∷ l) at e = ignorable_meets k l (suc at) (next-left doc at b l e)
 
   next_comes : (l : List ℕ) (at : ℕ) → drop at doc ≡ l → NextComes (next l at)
@@ -323,9 +323,9 @@ module _ (doc : List ℕ) where
           let w : b ≡ 60 = eqb-true b 60 (not-false (eqb b 60) s) in
           tag_comes m p v.0 (v.1 ∙ w) (next-left doc p b m f)
 
-      go : (s : Scan) → Meets s → Scanned at (at + length l) s → NextComes (past_ignorable s l at)
-      go (Fault n p) h w = of_markup (among_all (λ m. among m (4 ∷ 9 ∷ 17 ∷ 22 ∷ 23 ∷ 24 ∷ 25 ∷ [])) n (22 ∷ 23 ∷ 24 ∷ 25 ∷ []) refl w.0)
-      go (At p) h w =
+      go : (s : Result ℕ Fault) → Meets s → Scanned at (at + length l) s → NextComes (past_ignorable s l at)
+      go (Err f) h w = of_markup (among_all (λ m. among m (4 ∷ 9 ∷ 17 ∷ 22 ∷ 23 ∷ 24 ∷ 25 ∷ [])) f.number (22 ∷ 23 ∷ 24 ∷ 25 ∷ []) refl w.0)
+      go (Ok p) h w =
           let n : at + (p - at) ≡ p = omega (arith, w) in
           let f : drop p doc ≡ drop (p - at) l = rw (← e, drop-drop (p - at) at doc, n) in
           ends (drop (p - at) l) p f (rw f at h)

@@ -1,11 +1,11 @@
 -- What is said of the tables that the reader leaves, in the record that the contract of `reader::parse_with_warnings` cites.
 -- Assumes nothing.
-use Rattle.std.specs.Prelude.{ℕ, suc, ◌<◌, ◌≡◌, List, false, drop, get_or}
+use Rattle.std.specs.Prelude.{ℕ, suc, ◌<◌, ◌≡◌, List, false, drop, get_or, Ok}
 use Rattle.slices.specs.Bytes.{span, empty}
 use Rattle.scan.specs.Classes.{name_byte}
 use Rattle.document.specs.Elements.{kind_of}
 use Rattle.document.specs.Whole.{Room, Says}
-use Rattle.document.specs.declared.Verdict.TheVariants.{Accepted}
+use Rattle.document.specs.Verdict.{counts}
 use Rattle.items.specs.Words.{word_at}
 use Rattle.items.specs.Order.{InOrder, DocumentOrder}
 
@@ -13,14 +13,14 @@ use Rattle.items.specs.Order.{InOrder, DocumentOrder}
 abbrev pub RowsInDocumentOrder : Type 0
 RowsInDocumentOrder =
     (doc rows warnings text : List ℕ) (room : Room) (n x w : ℕ) →
-    Says doc room rows warnings text (Accepted n x w) →
+    Says doc room rows warnings text (Ok (counts n x w)) →
     DocumentOrder rows n
 
 -- and so in order: what stands in a child of a row stands before the next child of that row
 abbrev pub RowsInOrder : Type 0
 RowsInOrder =
     (doc rows warnings text : List ℕ) (room : Room) (n x w : ℕ) →
-    Says doc room rows warnings text (Accepted n x w) →
+    Says doc room rows warnings text (Ok (counts n x w)) →
     (i : ℕ) →
     InOrder rows n i
 
@@ -39,7 +39,7 @@ pub record Begins (doc rows : List ℕ) (i : ℕ) : Type 0 where
 abbrev pub RowsBegin : Type 0
 RowsBegin =
     (doc rows warnings text : List ℕ) (room : Room) (n x w : ℕ) →
-    Says doc room rows warnings text (Accepted n x w) →
+    Says doc room rows warnings text (Ok (counts n x w)) →
     (i : ℕ) →
     i < n →
     Begins doc rows i

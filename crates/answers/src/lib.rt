@@ -6,22 +6,22 @@ ghost use Rattle.answers.specs.Text.{wrong, Says, Finishes};
 
 pub mod put;
 
-// Number and place of a refusal, or how many bytes were written.
-#[derive(Clone, Copy)]
-pub enum TextAnswer {
-    Refused(u32, usize),
-    Done(usize),
-}
+use faults::Fault;
+
+// How many bytes were written, or why none were.
+pub type TextAnswer = Result<usize, Fault>;
 
 // Leaves zeros.
+#[tactic(auto, using(crate::proofs::Answers::steps))]
 pub fn refuse(out: &mut [u8], number: u32, place: usize) -> TextAnswer
     ensures { Says (wrong number place) (length out.old) out.new result }
 {
     tables::clear_bytes(out, 0);
-    TextAnswer::Refused(number, place)
+    Err(Fault { number, place })
 }
 
 // Leaves n bytes and zeros after them, or zeros where they do not fit.
+#[tactic(auto, using(crate::proofs::Answers::steps))]
 pub fn finish(out: &mut [u8], n: usize, number: u32, place: usize) -> TextAnswer
     ensures { Finishes n number place out.old out.new result }
 {
@@ -29,5 +29,5 @@ pub fn finish(out: &mut [u8], n: usize, number: u32, place: usize) -> TextAnswer
         return refuse(out, number, place);
     }
     tables::clear_bytes(out, n);
-    TextAnswer::Done(n)
+    Ok(n)
 }

@@ -3,20 +3,20 @@ ghost use Rattle.std.specs.Prelude.{[], ◌∷◌, ◌+◌, ◌<◌, ◌^◌, le
 ghost use Rattle.utf8.specs.Encoding.{utf8};
 ghost use Rattle.answers.specs.Puts.{Puts};
 
+#[tactic(auto, using(crate::proofs::Putting::puts))]
 pub fn put_bytes(out: &mut [u8], n: usize, bytes: &[u8]) -> usize
     requires { n + length bytes.now < 2 ^ 62 }
     ensures { Puts bytes.now n out.old out.new result }
 {
-    let mut i = 0;
     let mut m = n;
-    while i < bytes.len() {
-        m = tables::put_byte(out, m, bytes[i]);
-        i += 1;
+    for &b in bytes {
+        m = tables::put_byte(out, m, b);
     }
     m
 }
 
 // Two bytes of a character: the last of its UTF-8.
+#[tactic(auto, using(crate::proofs::Putting::puts))]
 fn put_two(out: &mut [u8], n: usize, a: u8, b: u8) -> usize
     requires { n + 2 < 2 ^ 62 }
     ensures { Puts (a ∷ b ∷ []) n out.old out.new result }
@@ -26,6 +26,7 @@ fn put_two(out: &mut [u8], n: usize, a: u8, b: u8) -> usize
 }
 
 // The UTF-8 of a character.
+#[tactic(auto, using(crate::proofs::Putting::puts))]
 pub fn put_char(out: &mut [u8], n: usize, c: u32) -> usize
     requires { (c < 1114112) × (n + 4 < 2 ^ 62) }
     ensures { Puts (utf8 c) n out.old out.new result }

@@ -12,6 +12,7 @@ use native.Mathlib.Omega.{arith}
 use lib.Dec.{eqb}
 use lib.ListN.{length, take, drop, get_or, drop_of_length-le}
 use lib.Seq.{drop-cons, length-take-le, get_or-take, take-suc}
+use Rattle.std.specs.Prelude.{Result, Ok, Err}
 use Rattle.slices.specs.Bytes.{if, all, same}
 use Rattle.slices.proofs.Runs.{eqb_swap}
 use Rattle.answers.specs.Text.{text}
@@ -23,8 +24,7 @@ use Rattle.attributes.specs.Lookup.{blank, part_is, name_is, wanted, first_by, v
 use Rattle.attributes.specs.Outcome.{Checkable, among, attrs_of, References, listed, there, Weighs, Judges, Checks}
 use Rattle.document.specs.declared.Value.{Value}
 use Rattle.attributes.specs.declared.Attribute.{Attribute}
-use Rattle.attributes.specs.declared.AttributeCheck.{AttributeCheck}
-use Rattle.attributes.specs.declared.AttributeCheck.TheVariants.{Fault, Good}
+use Rattle.faults.specs.declared.Fault.{Fault}
 
 -- ---- whether a name came before
 
@@ -93,26 +93,26 @@ module _ {doc : List ℕ} {a : Attribute} (f : Fit doc 0 (length doc) a) where
   weigh_room s = (f.value, s)
 
   module _ (before : Value) where
-    pub weigh_duplicate : (before.kind ≡ 0 → ⊥) → Weighs doc a before (Fault 8 a.name)
+    pub weigh_duplicate : (before.kind ≡ 0 → ⊥) → Weighs doc a before (Err (record { number = 8; place = a.name }))
     weigh_duplicate h = record { is = λ c. rw (ne_eqb before.kind 0 h) }
 
     module _ (e : before.kind ≡ 0) where
       new : there before ≡ false
       new = rw e
 
-      pub weigh_plain : a.kind ≡ 1 → Weighs doc a before Good
+      pub weigh_plain : a.kind ≡ 1 → Weighs doc a before (Ok tt)
       weigh_plain k = record { is = ((attr_of doc a).raw, new, unescape_plain _ (go (all plain (attr_of doc a).raw) (sym f.kind ∙ k))) }
         where
           go : (t : Bool) → ◌≡◌ {A = ℕ} (if t 1 2) 1 → t ≡ true
           go true e = refl
           go false e = absurd (omega arith)
 
-      pub weigh_reference : {v : AttributeCheck} → References doc a.value a.value_len v → Weighs doc a before v
+      pub weigh_reference : {v : Result (Unit {0}) Fault} → References doc a.value a.value_len v → Weighs doc a before v
       weigh_reference {v} c = go v c
         where
-          go : (v : AttributeCheck) → References doc a.value a.value_len v → Weighs doc a before v
-          go Good c = record { is = (c.is.0, new, c.is.1) }
-          go (Fault k p) c = record { is = λ d. rw (new, c.is.1, c.is.2) }
+          go : (v : Result (Unit {0}) Fault) → References doc a.value a.value_len v → Weighs doc a before v
+          go (Ok tt) c = record { is = (c.is.0, new, c.is.1) }
+          go (Err f) c = record { is = λ d. rw (new, c.is.1, c.is.2) }
 
 pub ruleset weighs = (weigh_room, weigh_duplicate, weigh_plain, weigh_reference, rules)
 
@@ -140,7 +140,7 @@ module _ {doc : List ℕ} {xs : List Attribute} {i : ℕ} (h : i < length xs) (g
       go true = omega arith
       go false = omega arith
 
-  pub judge_is : {m : ℕ} {v : Value} {r : AttributeCheck} → m ≡ among (get_or xs i blank).twin i → Picks (wanted doc (get_or xs i blank).name (get_or xs i blank).name_len false doc) xs m v → Weighs doc (get_or xs i blank) v r → Judges doc xs i r
+  pub judge_is : {m : ℕ} {v : Value} {r : Result (Unit {0}) Fault} → m ≡ among (get_or xs i blank).twin i → Picks (wanted doc (get_or xs i blank).name (get_or xs i blank).name_len false doc) xs m v → Weighs doc (get_or xs i blank) v r → Judges doc xs i r
   unfolding value_in first_by
   judge_is {m} {v} {r} e p w = record { is = rw (← seen (get_or xs i blank).twin refl (rw e at p)) w.is }
     where
@@ -191,7 +191,7 @@ attrs_more : (doc : List ℕ) (xs : List Attribute) (i : ℕ) → i < length xs 
 attrs_more doc xs i h = rw (take-suc xs i blank h) (map-append (attr_of doc) (take i xs) (get_or xs i blank ∷ []))
 
 module _ {doc : List ℕ} {xs : List Attribute} {n i : ℕ} (g : Checking doc xs n i) where
-  check_ends : n ≤ i → Checks doc xs n Good
+  check_ends : n ≤ i → Checks doc xs n (Ok tt)
   check_ends h =
       let e : drop i (take n xs) ≡ [] = drop_of_length-le (take n xs) {i = i} (omega (arith, length-take-le n xs g.room)) in
       record { is = (g.shown ++ [], g.left ∙ rw e) }
@@ -204,10 +204,10 @@ module _ {doc : List ℕ} {xs : List Attribute} {n i : ℕ} (g : Checking doc xs
         let b : i < length (take n xs) = omega arith in
         g.left ∙ rw (drop-cons (take n xs) i blank b, get_or-take n xs i blank h)
 
-    check_fault : {k p : ℕ} → Judges doc xs i (Fault k p) → Checks doc xs n (Fault k p)
+    check_fault : {f : Fault} → Judges doc xs i (Err f) → Checks doc xs n (Err f)
     check_fault j = record { is = here ∙ rw (member_listed (attr_of doc (get_or xs i blank)).name (attrs_of doc xs i), j.is _) }
 
-    pub check_more : Judges doc xs i Good → Checking doc xs n (i + 1)
+    pub check_more : Judges doc xs i (Ok tt) → Checking doc xs n (i + 1)
     check_more j =
         let d = j.is in
         record {
@@ -229,7 +229,7 @@ abbrev pub turn_first : {doc : List ℕ} {xs : List Attribute} {n : ℕ} → n �
 turn_first h = record { i = 0; so = check_begins h }
 
 module _ {doc : List ℕ} {xs : List Attribute} {n : ℕ} (t : Turn doc xs n) where
-  pub turn_end : n ≤ t.i → Checks doc xs n Good
+  pub turn_end : n ≤ t.i → Checks doc xs n (Ok tt)
   turn_end h = check_ends t.so h
 
   module _ (h : t.i < n) where
@@ -237,8 +237,8 @@ module _ {doc : List ℕ} {xs : List Attribute} {n : ℕ} (t : Turn doc xs n) wh
     pub turn_asks : Checkable doc xs n → (t.i < length xs) × Checkable doc xs (suc t.i)
     turn_asks g = (omega (arith, t.so.room), checkable_to g h)
 
-    pub turn_fault : {k p : ℕ} → Judges doc xs t.i (Fault k p) → Checks doc xs n (Fault k p)
+    pub turn_fault : {f : Fault} → Judges doc xs t.i (Err f) → Checks doc xs n (Err f)
     turn_fault j = check_fault t.so h j
 
-    abbrev pub turn_more : Judges doc xs t.i Good → Turn doc xs n
+    abbrev pub turn_more : Judges doc xs t.i (Ok tt) → Turn doc xs n
     turn_more j = record { i = t.i + 1; so = check_more t.so h j }

@@ -11,6 +11,7 @@ use native.Mathlib.Omega.{arith}
 use lib.Dec.{eqb}
 use lib.ListN.{length, drop, get_or, drop_of_length-le}
 use lib.Seq.{drop-cons}
+use Rattle.std.specs.Prelude.{Option, Some, None}
 use Rattle.slices.specs.Bytes.{if, other, span, past}
 use Rattle.slices.specs.Run.{Run}
 use Rattle.slices.proofs.Runs.{Running, run_begins, run_more, run_stops, run_ends, other_true, other_false}
@@ -22,8 +23,7 @@ use Rattle.document.specs.Tags.{Found as Finding, attribute, equals, open_quote,
 use Rattle.attributes.specs.One.{part, kind_from, Fit, Quotes, Named, Finds}
 use Rattle.attributes.specs.declared.Attribute.{Attribute}
 use Rattle.attributes.specs.declared.ValueEnd.{ValueEnd}
-use Rattle.attributes.specs.declared.One.{One}
-use Rattle.attributes.specs.declared.One.TheVariants.{Absent, Found}
+use Rattle.attributes.specs.declared.Located.{Located}
 
 -- a byte that a value does not show as it is
 module _ {b : ℕ} where
@@ -101,9 +101,9 @@ fit_wide h l f = record {
 }
 
 -- one definition leads to another further on
-carries : {f g : List ℕ → ℕ → Finding} {doc : List ℕ} {from at : ℕ} (r : One) → from ≤ at → f (drop from doc) from ≡ g (drop at doc) at → Finds g doc at r → Finds f doc from r
-carries {f} {g} {doc} {from} {at} Absent h e c = record { onward = tt; is = e ∙ c.is }
-carries {f} {g} {doc} {from} {at} (Found a end) h e c =
+carries : {f g : List ℕ → ℕ → Finding} {doc : List ℕ} {from at : ℕ} (r : Option Located) → from ≤ at → f (drop from doc) from ≡ g (drop at doc) at → Finds g doc at r → Finds f doc from r
+carries {f} {g} {doc} {from} {at} None h e c = record { onward = tt; is = e ∙ c.is }
+carries {f} {g} {doc} {from} {at} (Some x) h e c =
     record { onward = (omega (arith, c.onward.0), c.onward.1, fit_wide h (omega arith) c.onward.2, c.onward.3); is = e ∙ c.is }
 
 -- a quote is one of two bytes
@@ -117,24 +117,24 @@ quote_low {b} e f = go (eqb b 34) (eqb b 39) (eqb-true b 34) (eqb-true b 39) (sy
 
 -- at the opening quote
 module _ {doc : List ℕ} {name n : ℕ} {tp : Bool} {at : ℕ} (g : Named doc name n tp at) where
-  pub value_ended : length doc ≤ at → Finds (open_quote name (part doc name n)) doc at Absent
+  pub value_ended : length doc ≤ at → Finds (open_quote name (part doc name n)) doc at None
   value_ended h = record { onward = tt; is = rw (drop_of_length-le doc h) }
 
   module _ (h : at < length doc) {t : Bool} (e : t ≡ quote (get_or doc at 0)) where
-    pub value_other : t ≡ false → Finds (open_quote name (part doc name n)) doc at Absent
+    pub value_other : t ≡ false → Finds (open_quote name (part doc name n)) doc at None
     value_other f = record { onward = tt; is = rw (drop-cons doc at 0 h, sym e ∙ f) }
 
     module _ (f : t ≡ true) {v : ValueEnd} (c : Quotes (get_or doc at 0) doc (at + 1) v) where
       to_close : past (other (get_or doc at 0)) (drop (suc at) doc) ≡ drop v.end doc
       to_close = rw add-one at (run_rest c.run)
 
-      pub value_unclosed : length doc ≤ v.end → Finds (open_quote name (part doc name n)) doc at Absent
+      pub value_unclosed : length doc ≤ v.end → Finds (open_quote name (part doc name n)) doc at None
       value_unclosed l = record {
         onward = tt;
         is = rw (drop-cons doc at 0 h, sym e ∙ f, to_close, drop_of_length-le doc l);
       }
 
-      pub value_found : v.end < length doc → Finds (open_quote name (part doc name n)) doc at (Found (record { name = name; name_len = n; value = at + 1; value_len = v.end - (at + 1); kind = v.kind; tp = tp; twin = true }) (v.end + 1))
+      pub value_found : v.end < length doc → Finds (open_quote name (part doc name n)) doc at (Some (record { attribute = record { name = name; name_len = n; value = at + 1; value_len = v.end - (at + 1); kind = v.kind; tp = tp; twin = true }; end = v.end + 1 }))
       value_found l =
           let r : span (other (get_or doc at 0)) (drop (suc at) doc) ≡ part doc (suc at) (v.end - suc at) = rw add-one at (run_span c.run) in
           let p : suc at + length (span (other (get_or doc at 0)) (drop (suc at) doc)) ≡ v.end = sym (rw add-one at c.run.ends) in
@@ -164,13 +164,13 @@ equals_opens name n {doc} {at} {q} h e w =
     rw (drop-cons doc at 0 h, e, m, p)
 
 module _ {doc : List ℕ} {name n : ℕ} {tp : Bool} {at : ℕ} (g : Named doc name n tp at) where
-  pub equals_ended : length doc ≤ at → Finds (equals name (part doc name n)) doc at Absent
+  pub equals_ended : length doc ≤ at → Finds (equals name (part doc name n)) doc at None
   equals_ended h = record { onward = tt; is = rw (drop_of_length-le doc h) }
 
-  pub equals_other : at < length doc → (get_or doc at 0 ≡ 61 → ⊥) → Finds (equals name (part doc name n)) doc at Absent
+  pub equals_other : at < length doc → (get_or doc at 0 ≡ 61 → ⊥) → Finds (equals name (part doc name n)) doc at None
   equals_other h e = record { onward = tt; is = rw (drop-cons doc at 0 h, ne_eqb _ _ e) }
 
-  pub equals_found : {q : ℕ} {r : One} → at < length doc → get_or doc at 0 ≡ 61 → Run white doc (at + 1) q → Finds (open_quote name (part doc name n)) doc q r → Finds (equals name (part doc name n)) doc at r
+  pub equals_found : {q : ℕ} {r : Option Located} → at < length doc → get_or doc at 0 ≡ 61 → Run white doc (at + 1) q → Finds (open_quote name (part doc name n)) doc q r → Finds (equals name (part doc name n)) doc at r
   equals_found {q} {r} h e w c = carries r (omega (arith, w.onward)) (equals_opens name (part doc name n) h e w) c
 
   pub named_on : {q : ℕ} → at < length doc → Run white doc (at + 1) q → Named doc name n tp q
@@ -178,12 +178,12 @@ module _ {doc : List ℕ} {name n : ℕ} {tp : Bool} {at : ℕ} (g : Named doc n
 
 -- at the white space before the name
 module _ {doc : List ℕ} {from name : ℕ} (w : Run white doc from name) where
-  pub none_spaced : name ≤ from → Finds attribute doc from Absent
+  pub none_spaced : name ≤ from → Finds attribute doc from None
   unfolding attribute
   none_spaced h = record { onward = tt; is = rw (run_empty w h) }
 
   module _ (h : from < name) {end : ℕ} (n : Run name_byte doc name end) where
-    pub none_named : end ≤ name → Finds attribute doc from Absent
+    pub none_named : end ≤ name → Finds attribute doc from None
     unfolding attribute
     none_named l = record { onward = tt; is = rw (run_some w h, run_rest w, run_empty n l) }
 
@@ -192,7 +192,7 @@ module _ {doc : List ℕ} {from name : ℕ} (w : Run white doc from name) where
       unfolding attribute
       attribute_equals = rw (run_some w h, run_rest w, ← w.ends, run_some n l, run_rest n, run_rest v, ← n.ends, ← v.ends, run_span n)
 
-      pub attribute_found : {r : One} → Finds (equals name (part doc name (end - name))) doc at r → Finds attribute doc from r
+      pub attribute_found : {r : Option Located} → Finds (equals name (part doc name (end - name))) doc at r → Finds attribute doc from r
       attribute_found {r} c = carries r (omega (arith, w.onward, n.onward, v.onward)) attribute_equals c
 
 pub named_before : {doc : List ℕ} {from name end at : ℕ} {tp : Bool} → length doc ≤ 1048576 → Run white doc from name → Run name_byte doc name end → Run white doc end at → tp ≡ is_tp_type_lem (part doc name (end - name)) → Named doc name (end - name) tp at

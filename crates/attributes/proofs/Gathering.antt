@@ -10,6 +10,7 @@ use native.Mathlib.Omega.{arith}
 use lib.ListN.{length, drop, get_or, set, length-set}
 use lib.Seq.{take-suc-set, take-set-le, get_or-set_same, get_or-set_other}
 use native.Mathlib.Decide.{dec_lt}
+use Rattle.std.specs.Prelude.{Result, Ok, Option, Some, None, Err}
 use Rattle.document.specs.Tags.{Attr, absent, attribute, Gathered, gathered, too_many, with, gather}
 use Rattle.document.specs.declared.Values.{Values}
 use Rattle.attributes.specs.One.{attr_of, Fit, Finds}
@@ -17,22 +18,19 @@ use Rattle.attributes.specs.Lookup.{blank, PicksAll}
 use Rattle.attributes.specs.Outcome.{Fitted, Fresh, Checkable, attrs_of, listed, Checks, Finishes, Gathers}
 use Rattle.attributes.specs.Twins.{mark}
 use Rattle.attributes.specs.declared.Attribute.{Attribute}
-use Rattle.attributes.specs.declared.One.{One}
-use Rattle.attributes.specs.declared.One.TheVariants.{Absent, Found}
-use Rattle.attributes.specs.declared.AttributeCheck.{AttributeCheck}
-use Rattle.attributes.specs.declared.AttributeCheck.TheVariants as verdict
-use Rattle.attributes.specs.declared.Attrs.{Attrs}
-use Rattle.attributes.specs.declared.Attrs.TheVariants.{Fault, All}
 use Rattle.attributes.proofs.Found.{fit_wide}
 use Rattle.attributes.proofs.Picked.{values_fit, values_are}
+use Rattle.faults.specs.declared.Fault.{Fault}
+use Rattle.attributes.specs.declared.Located.{Located}
+use Rattle.attributes.specs.declared.TagValues.{TagValues}
 
 -- ---- the end: the check, and the values
 
-module _ {doc : List ℕ} {xs : List Attribute} {n at : ℕ} {v : AttributeCheck} (c : Checks doc xs n v) where
-  pub finish_fault : {k p : ℕ} → v ≡ verdict.Fault k p → Finishes doc xs n at (Fault k p)
+module _ {doc : List ℕ} {xs : List Attribute} {n at : ℕ} {v : Result (Unit {0}) Fault} (c : Checks doc xs n v) where
+  pub finish_fault : {f : Fault} → v ≡ Err f → Finishes doc xs n at (Err f)
   finish_fault e = record { is = (rw e at c).is }
 
-  pub finish_all : {w : Values} → v ≡ verdict.Good → PicksAll doc xs n w → Finishes doc xs n at (All at w)
+  pub finish_all : {w : Values} → v ≡ (Ok tt) → PicksAll doc xs n w → Finishes doc xs n at (Ok (record { end = at; values = w }))
   finish_all e g = let d = (rw e at c).is in record { is = (d.0, d.1, refl, g.is) }
 
 -- ---- the loop
@@ -99,70 +97,70 @@ module _ {m : ℕ} {doc : List ℕ} {from : ℕ} {xs : List Attribute} {n at : �
   pub gather_checkable : length doc ≤ 1048576 → Fresh doc xs n → Checkable doc xs n
   gather_checkable s f = record { small = s; fitted = record { rule = λ k b. fit_wide (omega arith) g.inside (g.fitted.rule k b) }; fresh = f }
 
-  module _ {o : One} (c : Finds attribute doc at o) where
-    pub gather_ends : {r : Attrs} → o ≡ Absent → Finishes doc xs n at r → Gathers doc from r
+  module _ {o : Option Located} (c : Finds attribute doc at o) where
+    pub gather_ends : {r : Result TagValues Fault} → o ≡ None → Finishes doc xs n at r → Gathers doc from r
     gather_ends {r} e d = go r d
       where
         all : gather 256 (drop from doc) from ≡ gathered (attrs_of doc xs n) (drop at doc) at
         all = g.left ∙ rw (gather_none (256 - n) (drop at doc) at (rw e at c).is, extend_all)
 
-        go : (r : Attrs) → Finishes doc xs n at r → Gathers doc from r
-        go (Fault k p) d = record { onward = tt; is = λ q name. rw (all, d.is) }
-        go (All end v) d =
+        go : (r : Result TagValues Fault) → Finishes doc xs n at r → Gathers doc from r
+        go (Err f) d = record { onward = tt; is = λ q name. rw (all, d.is) }
+        go (Ok x) d =
             rw (d.is.2, d.is.3) record {
               onward = (g.since, g.inside, values_fit g.fitted (omega (arith, g.long, g.many)) g.inside g.since);
               is = (d.is.0, values_are g.fitted (omega (arith, g.long, g.many)) g.inside d.is.1, λ q name. rw (all, d.is.1));
             }
 
-    module _ {a : Attribute} {end : ℕ} (e : o ≡ Found a end) where
-      pub gather_full : m ≡ 256 → 256 ≤ n → Gathers doc from (Fault 17 a.name)
+    module _ {x : Located} (e : o ≡ Some x) where
+      pub gather_full : m ≡ 256 → 256 ≤ n → Gathers doc from (Err (record { number = 17; place = x.attribute.name }))
       unfolding gather
       gather_full k h =
           let z : 256 - n ≡ 0 = omega arith in
           record { onward = tt; is = λ q name. rw (g.left, z, (rw e at c).is, extend_many) }
 
-      pub gather_less : length doc - end < length doc - at
+      pub gather_less : length doc - x.end < length doc - at
       gather_less = let d = (rw e at c).onward in omega (arith, d.0, d.1)
 
       -- the place of the name
-      pub gather_named : a.name + a.name_len ≤ length doc
+      pub gather_named : x.attribute.name + x.attribute.name_len ≤ length doc
       gather_named = let d = (rw e at c).onward in omega (arith, d.1, d.2.name)
 
-      step : (t : Bool) → n < m → m ≤ 256 → gather 256 (drop from doc) from ≡ extend (attrs_of doc (set xs n (mark a t)) (n + 1)) (gather (256 - (n + 1)) (drop end doc) end)
+      step : (t : Bool) → n < m → m ≤ 256 → gather 256 (drop from doc) from ≡ extend (attrs_of doc (set xs n (mark x.attribute t)) (n + 1)) (gather (256 - (n + 1)) (drop x.end doc) x.end)
       unfolding gather
       step t h k =
           let z : 256 - n ≡ suc (256 - suc n) = omega arith in
           let b : n < length xs = omega (arith, g.long) in
-          g.left ∙ rw (z, (rw e at c).is, extend_with, add-one, take-suc-set xs n (mark a t) b, map-append)
+          g.left ∙ rw (z, (rw e at c).is, extend_with, add-one, take-suc-set xs n (mark x.attribute t) b, map-append)
 
       -- whatever its mark
-      pub gather_marked : (t : Bool) → n < m → m ≤ 256 → Gathering m doc from (set xs n (mark a t)) (n + 1) end
+      pub gather_marked : (t : Bool) → n < m → m ≤ 256 → Gathering m doc from (set xs n (mark x.attribute t)) (n + 1) x.end
       gather_marked t h k =
           let d = rw e at c in
           record {
             left = step t h k;
             fitted = record { rule = λ j b. fit j (dec_lt j n) (omega arith) };
-            long = length-set xs n (mark a t) ∙ g.long;
+            long = length-set xs n (mark x.attribute t) ∙ g.long;
             many = omega arith;
             since = omega (arith, g.since, d.onward.0);
             inside = d.onward.1;
           }
         where
-          same : Fit doc at end a → Fit doc at end (mark a t)
+          same : Fit doc at x.end x.attribute → Fit doc at x.end (mark x.attribute t)
           same f = record { name = f.name; value = f.value; short = f.short; kind = f.kind; tp = f.tp }
 
-          fit : (j : ℕ) → Dec (j < n) → j < n + 1 → Fit doc from end (get_or (set xs n (mark a t)) j blank)
+          fit : (j : ℕ) → Dec (j < n) → j < n + 1 → Fit doc from x.end (get_or (set xs n (mark x.attribute t)) j blank)
           fit j (yes l) b =
               let d = (rw e at c).onward in
-              rw (get_or-set_other xs n j (mark a t) blank (omega arith)) (fit_wide (omega arith) (omega (arith, d.0)) (g.fitted.rule j l))
+              rw (get_or-set_other xs n j (mark x.attribute t) blank (omega arith)) (fit_wide (omega arith) (omega (arith, d.0)) (g.fitted.rule j l))
           fit j (no l) b =
               let q : j ≡ n = omega arith in
-              rw (q, get_or-set_same xs n (mark a t) blank (omega (arith, g.long))) (fit_wide g.since (omega arith) (same (rw e at c).onward.2))
+              rw (q, get_or-set_same xs n (mark x.attribute t) blank (omega (arith, g.long))) (fit_wide g.since (omega arith) (same (rw e at c).onward.2))
 
-      pub gather_more : n < m → m ≤ 256 → Gathering m doc from (set xs n a) (n + 1) end
-      gather_more h k = gather_marked a.twin h k
+      pub gather_more : n < m → m ≤ 256 → Gathering m doc from (set xs n x.attribute) (n + 1) x.end
+      gather_more h k = gather_marked x.attribute.twin h k
 
-      pub gather_fresh : n < m → Fresh doc xs n → Fresh doc (set xs n a) (n + 1)
-      gather_fresh h f = fresh_more f a (omega (arith, g.long)) (λ t. let w : true ≡ false = sym (rw e at c).onward.3 ∙ t in let z : ◌≡◌ {A = ℕ} 0 1 = cc in absurd (omega arith))
+      pub gather_fresh : n < m → Fresh doc xs n → Fresh doc (set xs n x.attribute) (n + 1)
+      gather_fresh h f = fresh_more f x.attribute (omega (arith, g.long)) (λ t. let w : true ≡ false = sym (rw e at c).onward.3 ∙ t in let z : ◌≡◌ {A = ℕ} 0 1 = cc in absurd (omega arith))
 
 pub ruleset gathers = (gather_begins, gather_inside, gather_checkable, gather_ends, gather_full, gather_less, gather_more, fresh_none, gather_fresh, rules)

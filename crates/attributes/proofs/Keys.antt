@@ -12,13 +12,13 @@ use native.Mathlib.Omega.{arith}
 use lib.Dec.{leb}
 use lib.ListN.{length, take, drop, length-drop}
 use lib.Seq.{length-take-le}
+use Rattle.std.specs.Prelude.{Option, Some, None}
 use Rattle.slices.specs.Bytes.{bytes, span, same}
 use Rattle.slices.proofs.Ends.{run_span}
 use Rattle.slices.proofs.Runs.{same_short}
 use Rattle.scan.specs.Classes.{name_byte}
 use Rattle.scan.specs.Colons.{Scanned}
 use Rattle.scan.specs.declared.Colons.{Colons}
-use Rattle.scan.specs.declared.Colons.TheVariants.{Absent, Between}
 use Rattle.scan.specs.declared.Name.{Name}
 use Rattle.scan.proofs.Prefixes.{Within, colons_within, name_from}
 use Rattle.document.specs.Tags.{is_tp_type_lem}
@@ -75,35 +75,35 @@ pub ruleset keys = (part_past, part_within, key_past, key_other, key_same, wante
 
 -- ---- a tp type's name, by its colons
 
-first_within : (p e : ℕ) (c : Colons) {first last : ℕ} → Within p e c → c ≡ Between first last → (p ≤ first) × (first < e)
-first_within p e c {first} {last} w q = let v : Within p e (Between first last) = rw q at w in (v.0, omega (arith, v.1, v.2))
+first_within : (p e : ℕ) (c : Option Colons) {q : Colons} → Within p e c → c ≡ Some q → (p ≤ q.first) × (q.first < e)
+first_within p e c {q} w h = let v : Within p e (Some q) = rw h at w in (v.0, omega (arith, v.1, v.2))
 
 module _ {doc : List ℕ} {at : ℕ} {name : Name} (g : Scanned doc at name) where
   by_colons : is_tp_type_lem (take (name.end - at) (drop at doc)) ≡ tp_type_by (span name_byte (drop at doc)) at name.colons
   by_colons = rw (← run_span g.run, g.colons) (tp_type (span name_byte (drop at doc)) at)
 
-  pub tp_none : name.colons ≡ Absent → false ≡ is_tp_type_lem (take (name.end - at) (drop at doc))
+  pub tp_none : name.colons ≡ None → false ≡ is_tp_type_lem (take (name.end - at) (drop at doc))
   tp_none e = sym (by_colons ∙ rw e)
 
-  module _ {first last : ℕ} (e : name.colons ≡ Between first last) where
-    inside : (at ≤ first) × (first < name.end)
+  module _ {q : Colons} (e : name.colons ≡ Some q) where
+    inside : (at ≤ q.first) × (q.first < name.end)
     inside =
         let n : at + length (span name_byte (drop at doc)) ≡ name.end = sym g.run.ends in
         first_within at name.end name.colons (rw g.colons (rw n at (colons_within (span name_byte (drop at doc)) at))) e
 
-    pub tp_small : length doc ≤ 1048576 → first + 1 < 2 ^ 64
+    pub tp_small : length doc ≤ 1048576 → q.first + 1 < 2 ^ 64
     tp_small h = omega (arith, inside.1, g.run.within)
 
-    pub tp_inside : first + 1 ≤ name.end
+    pub tp_inside : q.first + 1 ≤ name.end
     tp_inside = omega (arith, inside.1)
 
-    pub tp_first : first ≡ at → false ≡ is_tp_type_lem (take (name.end - at) (drop at doc))
-    tp_first f = sym (by_colons ∙ rw (e, eq-eqb first at f))
+    pub tp_first : q.first ≡ at → false ≡ is_tp_type_lem (take (name.end - at) (drop at doc))
+    tp_first f = sym (by_colons ∙ rw (e, eq-eqb q.first at f))
 
-    pub tp_rest : (first ≡ at → ⊥) → {r : Bool} → r ≡ same (take (name.end - (first + 1)) (drop (first + 1) doc)) (bytes "type") → r ≡ is_tp_type_lem (take (name.end - at) (drop at doc))
-    tp_rest f {r} q =
-        let d : take (name.end - (first + 1)) (drop (first + 1) doc) ≡ drop (suc first - at) (span name_byte (drop at doc)) = name_from g (omega (arith, inside.0)) (omega (arith, inside.1)) ∙ rw add-one in
-        q ∙ rw d (sym (by_colons ∙ rw (e, ne_eqb first at f)))
+    pub tp_rest : (q.first ≡ at → ⊥) → {r : Bool} → r ≡ same (take (name.end - (q.first + 1)) (drop (q.first + 1) doc)) (bytes "type") → r ≡ is_tp_type_lem (take (name.end - at) (drop at doc))
+    tp_rest f {r} h =
+        let d : take (name.end - (q.first + 1)) (drop (q.first + 1) doc) ≡ drop (suc q.first - at) (span name_byte (drop at doc)) = name_from g (omega (arith, inside.0)) (omega (arith, inside.1)) ∙ rw add-one in
+        h ∙ rw d (sym (by_colons ∙ rw (e, ne_eqb q.first at f)))
 
 -- what answers every need of `is_tp_type`
 pub ruleset prefixes = (tp_none, tp_small, tp_inside, tp_first, tp_rest, rules)

@@ -11,6 +11,7 @@ use lib.Dec.{eqb}
 use borrow.Author.Tests.{eqb-true, eqb-false}
 use lib.ListN.{length, take, drop, get_or, set, length-set}
 use lib.Seq.{length-take-le, get_or-take, get_or-set_same, get_or-set_other}
+use Rattle.std.specs.Prelude.{Option, Some}
 use Rattle.slices.specs.Bytes.{if, same}
 use Rattle.slices.proofs.Runs.{same_equal}
 use Rattle.document.specs.Tags.{attribute}
@@ -20,9 +21,8 @@ use Rattle.slices.specs.Hash.{HashIs}
 use Rattle.attributes.specs.Twins.{entry_of, EntryIs, mark}
 use Rattle.attributes.specs.Outcome.{Fresh, attrs_of, listed}
 use Rattle.attributes.specs.declared.Attribute.{Attribute}
-use Rattle.attributes.specs.declared.One.{One}
-use Rattle.attributes.specs.declared.One.TheVariants.{Found}
 use Rattle.attributes.proofs.Gathering.{Gathering, fresh_none, fresh_more, gather_begins, gather_named, gather_marked, gathers}
+use Rattle.attributes.specs.declared.Located.{Located}
 
 pub entry_is : {doc : List ℕ} {at n h : ℕ} → HashIs (take ((at + n) - at) (drop at doc)) h → EntryIs doc at n (h % 4096)
 unfolding entry_of
@@ -68,21 +68,21 @@ module _ {doc : List ℕ} {from : ℕ} {xs : List Attribute} {seen : List Bool} 
   pub mark_room : {p l e : ℕ} → EntryIs doc p l e → e < length seen
   mark_room i = omega (arith, i.below, g.taken.long)
 
-  module _ {o : One} (c : Finds attribute doc at o) {a : Attribute} {end : ℕ} (e : o ≡ Found a end) {k : ℕ} (i : EntryIs doc a.name a.name_len k) where
-    pub mark_more : n < 256 → {b : Attribute} → b ≡ mark a (get_or seen k false) → Marking doc from (set xs n b) (set seen k true) (n + 1) end
+  module _ {o : Option Located} (c : Finds attribute doc at o) {x : Located} (e : o ≡ Some x) {k : ℕ} (i : EntryIs doc x.attribute.name x.attribute.name_len k) where
+    pub mark_more : n < 256 → {b : Attribute} → b ≡ mark x.attribute (get_or seen k false) → Marking doc from (set xs n b) (set seen k true) (n + 1) x.end
     mark_more h q = rw q record {
       so = gather_marked g.so c e (get_or seen k false) h (omega arith);
-      fresh = fresh_more g.fresh (mark a (get_or seen k false)) within new;
+      fresh = fresh_more g.fresh (mark x.attribute (get_or seen k false)) within new;
       taken = record { long = length-set seen k true ∙ g.taken.long; rule = λ j l. at_name j (dec_lt j n) (omega arith) };
     }
       where
         within : n < length xs
         within = omega (arith, g.so.long)
 
-        new : get_or seen k false ≡ false → listed (attr_of doc a).name (attrs_of doc xs n) ≡ false
+        new : get_or seen k false ≡ false → listed (attr_of doc x.attribute).name (attrs_of doc xs n) ≡ false
         new f =
             let l : length (take n xs) ≡ n = length-take-le n xs (omega arith) in
-            unlisted doc seen (attr_of doc a).name (take n xs) (λ j b. rw (get_or-take n xs j blank (omega arith)) (g.taken.rule j (omega arith))) (rw i.is at f)
+            unlisted doc seen (attr_of doc x.attribute).name (take n xs) (λ j b. rw (get_or-take n xs j blank (omega arith)) (g.taken.rule j (omega arith))) (rw i.is at f)
 
         -- an entry that was taken is taken
         kept : (x : ℕ) → get_or seen x false ≡ true → get_or (set seen k true) x false ≡ true
@@ -92,10 +92,10 @@ module _ {doc : List ℕ} {from : ℕ} {xs : List Attribute} {seen : List Bool} 
             go true q = rw (eqb-true x k q) (get_or-set_same seen k true false (omega (arith, i.below, g.taken.long)))
             go false q = rw (get_or-set_other seen k x true false (eqb-false x k q)) f
 
-        at_name : (j : ℕ) → Dec (j < n) → j < n + 1 → get_or (set seen k true) (entry_of (attr_of doc (get_or (set xs n (mark a (get_or seen k false))) j blank)).name) false ≡ true
-        at_name j (yes l) b = rw (get_or-set_other xs n j (mark a (get_or seen k false)) blank (omega arith)) (kept _ (g.taken.rule j l))
+        at_name : (j : ℕ) → Dec (j < n) → j < n + 1 → get_or (set seen k true) (entry_of (attr_of doc (get_or (set xs n (mark x.attribute (get_or seen k false))) j blank)).name) false ≡ true
+        at_name j (yes l) b = rw (get_or-set_other xs n j (mark x.attribute (get_or seen k false)) blank (omega arith)) (kept _ (g.taken.rule j l))
         at_name j (no l) b =
             let q : j ≡ n = omega arith in
-            rw (q, get_or-set_same xs n (mark a (get_or seen k false)) blank within, ← i.is) (get_or-set_same seen k true false (omega (arith, i.below, g.taken.long)))
+            rw (q, get_or-set_same xs n (mark x.attribute (get_or seen k false)) blank within, ← i.is) (get_or-set_same seen k true false (omega (arith, i.below, g.taken.long)))
 
 pub ruleset marks = (gather_named, mark_room, mark_more, gathers)

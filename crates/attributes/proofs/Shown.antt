@@ -7,14 +7,13 @@ use borrow.Author.Rules.{rules}
 use native.Mathlib.Omega.{arith}
 use lib.ListN.{length, take, drop, length-drop}
 use lib.Seq.{length-take-le}
+use Rattle.std.specs.Prelude.{Ok, Result, Ok, Err}
 use Rattle.answers.specs.Text.{Text, text, wrong}
 use Rattle.references.specs.Unescape.{Piece, shows, bad, piece, before, joined, shown_from, unescape}
 use Rattle.references.specs.Outcome as outcome
-use Rattle.references.specs.declared.ValuePlace.{ValuePlace}
-use Rattle.references.specs.declared.Checked.{Checked}
-use Rattle.references.specs.declared.Checked.TheVariants as checked
+use Rattle.references.specs.declared.ValueFault.{ValueFault}
 use Rattle.attributes.specs.Outcome.{References}
-use Rattle.attributes.specs.declared.AttributeCheck.TheVariants.{Fault, Good}
+use Rattle.faults.specs.declared.Fault.{Fault}
 
 -- a fault's place
 wrong_before : (s : List ℕ) (t : Text) (n p m : ℕ) → before s t ≡ wrong n p → (t ≡ wrong n p → p < m) → p < m
@@ -35,18 +34,18 @@ unfolding unescape
 wrong_within v n p e = omega (arith, wrong_from 0 v 0 n p e)
 
 -- the check of a part of the document
-module _ (doc : List ℕ) (at n : ℕ) {r : Checked} (c : outcome.Checks (take ((at + n) - at) (drop at doc)) r) where
-  pub fault_near : {k : ℕ} {p : ValuePlace} → r ≡ checked.Fault k p → at + n ≤ length doc → length doc ≤ 1048576 → at + p.0 < 2 ^ 63
-  fault_near {k} {p} e h s =
+module _ (doc : List ℕ) (at n : ℕ) {r : Result (Unit {0}) ValueFault} (c : outcome.Checks (take ((at + n) - at) (drop at doc)) r) where
+  pub fault_near : {f : ValueFault} → r ≡ Err f → at + n ≤ length doc → length doc ≤ 1048576 → at + f.place.0 < 2 ^ 63
+  fault_near {f} e h s =
       let m : (at + n) - at ≡ n = omega arith in
       let l : length (take n (drop at doc)) ≡ n = length-take-le n (drop at doc) (rw length-drop (omega arith)) in
-      let w = wrong_within (take n (drop at doc)) k p.0 (rw m at (rw e at c).is) in
+      let w = wrong_within (take n (drop at doc)) f.number f.place.0 (rw m at (rw e at c).is) in
       omega arith
 
-  pub references_good : r ≡ checked.Good → References doc at n Good
+  pub references_good : r ≡ Ok tt → References doc at n (Ok tt)
   references_good e = let m : (at + n) - at ≡ n = omega arith in record { is = rw m at (rw e at c).is }
 
-  pub references_fault : {k q : ℕ} {p : ValuePlace} → r ≡ checked.Fault k p → q ≡ at + p.0 → References doc at n (Fault k q)
-  references_fault {k} {q} {p} e f = let m : (at + n) - at ≡ n = omega arith in record { is = (p.0, rw m at (rw e at c).is, f) }
+  pub references_fault : {f : ValueFault} {q : ℕ} → r ≡ Err f → q ≡ at + f.place.0 → References doc at n (Err (record { number = f.number; place = q }))
+  references_fault {f} {q} e h = let m : (at + n) - at ≡ n = omega arith in record { is = (f.place.0, rw m at (rw e at c).is, h) }
 
 pub ruleset shown = (fault_near, references_good, references_fault, rules)

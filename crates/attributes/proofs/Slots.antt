@@ -12,6 +12,7 @@ use native.Mathlib.Omega.{arith}
 use lib.Dec.{eqb}
 use lib.ListN.{length, take, drop, get_or, set, replicate, length-replicate, get_or-replicate, length-set}
 use lib.Seq.{drop-cons, take-suc-set, get_or-set_same, get_or-set_other}
+use Rattle.std.specs.Prelude.{None, Some, Ok}
 use Rattle.slices.specs.Bytes.{if, bytes, other, span, past, all, same}
 use Rattle.slices.proofs.Runs.{same_equal}
 use Rattle.slices.proofs.Ends.{run_span, run_rest}
@@ -26,8 +27,6 @@ use Rattle.attributes.specs.Outcome.{attrs_of, listed, there, Gathers}
 use Rattle.attributes.specs.Slots.{class_of, Starts, Plain}
 use Rattle.attributes.specs.declared.Attribute.{Attribute}
 use Rattle.attributes.specs.declared.Start.{Start}
-use Rattle.attributes.specs.declared.One.TheVariants.{Absent, Found}
-use Rattle.attributes.specs.declared.Attrs.TheVariants.{All}
 use Rattle.attributes.proofs.Checking.{name_within, back, back_more, member_listed, fit_there, onto, onto_onto, onto_also, onto_none}
 use Rattle.attributes.proofs.Picked.{AllFit, all_fit}
 use Rattle.attributes.proofs.Gathering.{Gathering, gather_begins, gather_more, gather_ends}
@@ -149,7 +148,7 @@ module _ {doc : List ℕ} {at : ℕ} {s : Start} (g : Starts doc at s) (b : s.cl
     pub slot_onward : s.value ≤ end
     slot_onward = (c.value h).run.onward
 
-    one_found : Finds attribute doc at (Found one (end + 1))
+    one_found : Finds attribute doc at (Some (record { attribute = one; end = end + 1 }))
     one_found =
         let o = g.some b in
         let q = c.value h in
@@ -223,11 +222,11 @@ module _ {doc : List ℕ} {from : ℕ} {slots : List Value} {at : ℕ} (g : Slot
       ∙ value_same (of_class doc 6) is_tp_lem doc from at (λ y f. sym (f.tp ∙ (classed (attr_of doc y).name).tp)) (take g.n g.xs) fits
 
   module _ {s : Start} (c : Starts doc at s) where
-    pub slots_end : 8 ≤ s.class → Gathers doc from (All at (record { name = get_or slots 0 no_value; ty = get_or slots 1 no_value; value = get_or slots 2 no_value; access = get_or slots 3 no_value; direction = get_or slots 4 no_value; suffix = get_or slots 5 no_value; tp = get_or slots 6 no_value }))
+    pub slots_end : 8 ≤ s.class → Gathers doc from (Ok (record { end = at; values = record { name = get_or slots 0 no_value; ty = get_or slots 1 no_value; value = get_or slots 2 no_value; access = get_or slots 3 no_value; direction = get_or slots 4 no_value; suffix = get_or slots 5 no_value; tp = get_or slots 6 no_value } }))
     unfolding values_in
     slots_end h =
         let e : check [] (attrs_of doc g.xs g.n) ≡ onto g.shown (check (back (attrs_of doc g.xs g.n) []) []) = rw append-nil at (g.checked []) in
-        gather_ends g.so {o = Absent} (record { onward = tt; is = c.none h }) refl (record {
+        gather_ends g.so {o = None} (record { onward = tt; is = c.none h }) refl (record {
           is = (
             g.shown ++ [],
             e,

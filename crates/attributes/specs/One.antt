@@ -1,13 +1,13 @@
 -- One attribute: what the struct stands for, and what looking for one at a place says.
 -- Assumes nothing.
-use Rattle.std.specs.Prelude.{ℕ, ◌+◌, ◌≤◌, ◌<◌, ◌≡◌, List, Bool, true, length, take, drop}
+use Rattle.std.specs.Prelude.{ℕ, ◌+◌, ◌≤◌, ◌<◌, ◌≡◌, List, Bool, true, length, take, drop, Option, Some, None}
 use Rattle.slices.specs.Bytes.{if, other, span, all}
 use Rattle.slices.specs.Run.{Run}
 use Rattle.references.specs.Unescape.{plain}
 use Rattle.document.specs.Tags.{Attr, Found, absent, found, is_tp_type_lem}
 use Rattle.attributes.specs.declared.Attribute.{Attribute}
 use Rattle.attributes.specs.declared.ValueEnd.{ValueEnd}
-use Rattle.attributes.specs.declared.One.{One}
+use Rattle.attributes.specs.declared.Located.{Located}
 
 -- so many bytes from a place on
 abbrev pub part : List ℕ → ℕ → ℕ → List ℕ
@@ -46,15 +46,15 @@ pub record Named (doc : List ℕ) (name n : ℕ) (tp : Bool) (at : ℕ) : Type 0
   pub before : name + n ≤ at
   pub type : tp ≡ is_tp_type_lem (part doc name n)
 
-abbrev pub Onward : List ℕ → ℕ → One → Type 0
-Onward doc from One.Absent = Unit {0}
-Onward doc from (One.Found a end) = (from < end) × (end ≤ length doc) × Fit doc from end a × (a.twin ≡ true)
+abbrev pub Onward : List ℕ → ℕ → Option Located → Type 0
+Onward doc from None = Unit {0}
+Onward doc from (Some x) = (from < x.end) × (x.end ≤ length doc) × Fit doc from x.end x.attribute × (x.attribute.twin ≡ true)
 
-abbrev pub IsFound : (List ℕ → ℕ → Found) → List ℕ → ℕ → One → Type 0
-IsFound f doc from One.Absent = f (drop from doc) from ≡ absent
-IsFound f doc from (One.Found a end) = f (drop from doc) from ≡ found (attr_of doc a) (drop end doc) end
+abbrev pub IsFound : (List ℕ → ℕ → Found) → List ℕ → ℕ → Option Located → Type 0
+IsFound f doc from None = f (drop from doc) from ≡ absent
+IsFound f doc from (Some x) = f (drop from doc) from ≡ found (attr_of doc x.attribute) (drop x.end doc) x.end
 
 -- what looking for an attribute from a place on says, by a definition
-pub record Finds (f : List ℕ → ℕ → Found) (doc : List ℕ) (from : ℕ) (r : One) : Type 0 where
+pub record Finds (f : List ℕ → ℕ → Found) (doc : List ℕ) (from : ℕ) (r : Option Located) : Type 0 where
   pub onward : Onward doc from r
   pub is : IsFound f doc from r

@@ -1,6 +1,6 @@
 -- What gathering and checking the attributes of a tag say.
 -- Assumes nothing.
-use Rattle.std.specs.Prelude.{ℕ, ◌+◌, ◌≤◌, ◌<◌, ◌≡◌, List, [], ◌∷◌, map, Bool, true, false, not, eqb, length, take, drop, get_or}
+use Rattle.std.specs.Prelude.{ℕ, ◌+◌, ◌≤◌, ◌<◌, ◌≡◌, List, [], ◌∷◌, map, Bool, true, false, not, eqb, length, take, drop, get_or, Result, Ok, Err}
 use Rattle.slices.specs.Bytes.{if, span, past, same}
 use Rattle.scan.specs.Classes.{white}
 use Rattle.answers.specs.Text.{text, wrong}
@@ -13,8 +13,8 @@ use Rattle.document.specs.declared.Value.{Value}
 use Rattle.attributes.specs.One.{part, attr_of, Fit}
 use Rattle.attributes.specs.Lookup.{blank, values_in}
 use Rattle.attributes.specs.declared.Attribute.{Attribute}
-use Rattle.attributes.specs.declared.AttributeCheck.{AttributeCheck}
-use Rattle.attributes.specs.declared.Attrs.{Attrs}
+use Rattle.faults.specs.declared.Fault.{Fault}
+use Rattle.attributes.specs.declared.TagValues.{TagValues}
 
 -- the first n of the attributes fit between two places
 pub record Fitted (doc : List ℕ) (from to : ℕ) (ys : List Attribute) (n : ℕ) : Type 0 where
@@ -45,59 +45,59 @@ pub record Checkable (doc : List ℕ) (ys : List Attribute) (n : ℕ) : Type 0 w
   pub fresh : Fresh doc ys n
 
 -- the check of the references of one value, whose raw bytes have a place and a length
-abbrev pub IsShown : List ℕ → ℕ → ℕ → AttributeCheck → Type 0
-IsShown doc at n AttributeCheck.Good = (t : List ℕ) × (unescape (part doc at n) ≡ text t)
-IsShown doc at n (AttributeCheck.Fault k p) = (q : ℕ) × (unescape (part doc at n) ≡ wrong k q) × (p ≡ at + q)
+abbrev pub IsShown : List ℕ → ℕ → ℕ → Result (Unit {0}) Fault → Type 0
+IsShown doc at n (Ok u) = (t : List ℕ) × (unescape (part doc at n) ≡ text t)
+IsShown doc at n (Err f) = (q : ℕ) × (unescape (part doc at n) ≡ wrong f.number q) × (f.place ≡ at + q)
 
-pub record References (doc : List ℕ) (at n : ℕ) (r : AttributeCheck) : Type 0 where
+pub record References (doc : List ℕ) (at n : ℕ) (r : Result (Unit {0}) Fault) : Type 0 where
   pub is : IsShown doc at n r
 
 -- the check of one attribute, whose name came before or not: duplicate before reference
-abbrev pub IsJudged : Attr → Bool → AttributeCheck → Type 0
-IsJudged x seen AttributeCheck.Good = (t : List ℕ) × (seen ≡ false) × (unescape x.raw ≡ text t)
-IsJudged x seen (AttributeCheck.Fault k p) = (c : Checked) → if seen (fault 8 x.at) (also x (unescape x.raw) c) ≡ fault k p
+abbrev pub IsJudged : Attr → Bool → Result (Unit {0}) Fault → Type 0
+IsJudged x seen (Ok u) = (t : List ℕ) × (seen ≡ false) × (unescape x.raw ≡ text t)
+IsJudged x seen (Err f) = (c : Checked) → if seen (fault 8 x.at) (also x (unescape x.raw) c) ≡ fault f.number f.place
 
 -- a value that is there
 abbrev pub there : Value → Bool
 there v = not (eqb v.kind 0)
 
-pub record Weighs (doc : List ℕ) (a : Attribute) (before : Value) (r : AttributeCheck) : Type 0 where
+pub record Weighs (doc : List ℕ) (a : Attribute) (before : Value) (r : Result (Unit {0}) Fault) : Type 0 where
   pub is : IsJudged (attr_of doc a) (there before) r
 
-pub record Judges (doc : List ℕ) (ys : List Attribute) (i : ℕ) (r : AttributeCheck) : Type 0 where
+pub record Judges (doc : List ℕ) (ys : List Attribute) (i : ℕ) (r : Result (Unit {0}) Fault) : Type 0 where
   pub is : IsJudged (attr_of doc (get_or ys i blank)) (listed (attr_of doc (get_or ys i blank)).name (attrs_of doc ys i)) r
 
 -- the check of all
-abbrev pub IsChecked : List Attr → AttributeCheck → Type 0
-IsChecked xs AttributeCheck.Good = (ss : List Shown) × (check [] xs ≡ good ss)
-IsChecked xs (AttributeCheck.Fault k p) = check [] xs ≡ fault k p
+abbrev pub IsChecked : List Attr → Result (Unit {0}) Fault → Type 0
+IsChecked xs (Ok u) = (ss : List Shown) × (check [] xs ≡ good ss)
+IsChecked xs (Err f) = check [] xs ≡ fault f.number f.place
 
-pub record Checks (doc : List ℕ) (ys : List Attribute) (n : ℕ) (r : AttributeCheck) : Type 0 where
+pub record Checks (doc : List ℕ) (ys : List Attribute) (n : ℕ) (r : Result (Unit {0}) Fault) : Type 0 where
   pub is : IsChecked (attrs_of doc ys n) r
 
 -- the check and the values of all, where they end at a place
-abbrev pub IsFinished : List ℕ → List Attribute → ℕ → ℕ → Attrs → Type 0
-IsFinished doc ys n at (Attrs.Fault k p) = check [] (attrs_of doc ys n) ≡ fault k p
-IsFinished doc ys n at (Attrs.All end v) =
-    (ss : List Shown) × (check [] (attrs_of doc ys n) ≡ good ss) × (end ≡ at) × (v ≡ values_in doc (take n ys))
+abbrev pub IsFinished : List ℕ → List Attribute → ℕ → ℕ → Result TagValues Fault → Type 0
+IsFinished doc ys n at (Err f) = check [] (attrs_of doc ys n) ≡ fault f.number f.place
+IsFinished doc ys n at (Ok g) =
+    (ss : List Shown) × (check [] (attrs_of doc ys n) ≡ good ss) × (g.end ≡ at) × (g.values ≡ values_in doc (take n ys))
 
-pub record Finishes (doc : List ℕ) (ys : List Attribute) (n at : ℕ) (r : Attrs) : Type 0 where
+pub record Finishes (doc : List ℕ) (ys : List Attribute) (n at : ℕ) (r : Result TagValues Fault) : Type 0 where
   pub is : IsFinished doc ys n at r
 
 -- an answer that is no fault is a place further on, within the document, and the values are before it
-abbrev pub Onward : List ℕ → ℕ → Attrs → Type 0
-Onward doc from (Attrs.Fault n p) = Unit {0}
-Onward doc from (Attrs.All end v) = (from ≤ end) × (end ≤ length doc) × ValuesFit from end v
+abbrev pub Onward : List ℕ → ℕ → Result TagValues Fault → Type 0
+Onward doc from (Err f) = Unit {0}
+Onward doc from (Ok g) = (from ≤ g.end) × (g.end ≤ length doc) × ValuesFit from g.end g.values
 
 -- the tag's token, whatever its place and name: the fault, or the token of these attributes
-abbrev pub Leads : List ℕ → ℕ → Attrs → Type 0
-Leads doc from (Attrs.Fault n p) =
-    (at : ℕ) (name : List ℕ) → with_attrs at name (gather 256 (drop from doc) from) ≡ last (tokens.fault n p)
-Leads doc from (Attrs.All end v) =
-    (xs : List Shown) × ValuesAre doc v xs
-    × ((at : ℕ) (name : List ℕ) → with_attrs at name (gather 256 (drop from doc) from) ≡ tag_end at name xs (past white (drop end doc)) (end + length (span white (drop end doc))))
+abbrev pub Leads : List ℕ → ℕ → Result TagValues Fault → Type 0
+Leads doc from (Err f) =
+    (at : ℕ) (name : List ℕ) → with_attrs at name (gather 256 (drop from doc) from) ≡ last (tokens.fault f.number f.place)
+Leads doc from (Ok g) =
+    (xs : List Shown) × ValuesAre doc g.values xs
+    × ((at : ℕ) (name : List ℕ) → with_attrs at name (gather 256 (drop from doc) from) ≡ tag_end at name xs (past white (drop g.end doc)) (g.end + length (span white (drop g.end doc))))
 
 -- what reading the attributes of a tag from a place on says
-pub record Gathers (doc : List ℕ) (from : ℕ) (r : Attrs) : Type 0 where
+pub record Gathers (doc : List ℕ) (from : ℕ) (r : Result TagValues Fault) : Type 0 where
   pub onward : Onward doc from r
   pub is : Leads doc from r

@@ -3,6 +3,7 @@ ghost use Rattle.std.specs.Prelude.{◌≡◌};
 ghost use Rattle.attributes.specs.Lookup.{part_is, keyed_at, wanted_at};
 
 // Whether the n bytes from a place on are the key, so many bytes of the keys from its place on: length first, then bytes.
+#[tactic(auto, using(crate::proofs::Keys::keys))]
 fn is_key(doc: &[u8], at: u32, n: u32, keys: &[u8], key: u32, len: u32) -> bool
     ensures { result ≡ part_is (keyed_at keys.now key len) doc.now «at» n }
 {

@@ -1,13 +1,14 @@
 // The usual tag: each value goes straight into the slot of its name's class. A tag with two names of a class, or a value that is changed or not closed, is gathered by `some`.
 ghost use Rattle.std.specs.Prelude.{◌≤◌, ◌<◌, length};
-ghost use Rattle.scan.specs.Classes.{Classes};
 ghost use Rattle.attributes.specs.Lookup.{KeyTable};
 ghost use Rattle.attributes.specs.Outcome.{Gathers};
 ghost use Rattle.attributes.specs.Slots.{High, Plain};
 
 use crate::starts::start_at;
-use crate::{Attrs, is_special, some};
+use crate::{TagValues, is_special, some};
 use document::{Value, Values};
+use faults::Fault;
+use scan::ClassTable;
 
 const NO_VALUE: Value = Value {
     at: 0,
@@ -27,6 +28,7 @@ fn high(doc: &[u8], at: usize) -> usize
 }
 
 // The end of a value that is shown as it stands, or the length where there is a special byte or no quote closes it.
+#[tactic(auto, using(crate::proofs::Starting::plains))]
 fn plain_end(doc: &[u8], from: usize, quote: u8) -> usize
     requires { (from ≤ length doc.now) × (length doc.now ≤ 1048576) × («quote» ≤ 39) }
     ensures { Plain «quote» doc.now from result }
@@ -50,8 +52,13 @@ fn plain_end(doc: &[u8], from: usize, quote: u8) -> usize
 }
 
 // The attributes from a place on.
-pub fn gather(doc: &[u8], classes: &[u8; 256], keys: &[u8], from: usize) -> Attrs
-    requires { (from ≤ length doc.now) × (length doc.now ≤ 1048576) × Classes classes.now × KeyTable keys.now }
+pub fn gather(
+    doc: &[u8],
+    classes: &ClassTable,
+    keys: &[u8],
+    from: usize,
+) -> Result<TagValues, Fault>
+    requires { (from ≤ length doc.now) × (length doc.now ≤ 1048576) × KeyTable keys.now }
     ensures { Gathers doc.now from result }
 {
     let mut slots = [NO_VALUE; 8];
@@ -69,7 +76,7 @@ pub fn gather(doc: &[u8], classes: &[u8; 256], keys: &[u8], from: usize) -> Attr
                 suffix: slots[5],
                 tp: slots[6],
             };
-            return Attrs::All(at, v);
+            return Ok(TagValues { end: at, values: v });
         }
         let value = s.value;
         let end = plain_end(doc, value, s.quote);

@@ -5,8 +5,9 @@ ghost use Rattle.attributes.specs.One.{Fit};
 ghost use Rattle.attributes.specs.Outcome.{among, Checkable, Weighs, Judges, Checks, Finishes};
 
 use crate::asked::is_wanted;
-use crate::{Attribute, AttributeCheck, Attrs, references_of};
+use crate::{Attribute, TagValues, references_of};
 use document::{Value, Values};
+use faults::Fault;
 
 // The value of the first of the first n with the key, or the first tp type where that is asked; kind 0 where there is none.
 fn first_named(
@@ -21,8 +22,7 @@ fn first_named(
     requires { n ≤ length attrs.now }
     ensures { Picks (wanted keys.now key len tp doc.now) attrs.now n result }
 {
-    let mut i: usize = 0;
-    while i < n {
+    for i in 0..n {
         let a = attrs[i];
         if is_wanted(doc, a.name, a.name_len, a.tp, keys, key, len, tp) {
             return Value {
@@ -31,7 +31,6 @@ fn first_named(
                 kind: a.kind,
             };
         }
-        i += 1;
     }
     Value {
         at: 0,
@@ -57,15 +56,19 @@ fn values(doc: &[u8], attrs: &[Attribute], n: usize, keys: &[u8]) -> Values
 }
 
 // One attribute, and the value of the first before it that has its name: duplicate, then reference.
-fn weigh(doc: &[u8], a: Attribute, before: Value) -> AttributeCheck
+#[tactic(auto, using(crate::proofs::Checking::weighs))]
+fn weigh(doc: &[u8], a: Attribute, before: Value) -> Result<(), Fault>
     requires { Fit doc.now 0 (length doc.now) a × (length doc.now ≤ 1048576) }
     ensures { Weighs doc.now a before result }
 {
     if before.kind != 0 {
-        return AttributeCheck::Fault(8, a.name as usize);
+        return Err(Fault {
+            number: 8,
+            place: a.name as usize,
+        });
     }
     if a.kind == 1 {
-        return AttributeCheck::Good;
+        return Ok(());
     }
     references_of(doc, a.value as usize, a.value_len as usize)
 }
@@ -81,7 +84,7 @@ fn until(twin: bool, i: usize) -> usize
 }
 
 // One attribute after those before it.
-fn judge(doc: &[u8], attrs: &[Attribute], i: usize) -> AttributeCheck
+fn judge(doc: &[u8], attrs: &[Attribute], i: usize) -> Result<(), Fault>
     requires { (i < length attrs.now) × Checkable doc.now attrs.now (suc i) }
     ensures { Judges doc.now attrs.now i result }
 {
@@ -92,31 +95,30 @@ fn judge(doc: &[u8], attrs: &[Attribute], i: usize) -> AttributeCheck
 }
 
 // The first n, one by one.
-fn check(doc: &[u8], attrs: &[Attribute], n: usize) -> AttributeCheck
+fn check(doc: &[u8], attrs: &[Attribute], n: usize) -> Result<(), Fault>
     requires { (n ≤ length attrs.now) × Checkable doc.now attrs.now n }
     ensures { Checks doc.now attrs.now n result }
 {
-    let mut i: usize = 0;
-    while i < n {
-        match judge(doc, attrs, i) {
-            AttributeCheck::Fault(number, place) => {
-                return AttributeCheck::Fault(number, place);
-            }
-            AttributeCheck::Good => {
-                i += 1;
-            }
-        }
+    for i in 0..n {
+        judge(doc, attrs, i)?;
     }
-    AttributeCheck::Good
+    Ok(())
 }
 
 // The first n, which end at a place: the check, then the values.
-pub fn finish(doc: &[u8], attrs: &[Attribute], n: usize, keys: &[u8], at: usize) -> Attrs
+pub fn finish(
+    doc: &[u8],
+    attrs: &[Attribute],
+    n: usize,
+    keys: &[u8],
+    at: usize,
+) -> Result<TagValues, Fault>
     requires { (n ≤ length attrs.now) × Checkable doc.now attrs.now n × KeyTable keys.now }
     ensures { Finishes doc.now attrs.now n «at» result }
 {
-    match check(doc, attrs, n) {
-        AttributeCheck::Fault(number, place) => Attrs::Fault(number, place),
-        AttributeCheck::Good => Attrs::All(at, values(doc, attrs, n, keys)),
-    }
+    check(doc, attrs, n)?;
+    Ok(TagValues {
+        end: at,
+        values: values(doc, attrs, n, keys),
+    })
 }

@@ -2,7 +2,6 @@
 #![tactic(auto)]
 
 ghost use Rattle.std.specs.Prelude.{◌≡◌, ◌+◌, ◌-◌, ◌≤◌, length, take, drop};
-ghost use Rattle.scan.specs.Classes.{Classes};
 ghost use Rattle.scan.specs.Colons.{Scanned};
 ghost use Rattle.references.specs.Unescape.{special};
 ghost use Rattle.document.specs.Tags.{attribute, equals, open_quote, is_tp_type_lem};
@@ -10,7 +9,8 @@ ghost use Rattle.attributes.specs.One.{Quotes, Named, Finds};
 ghost use Rattle.attributes.specs.Outcome.{References, Gathers};
 
 use document::Values;
-use scan::{Colons, Name};
+use faults::Fault;
+use scan::{ClassTable, Name};
 
 mod asked;
 mod few;
@@ -31,11 +31,11 @@ pub struct Attribute {
     pub twin: bool,
 }
 
-// What stands at a place: no attribute, or one and the place after it.
+// An attribute, and the place after it.
 #[derive(Clone, Copy)]
-pub enum One {
-    Absent,
-    Found(Attribute, usize),
+pub struct Located {
+    pub attribute: Attribute,
+    pub end: usize,
 }
 
 // Where a value ends, and its kind.
@@ -45,7 +45,7 @@ pub struct ValueEnd {
     pub kind: u32,
 }
 
-// A name's class, 8 where there is no attribute; the place of the value, and the quote before it.
+// A name's class, the place of the value, and the quote before it.
 #[derive(Clone, Copy)]
 pub struct Start {
     pub class: usize,
@@ -53,44 +53,25 @@ pub struct Start {
     pub quote: u8,
 }
 
-// A name's class, 8 where it is not one of the usual; its length.
+// One of the usual names: its class and its length.
 #[derive(Clone, Copy)]
 pub struct Known {
     pub class: usize,
     pub len: usize,
 }
 
-// What checking comes to: a fault's number and place, or none.
+// The place after the attributes of a tag, and their values.
 #[derive(Clone, Copy)]
-pub enum AttributeCheck {
-    Fault(u32, usize),
-    Good,
-}
-
-// A fault; or the place after the attributes, and their values.
-#[derive(Clone, Copy)]
-pub enum Attrs {
-    Fault(u32, usize),
-    All(usize, Values),
+pub struct TagValues {
+    pub end: usize,
+    pub values: Values,
 }
 
 // `&`, tab, LF, CR.
 fn is_special(b: u8) -> bool
     ensures { result ≡ special b }
 {
-    if 38 < b {
-        return false;
-    }
-    if b == 38 {
-        return true;
-    }
-    if b == 9 {
-        return true;
-    }
-    if b == 10 {
-        return true;
-    }
-    b == 13
+    b <= b'&' && matches!(b, b'&' | b'\t' | b'\n' | b'\r')
 }
 
 // The end of a value, or the length where no quote closes it.
@@ -120,12 +101,12 @@ fn quoted(doc: &[u8], from: usize, quote: u8) -> ValueEnd
 }
 
 // At the opening quote of the value, after a name and `=`.
-fn quoted_value(doc: &[u8], name: usize, n: usize, tp: bool, at: usize) -> One
+fn quoted_value(doc: &[u8], name: usize, n: usize, tp: bool, at: usize) -> Option<Located>
     requires { Named doc.now name n tp at }
     ensures { Finds (open_quote name (take n (drop name doc.now))) doc.now at result }
 {
     if doc.len() <= at {
-        return One::Absent;
+        return None;
     }
     let q = doc[at];
     if scan::is_quote(q) {
@@ -133,7 +114,7 @@ fn quoted_value(doc: &[u8], name: usize, n: usize, tp: bool, at: usize) -> One
         let v = quoted(doc, value, q);
         let end = v.end;
         if doc.len() <= end {
-            return One::Absent;
+            return None;
         }
         let a = Attribute {
             name: name as u32,
@@ -144,58 +125,65 @@ fn quoted_value(doc: &[u8], name: usize, n: usize, tp: bool, at: usize) -> One
             tp,
             twin: true,
         };
-        return One::Found(a, end + 1);
+        return Some(Located {
+            attribute: a,
+            end: end + 1,
+        });
     }
-    One::Absent
+    None
 }
 
 // At the `=` after a name.
-fn equals_at(doc: &[u8], classes: &[u8; 256], name: usize, n: usize, tp: bool, at: usize) -> One
-    requires { Named doc.now name n tp at × Classes classes.now }
+fn equals_at(
+    doc: &[u8],
+    classes: &ClassTable,
+    name: usize,
+    n: usize,
+    tp: bool,
+    at: usize,
+) -> Option<Located>
+    requires { Named doc.now name n tp at }
     ensures { Finds (equals name (take n (drop name doc.now))) doc.now at result }
 {
     if doc.len() <= at {
-        return One::Absent;
+        return None;
     }
     if doc[at] == 61 {
         let open = scan::space_end(doc, classes, at + 1);
         return quoted_value(doc, name, n, tp, open);
     }
-    One::Absent
+    None
 }
 
 // Whether the name that begins at a place is a tp type's: a prefix that is not empty, the first colon, then exactly `type`.
+#[tactic(auto, using(crate::proofs::Keys::prefixes))]
 fn is_tp_type(doc: &[u8], at: usize, name: Name) -> bool
     requires { Scanned doc.now «at» name × (length doc.now ≤ 1048576) }
     ensures { result ≡ is_tp_type_lem (take (name.end - «at») (drop «at» doc.now)) }
 {
-    let end = name.end;
-    let colons = name.colons;
-    match colons {
-        Colons::Absent => false,
-        Colons::Between(first, _) => {
-            if first == at {
-                return false;
-            }
-            let next = first + 1;
-            slices::equal(&doc[next..end], b"type")
+    match name.colons {
+        None => false,
+        Some(colons) => {
+            let next = colons.first + 1;
+            colons.first != at && slices::equal(&doc[next..name.end], b"type")
         }
     }
 }
 
 // At the white space before a name.
-pub fn attribute_at(doc: &[u8], classes: &[u8; 256], from: usize) -> One
-    requires { (from ≤ length doc.now) × (length doc.now ≤ 1048576) × Classes classes.now }
+#[tactic(auto, using(crate::proofs::Found::finds))]
+pub fn attribute_at(doc: &[u8], classes: &ClassTable, from: usize) -> Option<Located>
+    requires { (from ≤ length doc.now) × (length doc.now ≤ 1048576) }
     ensures { Finds attribute doc.now from result }
 {
     let start = scan::space_end(doc, classes, from);
     if start <= from {
-        return One::Absent;
+        return None;
     }
     let name = scan::name_at(doc, classes, start);
     let end = name.end;
     if end <= start {
-        return One::Absent;
+        return None;
     }
     let tp = is_tp_type(doc, start, name);
     let at = scan::space_end(doc, classes, end);
@@ -203,22 +191,26 @@ pub fn attribute_at(doc: &[u8], classes: &[u8; 256], from: usize) -> One
 }
 
 // Whether the references of a raw value are good.
-fn references_of(doc: &[u8], at: usize, n: usize) -> AttributeCheck
+#[tactic(auto, using(crate::proofs::Shown::shown))]
+fn references_of(doc: &[u8], at: usize, n: usize) -> Result<(), Fault>
     requires { (at + n ≤ length doc.now) × (length doc.now ≤ 1048576) }
     ensures { References doc.now at n result }
 {
     match references::check(&doc[at..at + n]) {
-        references::Checked::Good => AttributeCheck::Good,
-        references::Checked::Fault(number, place) => {
-            let p = references::in_document(at, place);
-            AttributeCheck::Fault(number, p.0)
+        Ok(()) => Ok(()),
+        Err(fault) => {
+            let p = references::in_document(at, fault.place);
+            Err(Fault {
+                number: fault.number,
+                place: p.0,
+            })
         }
     }
 }
 
 // The attributes from a place on, and their values: 17 at one too many; then, one by one, duplicate before reference.
-pub fn attributes(doc: &[u8], classes: &[u8; 256], from: usize) -> Attrs
-    requires { (from ≤ length doc.now) × (length doc.now ≤ 1048576) × Classes classes.now }
+pub fn attributes(doc: &[u8], classes: &ClassTable, from: usize) -> Result<TagValues, Fault>
+    requires { (from ≤ length doc.now) × (length doc.now ≤ 1048576) }
     ensures { Gathers doc.now from result }
 {
     few::gather(doc, classes, b"nametypevalueaccessdirectionsuffix", from)

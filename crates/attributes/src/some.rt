@@ -1,13 +1,20 @@
 // A tag of no more than 16 attributes: an array of that many.
 ghost use Rattle.std.specs.Prelude.{◌≤◌, length};
-ghost use Rattle.scan.specs.Classes.{Classes};
 ghost use Rattle.attributes.specs.Lookup.{KeyTable};
 ghost use Rattle.attributes.specs.Outcome.{Checkable, Finishes, Gathers};
 
-use crate::{Attribute, Attrs, One, attribute_at, gathered, many};
+use crate::{Attribute, TagValues, attribute_at, gathered, many};
+use faults::Fault;
+use scan::ClassTable;
 
 // The first n of an array, which end at a place: lent as a slice.
-fn finish(doc: &[u8], attrs: [Attribute; 16], n: usize, keys: &[u8], at: usize) -> Attrs
+fn finish(
+    doc: &[u8],
+    attrs: [Attribute; 16],
+    n: usize,
+    keys: &[u8],
+    at: usize,
+) -> Result<TagValues, Fault>
     requires { (n ≤ 16) × Checkable doc.now attrs n × KeyTable keys.now }
     ensures { Finishes doc.now attrs n «at» result }
 {
@@ -15,8 +22,13 @@ fn finish(doc: &[u8], attrs: [Attribute; 16], n: usize, keys: &[u8], at: usize) 
 }
 
 // The attributes from a place on. Where there is one more they are gathered once more, in a larger array.
-pub fn gather(doc: &[u8], classes: &[u8; 256], keys: &[u8], from: usize) -> Attrs
-    requires { (from ≤ length doc.now) × (length doc.now ≤ 1048576) × Classes classes.now × KeyTable keys.now }
+pub fn gather(
+    doc: &[u8],
+    classes: &ClassTable,
+    keys: &[u8],
+    from: usize,
+) -> Result<TagValues, Fault>
+    requires { (from ≤ length doc.now) × (length doc.now ≤ 1048576) × KeyTable keys.now }
     ensures { Gathers doc.now from result }
 {
     let blank = Attribute {
@@ -33,16 +45,17 @@ pub fn gather(doc: &[u8], classes: &[u8; 256], keys: &[u8], from: usize) -> Attr
     let mut at = from;
     loop {
         match attribute_at(doc, classes, at) {
-            One::Absent => {
+            None => {
                 return finish(doc, attrs, n, keys, at);
             }
-            One::Found(a, end) => {
+            Some(found) => {
+                let a = found.attribute;
                 if 16 <= n {
                     return many::gather(doc, classes, keys, from);
                 }
                 attrs[n] = a;
                 n += 1;
-                at = end;
+                at = found.end;
             }
         }
     }

@@ -1,13 +1,12 @@
 // The start of an attribute: the class of its name, and where its value begins.
 ghost use Rattle.std.specs.Prelude.{◌≡◌, ◌+◌, ◌-◌, ◌≤◌, length};
-ghost use Rattle.scan.specs.Classes.{Classes};
 ghost use Rattle.scan.specs.Colons.{Scanned};
 ghost use Rattle.document.specs.Tags.{is_tp_type_lem};
 ghost use Rattle.attributes.specs.One.{part};
 ghost use Rattle.attributes.specs.Slots.{class_of, Quick, Starts, Four, Knows};
 
 use crate::{Known, Start, is_tp_type};
-use scan::Name;
+use scan::{ClassTable, Name};
 
 const NO_START: Start = Start {
     class: 8,
@@ -29,6 +28,7 @@ fn four(s: &[u8], at: usize) -> u32
 }
 
 // The rest of `direction`, `value` or `access`, whose first four bytes are the number.
+#[tactic(auto, using(crate::proofs::Starting::knows))]
 fn longer(doc: &[u8], at: usize, w: u32) -> Known
     requires { (at + 9 ≤ length doc.now) × Four doc.now «at» w }
     ensures { Knows doc.now «at» result }
@@ -58,6 +58,7 @@ fn longer(doc: &[u8], at: usize, w: u32) -> Known
 }
 
 // The name that bytes at a place begin with, where it is one of the usual five.
+#[tactic(auto, using(crate::proofs::Starting::knows))]
 fn known(doc: &[u8], at: usize) -> Known
     requires { at + 9 ≤ length doc.now }
     ensures { Knows doc.now «at» result }
@@ -73,6 +74,7 @@ fn known(doc: &[u8], at: usize) -> Known
 }
 
 // The usual form: a space, a known name, `=` and `"`.
+#[tactic(auto, using(crate::proofs::Starting::quickly))]
 fn quick(doc: &[u8], at: usize) -> Start
     requires { (at ≤ length doc.now) × (length doc.now ≤ 1048576) }
     ensures { Quick doc.now «at» result }
@@ -104,6 +106,7 @@ fn quick(doc: &[u8], at: usize) -> Start
 }
 
 // The class of a name, which is a tp type's or not.
+#[tactic(auto, using(crate::proofs::Classes::classes))]
 fn class_of(name: &[u8], tp: bool) -> usize
     requires { tp ≡ is_tp_type_lem name.now }
     ensures { result ≡ class_of name.now }
@@ -143,8 +146,9 @@ fn class_at(doc: &[u8], at: usize, name: Name) -> usize
 }
 
 // Any form.
-fn opened(doc: &[u8], classes: &[u8; 256], from: usize) -> Start
-    requires { (from ≤ length doc.now) × (length doc.now ≤ 1048576) × Classes classes.now }
+#[tactic(auto, using(crate::proofs::Starting::opens))]
+fn opened(doc: &[u8], classes: &ClassTable, from: usize) -> Start
+    requires { (from ≤ length doc.now) × (length doc.now ≤ 1048576) }
     ensures { Starts doc.now from result }
 {
     let name = scan::space_end(doc, classes, from);
@@ -179,8 +183,8 @@ fn opened(doc: &[u8], classes: &[u8; 256], from: usize) -> Start
 }
 
 // At the white space before a name.
-pub fn start_at(doc: &[u8], classes: &[u8; 256], at: usize) -> Start
-    requires { (at ≤ length doc.now) × (length doc.now ≤ 1048576) × Classes classes.now }
+pub fn start_at(doc: &[u8], classes: &ClassTable, at: usize) -> Start
+    requires { (at ≤ length doc.now) × (length doc.now ≤ 1048576) }
     ensures { Starts doc.now «at» result }
 {
     let s = quick(doc, at);

@@ -8,6 +8,7 @@ use native.Mathlib.Omega.{arith}
 use lib.Dec.{eqb}
 use lib.ListN.{length, take, drop, get_or, length-drop}
 use lib.Seq.{get_or-drop}
+use Rattle.std.specs.Prelude.{Option, Some}
 use Rattle.slices.specs.Bytes.{other, span, past, empty}
 use Rattle.slices.specs.Run.{Run}
 use Rattle.slices.proofs.Runs.{run_stop, past_at}
@@ -24,10 +25,9 @@ use Rattle.document.specs.Outcome.{Sound}
 use Rattle.document.proofs.Tests.{either}
 use Rattle.document.proofs.Branches.{span_past, not_empty, run-byte}
 use Rattle.attributes.specs.One.{part, attr_of, Finds}
-use Rattle.attributes.specs.declared.Attribute.{Attribute}
-use Rattle.attributes.specs.declared.One.{One}
 use Rattle.tags.specs.Outcome.{TagStart}
 use Rattle.breaches.specs.Outcome.{NameAt, AttributeAt}
+use Rattle.attributes.specs.declared.Located.{Located}
 
 module _ {doc : List ℕ} (h : ill_formed doc ≡ length doc) where
   -- from where the document may be cut
@@ -91,33 +91,33 @@ attribute_spaced l at =
     go t absent h = tt
     go t (found a m p) h = (not_empty (span white l) t, h.0, h.1)
 
-module _ {doc : List ℕ} {from : ℕ} (s : Sound doc) (i : from ≤ length doc) {o : One} (c : Finds attribute doc from o) {a : Attribute} {end : ℕ} (e : o ≡ One.Found a end) where
-  found_at : Finds attribute doc from (One.Found a end)
+module _ {doc : List ℕ} {from : ℕ} (s : Sound doc) (i : from ≤ length doc) {o : Option Located} (c : Finds attribute doc from o) {x : Located} (e : o ≡ Some x) where
+  found_at : Finds attribute doc from (Some x)
   found_at = rw e at c
 
-  spaced_at : Spaced (drop from doc) from (found (attr_of doc a) (drop end doc) end)
+  spaced_at : Spaced (drop from doc) from (found (attr_of doc x.attribute) (drop x.end doc) x.end)
   spaced_at = rw found_at.is at (attribute_spaced (drop from doc) from)
 
   -- the byte before the name is white space
-  before_name : Boundary doc a.name
+  before_name : Boundary doc x.attribute.name
   before_name =
       let k = length (span white (drop from doc)) in
       let w : white (get_or doc (from + (k - 1)) 0) ≡ true = rw (get_or-drop from doc (k - 1) 0) at (run-byte white (drop from doc) (k - 1) (omega (arith, spaced_at.0))) in
-      let q : from + (k - 1) + 1 ≡ a.name = omega (arith, spaced_at.0, spaced_at.1) in
+      let q : from + (k - 1) + 1 ≡ x.attribute.name = omega (arith, spaced_at.0, spaced_at.1) in
       let l : from + (k - 1) < length doc = omega (arith, spaced_at.0, span_past white (drop from doc), length-drop from doc) in
       rw q at (cut_after_ascii doc (from + (k - 1)) s.utf8 l (white_small (get_or doc (from + (k - 1)) 0) w))
 
-  name_run : Run name_byte doc a.name (a.name + length (span name_byte (drop a.name doc)))
+  name_run : Run name_byte doc x.attribute.name (x.attribute.name + length (span name_byte (drop x.attribute.name doc)))
   name_run = record {
     ends = refl;
     onward = omega arith;
-    within = omega (arith, before_name.inside, span_past name_byte (drop a.name doc), length-drop a.name doc);
+    within = omega (arith, before_name.inside, span_past name_byte (drop x.attribute.name doc), length-drop x.attribute.name doc);
   }
 
-  is_span : part doc a.name a.name_len ≡ span name_byte (drop a.name doc)
+  is_span : part doc x.attribute.name x.attribute.name_len ≡ span name_byte (drop x.attribute.name doc)
   is_span = spaced_at.2 ∙ rw (past_at, ← spaced_at.1)
 
-  pub attribute_stands : AttributeAt doc a
+  pub attribute_stands : AttributeAt doc x.attribute
   attribute_stands = record {
     small = s.small;
     name = omega (arith, found_at.onward.1, found_at.onward.2.name);

@@ -9,6 +9,7 @@ use native.Mathlib.Numerals.{add-one}
 use native.Mathlib.Omega.{arith}
 use lib.Dec.{eqb}
 use lib.ListN.{length, take, drop}
+use Rattle.std.specs.Prelude.{Result, Ok, Err, Option}
 use Rattle.slices.specs.Bytes.{if, span, past, empty}
 use Rattle.slices.specs.Run.{Run}
 use Rattle.slices.proofs.Ends.{run_length, run_span, run_rest}
@@ -27,10 +28,10 @@ use Rattle.tags.specs.declared.TagEnd.{TagEnd}
 use Rattle.breaches.specs.Least.{lesser, least}
 use Rattle.breaches.specs.Breaches.{in_values, in_name, in_names}
 use Rattle.breaches.specs.Outcome.{attributes_breach, tag_breach, Collects, Starts, Closes}
-use Rattle.breaches.specs.declared.Breach.{Breach}
 use Rattle.breaches.specs.declared.Way.{Way}
 use Rattle.breaches.proofs.Order.{lesser_swap, least_append}
 use Rattle.breaches.proofs.Names.{tag_name}
+use Rattle.faults.specs.declared.Fault.{Fault}
 
 -- the check keeps the attributes
 check_keeps : (seen : List (List ℕ)) (xs : List Attr) (ss : List Shown) → check seen xs ≡ good ss → map (λ (s : Shown). s.attr) ss ≡ xs
@@ -85,34 +86,34 @@ module _ {doc : List ℕ} (lt : ℕ) {m : ℕ} (n : Run name_byte doc (lt + 1) m
     pub collected_inside : w.at ≤ length doc
     collected_inside = c.inside
 
-    module _ {e : TagEnd} (f : Ends doc w.at e) where
+    module _ {e : Result TagEnd Fault} (f : Ends doc w.at e) where
       -- the tag's end
       ended : (t : Token) (q : ℕ) (r : Read doc lt m t q) → tag_end lt (take (m - (lt + 1)) (drop (lt + 1) doc)) r.ss (past white (drop w.at doc)) (w.at + length (span white (drop w.at doc))) ≡ more t q
       ended t q r =
           let d = c.is 256 r.xs r.l r.p r.gathers in
           rw (d.0, ← d.1) r.ends
 
-      pub start_unended : {p : ℕ} {b : Breach} → e ≡ TagEnd.Missing p → Starts doc lt (record { closes = true; at = length doc; breach = b })
-      start_unended {p} {b} y = record {
+      pub start_unended : {y : Fault} {b : Option ℕ} → e ≡ Err y → Starts doc lt (record { closes = true; at = length doc; breach = b })
+      start_unended {y} {b} h = record {
         is = λ t q o.
             let r = reads t q o in
-            let i : Ends doc w.at (TagEnd.Missing p) = rw y at f in
-            let k : last (fault 4 p) ≡ more t q = sym (i.is lt (take (m - (lt + 1)) (drop (lt + 1) doc)) r.ss) ∙ ended t q r in
+            let i : Ends doc w.at (Err y) = rw h at f in
+            let k : last (fault 4 y.place) ≡ more t q = sym (i.is lt (take (m - (lt + 1)) (drop (lt + 1) doc)) r.ss).0 ∙ ended t q r in
             let z : ◌≡◌ {A = ℕ} 0 1 = cc in
             absurd (omega arith);
       }
 
-      pub start_ended : {s : Bool} {q : ℕ} {k b : Breach} → k ≡ least (in_name (take (m - (lt + 1)) (drop (lt + 1) doc)) (lt + 1)) → b ≡ lesser k w.breach → e ≡ TagEnd.Here s q → Starts doc lt (record { closes = s; at = q; breach = b })
+      pub start_ended : {e' : TagEnd} {k b : Option ℕ} → k ≡ least (in_name (take (m - (lt + 1)) (drop (lt + 1) doc)) (lt + 1)) → b ≡ lesser k w.breach → e ≡ Ok e' → Starts doc lt (record { closes = e'.closes; at = e'.end; breach = b })
       unfolding tag_breach attributes_breach
-      start_ended {s} {q} {k} {b} j h y = record {
+      start_ended {e'} {k} {b} j h y = record {
         is = λ t p o.
             let r = reads t p o in
-            let i : Ends doc w.at (TagEnd.Here s q) = rw y at f in
+            let i : Ends doc w.at (Ok e') = rw y at f in
             let n = take (m - (lt + 1)) (drop (lt + 1) doc) in
-            let g : Tag = record { at = lt; name = n; attrs = r.ss; self = s; after = q } in
-            let x : more (start g) q ≡ more t p = sym (i.is lt n r.ss) ∙ ended t p r in
+            let g : Tag = record { at = lt; name = n; attrs = r.ss; self = e'.closes; after = e'.end } in
+            let x : more (start g) e'.end ≡ more t p = sym (i.is lt n r.ss) ∙ ended t p r in
             let u : start g ≡ t = cc in
-            let v : q ≡ p = cc in
+            let v : e'.end ≡ p = cc in
             let d = c.is 256 r.xs r.l r.p r.gathers in
             let a = check_keeps [] r.xs r.ss r.checks in
             (g, sym u, refl, v, h ∙ rw (j, d.2, a, least_append (in_name n (suc lt)) (in_names r.xs), ← add-one lt) (lesser_swap (least (in_name n (lt + 1))) (least (in_values r.xs)) (least (in_names r.xs))));
@@ -140,8 +141,8 @@ closing_shuts l at g q e = named (empty (span name_byte l)) (past white (past na
     named false [] e = let z : ◌≡◌ {A = ℕ} 0 1 = cc in omega arith
     named false (b ∷ m) e = shut (eqb b 62) e
 
-module _ {doc : List ℕ} {lt : ℕ} {r : token.Token} (a : TagAt doc lt (closing (drop (lt + 2) doc) lt) r) {o : ℕ} where
-  pub close_fault : {x : Refusal} → r ≡ token.Token.Fault x → Closes doc lt o
+module _ {doc : List ℕ} {lt : ℕ} {r : Result token.Token Refusal} (a : TagAt doc lt (closing (drop (lt + 2) doc) lt) r) {o : ℕ} where
+  pub close_fault : {x : Refusal} → r ≡ Err x → Closes doc lt o
   close_fault {x} e = record {
     is = λ t q k.
         let d = (rw e at a).is in
@@ -150,7 +151,7 @@ module _ {doc : List ℕ} {lt : ℕ} {r : token.Token} (a : TagAt doc lt (closin
         absurd (omega arith);
   }
 
-  pub close_end_lem : {p : ℕ} → r ≡ token.Token.End p → Closes doc lt o
+  pub close_end_lem : {p : ℕ} → r ≡ Ok (token.Token.End p) → Closes doc lt o
   close_end_lem {p} e = record {
     is = λ t q k.
         let y : last (end p) ≡ more t q = sym (rw e at a).is ∙ k in
@@ -158,10 +159,10 @@ module _ {doc : List ℕ} {lt : ℕ} {r : token.Token} (a : TagAt doc lt (closin
         absurd (omega arith);
   }
 
-  pub close_start : {c : StartTag} → r ≡ token.Token.Start c → Closes doc lt o
+  pub close_start : {c : StartTag} → r ≡ Ok (token.Token.Start c) → Closes doc lt o
   close_start {c} e = record { is = λ t q k. let d = (rw e at a).is in absurd (closing_shuts (drop (lt + 2) doc) lt d.0 c.end d.2) }
 
-  pub close_told : {c : ClosingTag} → r ≡ token.Token.Close c → o ≡ c.end → Closes doc lt o
+  pub close_told : {c : ClosingTag} → r ≡ Ok (token.Token.Close c) → o ≡ c.end → Closes doc lt o
   close_told {c} e f = record {
     is = λ t q k.
         let n = take c.len (drop c.at doc) in

@@ -11,9 +11,9 @@ use native.Mathlib.Decide.{dec_lt}
 use native.Mathlib.Omega.{arith}
 use lib.ListN.{length, drop, get_or, length-drop, drop_of_length-le}
 use lib.Seq.{drop-cons, drop-drop}
+use Rattle.std.specs.Prelude.{Result, Ok, Err, Option, None}
+use Rattle.faults.specs.declared.Fault.{Fault}
 use Rattle.scan.specs.Ignorable.{ignorable}
-use Rattle.scan.specs.declared.Scan.{Scan}
-use Rattle.scan.specs.declared.Scan.TheVariants as scans
 use Rattle.document.specs.Tags.{Shown}
 use Rattle.document.specs.Tokens.{Tag, Token, start, close, fault, end, Next, more, last, opening, closing, tag, tag_or_end, past_ignorable, next, tokens}
 use Rattle.document.specs.Rows.{Tables}
@@ -32,8 +32,6 @@ use Rattle.met.proofs.Counting.{start_counted, close_counted, stands_on}
 use Rattle.breaches.specs.Least.{lesser, least}
 use Rattle.breaches.specs.Breaches.{attrs_of, in_values, tag_values, in_comment, in_comments, in_name, in_names, tag_names}
 use Rattle.breaches.specs.Outcome.{Accepted, tag_breach, breach_from, tokens_from, Passes, Starts, Closes, Walking, Walked, Walks}
-use Rattle.breaches.specs.declared.Breach.{Breach}
-use Rattle.breaches.specs.declared.Breach.TheVariants.{Nowhere}
 use Rattle.breaches.specs.declared.Way.{Way}
 use Rattle.breaches.specs.declared.Opened.{Opened}
 use Rattle.breaches.specs.declared.Walk.{Walk}
@@ -47,7 +45,7 @@ comments_more doc (x ∷ xs) ys = ap (λ (l : List ℕ). in_comment doc x ++ l) 
 
 module _ (doc : List ℕ) (at : ℕ) where
   -- in the comments on the way to it
-  abbrev on_way : Breach
+  abbrev on_way : Option ℕ
   on_way = least (in_comments doc (passed_over (drop at doc) at))
 
   comments_first : (q : ℕ) (ts : List Token) → least (in_comments doc (passed_over (drop at doc) at ++ comments_to doc q ts)) ≡ lesser on_way (least (in_comments doc (comments_to doc q ts)))
@@ -61,7 +59,7 @@ module _ (doc : List ℕ) (at : ℕ) where
       let l = least (tag_names (start_tags ts)) in
       rw (comments_first q ts) (ap (lesser v) (lesser_assoc on_way c l) ∙ lesser_swap v on_way (lesser c l))
 
-  none_from : breach_from doc at [] ≡ Nowhere
+  none_from : breach_from doc at [] ≡ None
   unfolding breach_from least lesser
   none_from = refl
 
@@ -76,7 +74,7 @@ module _ (doc : List ℕ) (at : ℕ) where
       rw (comments_first g.after ts, least_append (in_values (attrs_of g)) (tag_values (start_tags ts)), least_append (in_name g.name (suc g.at) ++ in_names (attrs_of g)) (tag_names (start_tags ts)))
       (ap (lesser (lesser x v)) (lesser_four on_way c y l)
       ∙ lesser_four x v (lesser on_way y) (lesser c l)
-      ∙ ap (λ (z : Breach). lesser z (lesser v (lesser c l))) (lesser_swap x on_way y))
+      ∙ ap (λ (z : Option ℕ). lesser z (lesser v (lesser c l))) (lesser_swap x on_way y))
 
 -- ---- a state from which reading is accepted
 
@@ -139,7 +137,7 @@ module _ {doc : List ℕ} {w : Walk} (g : Walking doc w) where
   tokens_on = reached-more doc w.at comes.token comes.after comes.next_is moved.0 moved.1 g.state (stands_on w.depth g.state g.stands)
 
   -- after it
-  walked : (t : Token) (q d : ℕ) {b : Breach} (i : Breach) → comes.token ≡ t → q ≡ comes.after → place_after t ≡ q → Counted d (step whole doc g.state t) → ((ts : List Token) → breach_from doc w.at (t ∷ ts) ≡ lesser i (breach_from doc q ts)) → b ≡ lesser w.breach i → d ≤ q → Walked doc w.at (record { at = q; depth = d; breach = b })
+  walked : (t : Token) (q d : ℕ) {b : Option ℕ} (i : Option ℕ) → comes.token ≡ t → q ≡ comes.after → place_after t ≡ q → Counted d (step whole doc g.state t) → ((ts : List Token) → breach_from doc w.at (t ∷ ts) ≡ lesser i (breach_from doc q ts)) → b ≡ lesser w.breach i → d ≤ q → Walked doc w.at (record { at = q; depth = d; breach = b })
   walked t q d {b} i e f l c h k m =
       let s = step whole doc g.state t in
       let n : tokens_from doc g.state w.at ≡ t ∷ tokens_from doc s q = rw (f, ← e) tokens_on in
@@ -162,16 +160,16 @@ module _ {doc : List ℕ} {w : Walk} (g : Walking doc w) where
 
   module _ {r : Way} (p : Passes doc w.at r) where
     -- it stands at the place that passing came to
-    there : (ignorable (drop w.at doc) w.at ≡ scans.At r.at) × (tag_or_end (drop r.at doc) r.at ≡ more comes.token comes.after)
+    there : (ignorable (drop w.at doc) w.at ≡ Ok r.at) × (tag_or_end (drop r.at doc) r.at ≡ more comes.token comes.after)
     unfolding next
     there = go (ignorable (drop w.at doc) w.at) refl comes.next_is
       where
-        go : (x : Scan) → ignorable (drop w.at doc) w.at ≡ x → past_ignorable x (drop w.at doc) w.at ≡ more comes.token comes.after → (ignorable (drop w.at doc) w.at ≡ scans.At r.at) × (tag_or_end (drop r.at doc) r.at ≡ more comes.token comes.after)
-        go (scans.Fault n q) e h = let z : ◌≡◌ {A = ℕ} 0 1 = cc in absurd (omega arith)
-        go (scans.At q) e h =
+        go : (x : Result ℕ Fault) → ignorable (drop w.at doc) w.at ≡ x → past_ignorable x (drop w.at doc) w.at ≡ more comes.token comes.after → (ignorable (drop w.at doc) w.at ≡ Ok r.at) × (tag_or_end (drop r.at doc) r.at ≡ more comes.token comes.after)
+        go (Err f) e h = let z : ◌≡◌ {A = ℕ} 0 1 = cc in absurd (omega arith)
+        go (Ok q) e h =
             let d : r.at ≡ q = (p.is q e).0 in
             let k : w.at + (q - w.at) ≡ q = omega (arith, p.since) in
-            (e ∙ ap scans.At (sym d), rw d (rw (drop-drop (q - w.at) w.at doc, k) at h))
+            (e ∙ ap Ok (sym d), rw d (rw (drop-drop (q - w.at) w.at doc, k) at h))
 
     found : r.breach ≡ least (in_comments doc (passed_over (drop w.at doc) w.at))
     found = (p.is r.at there.0).1
@@ -234,7 +232,7 @@ module _ {doc : List ℕ} {w : Walk} (g : Walking doc w) where
           go zero h = absurd (none_closed doc g.state closed.0 closed.1 comes.after g.tables h (rw closed.2 at reads_on))
           go (suc n) h = omega arith
 
-      pub walked_close : {b : Breach} → b ≡ lesser w.breach r.breach → Walked doc w.at (record { at = o; depth = w.depth - 1; breach = b })
+      pub walked_close : {b : Option ℕ} → b ≡ lesser w.breach r.breach → Walked doc w.at (record { at = o; depth = w.depth - 1; breach = b })
       walked_close f =
           let k : w.depth ≡ suc (w.depth - 1) = omega (arith, open_there) in
           walked (close closed.0 closed.1 comes.after) o (w.depth - 1) r.breach closed.2 closed.3 (sym closed.3)
@@ -252,20 +250,20 @@ module _ {doc : List ℕ} {w : Walk} (g : Walking doc w) where
           let i : Onward w.at (w.at + length (drop w.at doc)) (start begun_by.0) comes.after = rw begun_by.1 at comes.onward in
           i.after ∙ sym begun_by.3
 
-      walked_start : (d : ℕ) {a b : Breach} → Counted d (step whole doc g.state (start begun_by.0)) → a ≡ lesser w.breach r.breach → b ≡ lesser a o.breach → d ≤ suc w.depth → Walked doc w.at (record { at = o.at; depth = d; breach = b })
+      walked_start : (d : ℕ) {a b : Option ℕ} → Counted d (step whole doc g.state (start begun_by.0)) → a ≡ lesser w.breach r.breach → b ≡ lesser a o.breach → d ≤ suc w.depth → Walked doc w.at (record { at = o.at; depth = d; breach = b })
       walked_start d {a} {b} k f h i =
           walked (start begun_by.0) o.at d (lesser r.breach o.breach) begun_by.1 begun_by.3 after_start k
           (λ ts. start_adds doc w.at begun_by.0 ts ∙ rw (← found, ← begun_by.4, after_start))
           (h ∙ rw f (lesser_assoc w.breach r.breach o.breach))
           (omega (arith, g.few, moved.0, begun_by.3))
 
-      pub walked_self : {a b : Breach} → a ≡ lesser w.breach r.breach → b ≡ lesser a o.breach → o.closes ≡ true → Walked doc w.at (record { at = o.at; depth = w.depth; breach = b })
+      pub walked_self : {a b : Option ℕ} → a ≡ lesser w.breach r.breach → b ≡ lesser a o.breach → o.closes ≡ true → Walked doc w.at (record { at = o.at; depth = w.depth; breach = b })
       walked_self f h i =
           walked_start w.depth
           (rw (sym begun_by.2 ∙ i) at (start_counted doc w.depth g.state begun_by.0 g.stands))
           f h (omega arith)
 
-      pub walked_open : {a b : Breach} → a ≡ lesser w.breach r.breach → b ≡ lesser a o.breach → o.closes ≡ false → Walked doc w.at (record { at = o.at; depth = w.depth + 1; breach = b })
+      pub walked_open : {a b : Option ℕ} → a ≡ lesser w.breach r.breach → b ≡ lesser a o.breach → o.closes ≡ false → Walked doc w.at (record { at = o.at; depth = w.depth + 1; breach = b })
       walked_open f h i =
           walked_start (w.depth + 1)
           (rw (add-one w.depth) (rw (sym begun_by.2 ∙ i) at (start_counted doc w.depth g.state begun_by.0 g.stands)))
@@ -282,7 +280,7 @@ pub ruleset steps = (tag_byte, tag_starts, tag_two, open_there, walked_close, wa
 -- ---- the loop
 
 module _ {doc : List ℕ} where
-  pub walk_begins : Accepted doc → Walking doc (record { at = 0; depth = 0; breach = Nowhere })
+  pub walk_begins : Accepted doc → Walking doc (record { at = 0; depth = 0; breach = None })
   unfolding met_tokens
   walk_begins a = record {
     sound = a.sound;

@@ -7,6 +7,7 @@ use mathlib.Core.Bool.{Bool, true, false}
 use borrow.Author.Rules.{rules}
 use native.Mathlib.Omega.{arith}
 use lib.ListN.{length, take, drop}
+use Rattle.std.specs.Prelude.{Result, Ok, Err, Option, Some, None}
 use Rattle.slices.specs.Bytes.{if, bytes, same}
 use Rattle.document.specs.Tokens.{Token, start, close, fault, end}
 use Rattle.document.specs.Refusals.{bare}
@@ -24,37 +25,35 @@ use Rattle.met.proofs.Reaching.{reached-more}
 use Rattle.breaches.specs.Least.{lesser, least}
 use Rattle.breaches.specs.Breaches.{fault_at, tag_values, in_comments, tag_names, in_text, root_name, after_root, breaches}
 use Rattle.breaches.specs.Outcome.{Accepted, breach_from, Walks}
-use Rattle.breaches.specs.declared.Breach.{Breach}
-use Rattle.breaches.specs.declared.Breach.TheVariants.{Nowhere, At}
 use Rattle.breaches.specs.declared.Walk.{Walk}
 use Rattle.breaches.proofs.Order.{lesser_assoc, least_append}
 use Rattle.breaches.proofs.Walking.{turned}
 
 -- ---- the root's name
 
-module _ {doc : List ℕ} (a : Accepted doc) {r : token.Token} (k : Tokenises doc 0 r) where
-  pub root_fault : {x : Refusal} → r ≡ token.Token.Fault x → Nowhere ≡ least (root_name (met_tags doc))
+module _ {doc : List ℕ} (a : Accepted doc) {r : Result token.Token Refusal} (k : Tokenises doc 0 r) where
+  pub root_fault : {x : Refusal} → r ≡ Err x → None ≡ least (root_name (met_tags doc))
   unfolding step
   root_fault {x} e =
-      let d : Tokenises doc 0 (token.Token.Fault x) = rw e at k in
+      let d : Tokenises doc 0 (Err x) = rw e at k in
       let f = d.is in
       absurd (turned (sym (run_last whole doc 0 begun (fault f.0 f.1) f.2) ∙ a.reads))
 
-  pub root_end_lem : {p : ℕ} → r ≡ token.Token.End p → Nowhere ≡ least (root_name (met_tags doc))
+  pub root_end_lem : {p : ℕ} → r ≡ Ok (token.Token.End p) → None ≡ least (root_name (met_tags doc))
   unfolding step
   root_end_lem {p} e =
-      let d : Tokenises doc 0 (token.Token.End p) = rw e at k in
+      let d : Tokenises doc 0 (Ok (token.Token.End p)) = rw e at k in
       absurd (turned (sym (run_last whole doc 0 begun (end p) d.is) ∙ a.reads))
 
-  pub root_close : {c : ClosingTag} → r ≡ token.Token.Close c → Nowhere ≡ least (root_name (met_tags doc))
+  pub root_close : {c : ClosingTag} → r ≡ Ok (token.Token.Close c) → None ≡ least (root_name (met_tags doc))
   unfolding step
   root_close {c} e =
-      let d : Tokenises doc 0 (token.Token.Close c) = rw e at k in
+      let d : Tokenises doc 0 (Ok (token.Token.Close c)) = rw e at k in
       let o = d.onward in
       absurd (turned (sym (run_refused whole doc c.end (bare 4 (suc c.lt))) ∙ sym (run_more whole doc 0 begun (close c.lt (take c.len (drop c.at doc)) c.end) c.end d.is (omega (arith, o)) o.3) ∙ a.reads))
 
-  module _ {c : StartTag} (e : r ≡ token.Token.Start c) where
-    is_start : Tokenises doc 0 (token.Token.Start c)
+  module _ {c : StartTag} (e : r ≡ Ok (token.Token.Start c)) where
+    is_start : Tokenises doc 0 (Ok (token.Token.Start c))
     is_start = rw e at k
 
     pub root_named : c.at + c.len ≤ length doc
@@ -76,11 +75,11 @@ module _ {doc : List ℕ} (a : Accepted doc) {r : token.Token} (k : Tokenises do
       is_node : same (take c.len (drop c.at doc)) (bytes "node") ≡ b
       is_node = let n : c.at + c.len - c.at ≡ c.len = omega arith in sym (rw n at h)
 
-      pub root_node : b ≡ true → Nowhere ≡ least (root_name (met_tags doc))
+      pub root_node : b ≡ true → None ≡ least (root_name (met_tags doc))
       unfolding least
       root_node f = sym (ap least rooted ∙ rw (is_node ∙ f))
 
-      pub root_other : b ≡ false → At c.at ≡ least (root_name (met_tags doc))
+      pub root_other : b ≡ false → Some c.at ≡ least (root_name (met_tags doc))
       unfolding least lesser
       root_other f = sym (ap least rooted ∙ rw (is_node ∙ f))
 
@@ -91,7 +90,7 @@ pub ruleset roots = (root_fault, root_end_lem, root_close, root_named, root_fits
 parts : (a b c d e f : List ℕ) → lesser (lesser (lesser (least a) (lesser (least b) (least c))) (least d)) (lesser (least e) (least f)) ≡ least (a ++ b ++ c ++ d ++ e ++ f)
 parts a b c d e f = simp (least_append, lesser_assoc)
 
-pub all_rules : {doc : List ℕ} {w : Walk} {f g : ℕ} {t u v x y z : Breach} → Walks doc w → f ≡ char_fault doc → t ≡ least (fault_at 0 f (length doc)) → g ≡ after_fault (drop w.at doc) w.at → u ≡ least (fault_at 0 g (length doc)) → v ≡ least (root_name (met_tags doc)) → x ≡ lesser w.breach t → y ≡ lesser v u → z ≡ lesser x y → z ≡ least (breaches doc)
+pub all_rules : {doc : List ℕ} {w : Walk} {f g : ℕ} {t u v x y z : Option ℕ} → Walks doc w → f ≡ char_fault doc → t ≡ least (fault_at 0 f (length doc)) → g ≡ after_fault (drop w.at doc) w.at → u ≡ least (fault_at 0 g (length doc)) → v ≡ least (root_name (met_tags doc)) → x ≡ lesser w.breach t → y ≡ lesser v u → z ≡ lesser x y → z ≡ least (breaches doc)
 unfolding breaches breach_from
 all_rules {doc} {w} k a b c d e p q r =
     let ts = met_tokens doc in

@@ -1,6 +1,6 @@
 -- Worked examples: documents that are accepted, and the least breach of each.
 -- Assumes nothing.
-use Rattle.std.specs.Prelude.{ℕ, ◌≡◌, refl, List, [], ◌∷◌, ◌++◌, map}
+use Rattle.std.specs.Prelude.{ℕ, ◌≡◌, refl, List, [], ◌∷◌, ◌++◌, map, Option, Some, None}
 use Prim.Native.String as string
 use Rattle.slices.specs.Bytes.{bytes}
 use Rattle.utf8.specs.WellFormed.{sequence}
@@ -20,26 +20,24 @@ use Rattle.met.specs.Passed.{passed_over}
 use Rattle.met.specs.Met.{met_tokens}
 use Rattle.breaches.specs.Least.{lesser, least}
 use Rattle.breaches.specs.Breaches.{in_value, in_comment, in_name, breaches}
-use Rattle.breaches.specs.declared.Breach.{Breach}
-use Rattle.breaches.specs.declared.Breach.TheVariants.{Nowhere, At}
 
-abbrev pub cases : List (string.String × Breach)
+abbrev pub cases : List (string.String × Option ℕ)
 cases =
-    ("<node><docstring><b c=\"<\"/></docstring></node>", At 23)
-    ∷ ("<node a='&#x41;' b='1&#X41;'/>", At 21)
-    ∷ ("<node>&#X41; & ]]></node>", Nowhere)
-    ∷ ("<!--a---><node/>", At 5)
-    ∷ ("<node><x><!--a- -b--><!-- -- --></x></node>", At 26)
-    ∷ ("<!x [<!-- -- -->]><node/>", Nowhere)
-    ∷ ("<![CDATA[--]]><?p --?><node/>", Nowhere)
-    ∷ ("<node><-/></node>", At 7)
-    ∷ ("<node><a\"b/></node>", At 8)
-    ∷ ("<node a:b='1' 2='3'/>", At 14)
-    ∷ ("<tp:node/>", At 1)
-    ∷ ("junk<node/> <!--a--><?b?>\n", Nowhere)
-    ∷ ("<node/><!-- -- -->", At 12)
-    ∷ ("<node/><!-->", At 7)
-    ∷ ("<node/>x<!-- -- -->", At 7)
+    ("<node><docstring><b c=\"<\"/></docstring></node>", Some 23)
+    ∷ ("<node a='&#x41;' b='1&#X41;'/>", Some 21)
+    ∷ ("<node>&#X41; & ]]></node>", None)
+    ∷ ("<!--a---><node/>", Some 5)
+    ∷ ("<node><x><!--a- -b--><!-- -- --></x></node>", Some 26)
+    ∷ ("<!x [<!-- -- -->]><node/>", None)
+    ∷ ("<![CDATA[--]]><?p --?><node/>", None)
+    ∷ ("<node><-/></node>", Some 7)
+    ∷ ("<node><a\"b/></node>", Some 8)
+    ∷ ("<node a:b='1' 2='3'/>", Some 14)
+    ∷ ("<tp:node/>", Some 1)
+    ∷ ("junk<node/> <!--a--><?b?>\n", None)
+    ∷ ("<node/><!-- -- -->", Some 12)
+    ∷ ("<node/><!-->", Some 7)
+    ∷ ("<node/>x<!-- -- -->", Some 7)
     ∷ []
 
 pub worked : map (λ c. least (breaches (bytes c.0))) cases ≡ map (λ c. c.1) cases
@@ -47,11 +45,11 @@ unfolding least lesser breaches in_value in_comment in_name name_fault char_faul
 worked = refl
 
 -- U+0001 in a declaration; in a comment, before what stands after the root; FF in a tag
-abbrev pub controls : List (List ℕ × Breach)
+abbrev pub controls : List (List ℕ × Option ℕ)
 controls =
-    (bytes "<!x \"" ++ (1 ∷ bytes "\"><node/>"), At 5)
-    ∷ (bytes "<node><!--" ++ (1 ∷ bytes "--></node>x"), At 10)
-    ∷ (bytes "<node" ++ (12 ∷ bytes "a='1'/>"), At 5)
+    (bytes "<!x \"" ++ (1 ∷ bytes "\"><node/>"), Some 5)
+    ∷ (bytes "<node><!--" ++ (1 ∷ bytes "--></node>x"), Some 10)
+    ∷ (bytes "<node" ++ (12 ∷ bytes "a='1'/>"), Some 5)
     ∷ []
 
 pub controls_worked : map (λ c. least (breaches c.0)) controls ≡ map (λ c. c.1) controls

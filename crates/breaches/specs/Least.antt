@@ -1,14 +1,12 @@
 -- The least of some places.
 -- Assumes nothing.
-use Rattle.std.specs.Prelude.{ℕ, min, List, [], ◌∷◌}
-use Rattle.breaches.specs.declared.Breach.{Breach}
-use Rattle.breaches.specs.declared.Breach.TheVariants.{Nowhere, At}
+use Rattle.std.specs.Prelude.{ℕ, min, List, [], ◌∷◌, Option, Some, None}
 
-unfoldable pub lesser : Breach → Breach → Breach
-lesser Nowhere b = b
-lesser (At p) Nowhere = At p
-lesser (At p) (At q) = At (min p q)
+unfoldable pub lesser : Option ℕ → Option ℕ → Option ℕ
+lesser None b = b
+lesser (Some p) None = Some p
+lesser (Some p) (Some q) = Some (min p q)
 
-unfoldable pub least : List ℕ → Breach
-least [] = Nowhere
-least (p ∷ ps) = lesser (At p) (least ps)
+unfoldable pub least : List ℕ → Option ℕ
+least [] = None
+least (p ∷ ps) = lesser (Some p) (least ps)

@@ -1,9 +1,8 @@
 -- What the functions that look for breaches say.
 -- Assumes nothing.
-use Rattle.std.specs.Prelude.{ℕ, suc, ◌+◌, ◌-◌, ◌≤◌, ◌<◌, ◌≡◌, List, [], ◌++◌, length, take, drop, get_or}
+use Rattle.std.specs.Prelude.{ℕ, suc, ◌+◌, ◌-◌, ◌≤◌, ◌<◌, ◌≡◌, List, [], ◌++◌, length, take, drop, get_or, Ok, Option}
 use Rattle.utf8.specs.WellFormed.{ill_formed}
 use Rattle.scan.specs.Ignorable.{ignorable}
-use Rattle.scan.specs.declared.Scan.TheVariants.{At}
 use Rattle.document.specs.Tags.{Attr, Shown, gathered, gather}
 use Rattle.document.specs.Tokens.{Tag, Token, start, close, more, opening, closing, tokens}
 use Rattle.document.specs.Rows.{Tables}
@@ -16,7 +15,6 @@ use Rattle.met.specs.Met.{reached, start_tags, comments_to, end_of, met_tokens, 
 use Rattle.met.specs.Open.{Counted, Stands}
 use Rattle.breaches.specs.Least.{lesser, least}
 use Rattle.breaches.specs.Breaches.{attrs_of, in_value, in_values, tag_values, in_comments, in_name, in_names, tag_names}
-use Rattle.breaches.specs.declared.Breach.{Breach}
 use Rattle.breaches.specs.declared.Way.{Way}
 use Rattle.breaches.specs.declared.Opened.{Opened}
 use Rattle.breaches.specs.declared.Walk.{Walk}
@@ -42,21 +40,21 @@ pub record AttributeAt (doc : List ℕ) (a : Attribute) : Type 0 where
   pub formed : ill_formed (part doc a.name a.name_len) ≡ length (part doc a.name a.name_len)
 
 -- the least breach in what is ignored from a `<` on
-abbrev pub ignored_breach : List ℕ → ℕ → Breach
+abbrev pub ignored_breach : List ℕ → ℕ → Option ℕ
 ignored_breach doc at = least (in_comments doc (here (drop (suc at) doc) at []))
 
 -- in an attribute, in some, in a start tag
-abbrev pub attribute_breach : Attr → Breach
+abbrev pub attribute_breach : Attr → Option ℕ
 attribute_breach a = lesser (least (in_value a)) (least (in_name a.name a.at))
 
-unfoldable pub attributes_breach : List Attr → Breach
+unfoldable pub attributes_breach : List Attr → Option ℕ
 attributes_breach xs = lesser (least (in_values xs)) (least (in_names xs))
 
-unfoldable pub tag_breach : Tag → Breach
+unfoldable pub tag_breach : Tag → Option ℕ
 tag_breach t = lesser (least (in_values (attrs_of t))) (least (in_name t.name (suc t.at) ++ in_names (attrs_of t)))
 
 -- in some tokens, of which the first is looked for from a place on, and in the comments on the way to each
-unfoldable pub breach_from : List ℕ → ℕ → List Token → Breach
+unfoldable pub breach_from : List ℕ → ℕ → List Token → Option ℕ
 breach_from doc at ts =
     lesser (least (tag_values (start_tags ts))) (lesser (least (in_comments doc (comments_to doc at ts))) (least (tag_names (start_tags ts))))
 
@@ -69,7 +67,7 @@ pub record Passes (doc : List ℕ) (from : ℕ) (r : Way) : Type 0 where
   pub since : from ≤ r.at
   pub inside : r.at ≤ length doc
   pub tag : r.at < length doc → get_or doc r.at 0 ≡ 60
-  pub is : (p : ℕ) → ignorable (drop from doc) from ≡ At p → (r.at ≡ p) × (r.breach ≡ least (in_comments doc (passed_over (drop from doc) from)))
+  pub is : (p : ℕ) → ignorable (drop from doc) from ≡ Ok p → (r.at ≡ p) × (r.breach ≡ least (in_comments doc (passed_over (drop from doc) from)))
 
 -- the attributes from a place on
 pub record Collects (doc : List ℕ) (from : ℕ) (r : Way) : Type 0 where

@@ -1,11 +1,9 @@
 // The breaches of the strict profile in a document that is accepted: one walk over its tags and comments, which keeps the least.
 #![tactic(auto)]
 
-ghost use Rattle.std.specs.Prelude.{◌≡◌, ◌+◌, ◌-◌, ◌≤◌, ◌<◌, ◌^◌, length, take, drop};
-ghost use Rattle.scan.specs.Classes.{Classes};
+ghost use Rattle.std.specs.Prelude.{◌≡◌, ◌+◌, ◌-◌, ◌≤◌, ◌<◌, ◌^◌, length, take, drop, Ok};
 ghost use Rattle.scan.specs.Ignorable.{Marks};
 ghost use Rattle.scan.specs.declared.Markup.{Markup};
-ghost use Rattle.scan.specs.declared.Scan.{Scan};
 ghost use Rattle.document.specs.Outcome.{Sound};
 ghost use Rattle.attributes.specs.One.{attr_of};
 ghost use Rattle.tags.specs.Outcome.{TagStart};
@@ -15,23 +13,15 @@ ghost use Rattle.breaches.specs.Least.{lesser, least};
 ghost use Rattle.breaches.specs.Breaches.{places_of, fault_at, in_name, root_name, breaches};
 ghost use Rattle.breaches.specs.Outcome.{Accepted, NameAt, AttributeAt, ignored_breach, attribute_breach, Passes, Collects, Starts, Closes, Walking, Walked, Walks};
 
-use attributes::{Attribute, One};
+use attributes::Attribute;
 use document::Token;
-use scan::{Markup, Scan};
-use tags::TagEnd;
-
-// The place of the least breach, if there is one.
-#[derive(Clone, Copy)]
-pub enum Breach {
-    Nowhere,
-    At(usize),
-}
+use scan::{ClassTable, Markup};
 
 // Where a scan came to, and the least breach on the way.
 #[derive(Clone, Copy)]
 pub struct Way {
     pub at: usize,
-    pub breach: Breach,
+    pub breach: Option<usize>,
 }
 
 // A start tag: whether it is `/>`, the place after it, the least breach in it.
@@ -39,7 +29,7 @@ pub struct Way {
 pub struct Opened {
     pub closes: bool,
     pub at: usize,
-    pub breach: Breach,
+    pub breach: Option<usize>,
 }
 
 // The walk over the tokens: its place, how many elements are open, the least breach so far.
@@ -47,40 +37,30 @@ pub struct Opened {
 pub struct Walk {
     pub at: usize,
     pub depth: usize,
-    pub breach: Breach,
+    pub breach: Option<usize>,
 }
 
 // The lesser of two.
-fn lesser(a: Breach, b: Breach) -> Breach
+fn lesser(a: Option<usize>, b: Option<usize>) -> Option<usize>
     ensures { result ≡ lesser a b }
 {
-    match a {
-        Breach::Nowhere => b,
-        Breach::At(p) => match b {
-            Breach::Nowhere => Breach::At(p),
-            Breach::At(q) => {
-                if q < p {
-                    return Breach::At(q);
-                }
-                Breach::At(p)
-            }
-        },
+    match (a, b) {
+        (Some(p), Some(q)) => Some(if q < p { q } else { p }),
+        (Some(p), None) => Some(p),
+        (None, _) => b,
     }
 }
 
 // A fault in n bytes that begin at a place.
-fn fault_at(at: usize, fault: usize, n: usize) -> Breach
+fn fault_at(at: usize, fault: usize, n: usize) -> Option<usize>
     requires { «at» + n < 2 ^ 64 }
     ensures { result ≡ least (fault_at «at» fault n) }
 {
-    if fault < n {
-        return Breach::At(at + fault);
-    }
-    Breach::Nowhere
+    if fault < n { Some(at + fault) } else { None }
 }
 
 // In the name from a place to another.
-fn name_breach(doc: &[u8], from: usize, to: usize) -> Breach
+fn name_breach(doc: &[u8], from: usize, to: usize) -> Option<usize>
     requires { NameAt doc.now from to }
     ensures { result ≡ least (in_name (take (to - from) (drop from doc.now)) from) }
 {
@@ -89,7 +69,7 @@ fn name_breach(doc: &[u8], from: usize, to: usize) -> Breach
 }
 
 // In the raw value from a place to another.
-fn value_breach(doc: &[u8], from: usize, to: usize) -> Breach
+fn value_breach(doc: &[u8], from: usize, to: usize) -> Option<usize>
     requires { (from ≤ to) × (to ≤ length doc.now) × (length doc.now ≤ 1048576) }
     ensures { result ≡ least (places_of raw (take (to - from) (drop from doc.now)) from) }
 {
@@ -98,7 +78,7 @@ fn value_breach(doc: &[u8], from: usize, to: usize) -> Breach
 }
 
 // In the comment whose `<` stands at a place and which ends at another.
-fn comment_breach(doc: &[u8], at: usize, end: usize) -> Breach
+fn comment_breach(doc: &[u8], at: usize, end: usize) -> Option<usize>
     requires { («at» + 7 ≤ «end») × («end» ≤ length doc.now) × (length doc.now ≤ 1048576) }
     ensures { result ≡ least
         (places_of hyphens (take («end» - 3 - («at» + 4)) (drop («at» + 4) doc.now)) («at» + 4)) }
@@ -110,14 +90,14 @@ fn comment_breach(doc: &[u8], at: usize, end: usize) -> Breach
 }
 
 // In what is ignored from a `<` to a place: only a comment has breaches.
-fn ignored_breach(doc: &[u8], at: usize, end: usize) -> Breach
-    requires { («at» < length doc.now) × Marks doc.now «at» (Markup.Ignored (Scan.At «end»)) × (length doc.now ≤ 1048576) }
+fn ignored_breach(doc: &[u8], at: usize, end: usize) -> Option<usize>
+    requires { («at» < length doc.now) × Marks doc.now «at» (Ok (Markup.Ignored «end»)) × (length doc.now ≤ 1048576) }
     ensures { result ≡ ignored_breach doc.now «at» }
 {
     if slices::starts_at(doc, at + 1, b"!--") {
         return comment_breach(doc, at, end);
     }
-    Breach::Nowhere
+    None
 }
 
 // Past what is ignorable, to the next tag's `<`.
@@ -125,32 +105,30 @@ fn to_tag(doc: &[u8], from: usize) -> Way
     requires { (from ≤ length doc.now) × (length doc.now ≤ 1048576) }
     ensures { Passes doc.now from result }
 {
-    let mut breach = Breach::Nowhere;
+    let mut breach = None;
     let mut at = slices::find(doc, from, 60);
     while at < doc.len() {
         match scan::markup_at(doc, at) {
-            Markup::Tag => {
+            Ok(Markup::Ignored(next)) => {
+                breach = lesser(breach, ignored_breach(doc, at, next));
+                at = slices::find(doc, next, 60);
+            }
+            Ok(Markup::Tag) => {
                 return Way { at, breach };
             }
-            Markup::Ignored(found) => match found {
-                Scan::Fault(number, place) => {
-                    return Way {
-                        at: doc.len(),
-                        breach,
-                    };
-                }
-                Scan::At(next) => {
-                    breach = lesser(breach, ignored_breach(doc, at, next));
-                    at = slices::find(doc, next, 60);
-                }
-            },
+            Err(_) => {
+                return Way {
+                    at: doc.len(),
+                    breach,
+                };
+            }
         }
     }
     Way { at, breach }
 }
 
 // In an attribute.
-fn attribute_breach(doc: &[u8], a: Attribute) -> Breach
+fn attribute_breach(doc: &[u8], a: Attribute) -> Option<usize>
     requires { AttributeAt doc.now a }
     ensures { result ≡ attribute_breach (attr_of doc.now a) }
 {
@@ -162,28 +140,28 @@ fn attribute_breach(doc: &[u8], a: Attribute) -> Breach
 }
 
 // In the attributes from a place on, and where they end.
-fn attributes_breach(doc: &[u8], classes: &[u8; 256], from: usize) -> Way
-    requires { Sound doc.now × (from ≤ length doc.now) × Classes classes.now }
+fn attributes_breach(doc: &[u8], classes: &ClassTable, from: usize) -> Way
+    requires { Sound doc.now × (from ≤ length doc.now) }
     ensures { Collects doc.now from result }
 {
-    let mut breach = Breach::Nowhere;
+    let mut breach = None;
     let mut at = from;
     loop {
         match attributes::attribute_at(doc, classes, at) {
-            One::Absent => {
+            None => {
                 return Way { at, breach };
             }
-            One::Found(a, end) => {
-                breach = lesser(breach, attribute_breach(doc, a));
-                at = end;
+            Some(found) => {
+                breach = lesser(breach, attribute_breach(doc, found.attribute));
+                at = found.end;
             }
         }
     }
 }
 
 // In the start tag whose `<` stands at a place.
-fn start_breach(doc: &[u8], classes: &[u8; 256], lt: usize) -> Opened
-    requires { Sound doc.now × TagStart doc.now lt × Classes classes.now }
+fn start_breach(doc: &[u8], classes: &ClassTable, lt: usize) -> Opened
+    requires { Sound doc.now × TagStart doc.now lt }
     ensures { Starts doc.now lt result }
 {
     let at = lt + 1;
@@ -194,35 +172,35 @@ fn start_breach(doc: &[u8], classes: &[u8; 256], lt: usize) -> Opened
     let own = name_breach(doc, at, named);
     let breach = lesser(own, inner);
     match tags::tag_end(doc, classes, way.at) {
-        TagEnd::Missing(place) => Opened {
+        Err(_) => Opened {
             closes: true,
             at: doc.len(),
             breach,
         },
-        TagEnd::Here(closes, end) => Opened {
-            closes,
-            at: end,
+        Ok(end) => Opened {
+            closes: end.closes,
+            at: end.end,
             breach,
         },
     }
 }
 
 // The place after the closing tag whose `<` stands at a place.
-fn close_end(doc: &[u8], classes: &[u8; 256], lt: usize) -> usize
-    requires { TagStart doc.now lt × (lt + 2 ≤ length doc.now) × Classes classes.now }
+fn close_end(doc: &[u8], classes: &ClassTable, lt: usize) -> usize
+    requires { TagStart doc.now lt × (lt + 2 ≤ length doc.now) }
     ensures { Closes doc.now lt result }
 {
     match tags::closing_tag(doc, classes, lt) {
-        Token::Fault(refusal) => doc.len(),
-        Token::End(place) => doc.len(),
-        Token::Close(c) => c.end,
-        Token::Start(c) => doc.len(),
+        Ok(Token::Close(c)) => c.end,
+        Ok(Token::End(_)) => doc.len(),
+        Ok(Token::Start(_)) => doc.len(),
+        Err(_) => doc.len(),
     }
 }
 
 // One token more.
-fn step(doc: &[u8], classes: &[u8; 256], w: Walk) -> Walk
-    requires { Walking doc.now w × Classes classes.now }
+fn step(doc: &[u8], classes: &ClassTable, w: Walk) -> Walk
+    requires { Walking doc.now w }
     ensures { Walked doc.now w.at result }
 {
     let way = to_tag(doc, w.at);
@@ -255,14 +233,14 @@ fn step(doc: &[u8], classes: &[u8; 256], w: Walk) -> Walk
 }
 
 // Up to the root's end.
-fn to_root_end(doc: &[u8], classes: &[u8; 256]) -> Walk
-    requires { Accepted doc.now × Classes classes.now }
+fn to_root_end(doc: &[u8], classes: &ClassTable) -> Walk
+    requires { Accepted doc.now }
     ensures { Walks doc.now result }
 {
     let mut w = Walk {
         at: 0,
         depth: 0,
-        breach: Breach::Nowhere,
+        breach: None,
     };
     loop {
         w = step(doc, classes, w);
@@ -273,27 +251,25 @@ fn to_root_end(doc: &[u8], classes: &[u8; 256]) -> Walk
 }
 
 // In the root's name.
-fn root_breach(doc: &[u8], classes: &[u8; 256]) -> Breach
-    requires { Accepted doc.now × Classes classes.now }
+fn root_breach(doc: &[u8], classes: &ClassTable) -> Option<usize>
+    requires { Accepted doc.now }
     ensures { result ≡ least (root_name (met_tags doc.now)) }
 {
     match tags::token(doc, classes, 0) {
-        Token::Start(c) => {
+        Ok(Token::Start(c)) => {
             let at = c.at;
             let end = at + c.len;
             if slices::equal(&doc[at..end], b"node") {
-                return Breach::Nowhere;
+                return None;
             }
-            Breach::At(at)
+            Some(at)
         }
-        Token::Fault(refusal) => Breach::Nowhere,
-        Token::End(place) => Breach::Nowhere,
-        Token::Close(c) => Breach::Nowhere,
+        _ => None,
     }
 }
 
 // The least breach of a document that is accepted.
-pub fn least_breach(doc: &[u8]) -> Breach
+pub fn least_breach(doc: &[u8]) -> Option<usize>
     requires { Accepted doc.now }
     ensures { result ≡ least (breaches doc.now) }
 {

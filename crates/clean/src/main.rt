@@ -2,147 +2,109 @@
 // its refusal on standard error (docs/FORMAT.md, The cleaning program).
 #![tactic(auto)]
 
-ghost use Rattle.std.specs.Prelude.{◌≡◌, length};
-
-use answers::TextAnswer;
-use document::{Refusal, Verdict};
+use document::{Excerpt, Refusal, Verdict};
 use messages::{Told, Wide};
+use output::failure::Failure;
+use std::io;
+use tables::Triple;
 
-// Room for what is written: 6 bytes for each of a document, which is the most that escaping makes of one, and the tags of 1,024 rows.
-fn room() -> [u8; 524288]
-    ensures { 524288 ≡ length result }
-{
-    [0; 524288]
-}
-
-fn source(yes: bool) -> u64 {
-    if yes {
-        return 1;
-    }
-    0
+// An excerpt as a message's triple.
+fn wide(x: Excerpt, is_shown: bool) -> Wide {
+    Wide::from(Triple {
+        source: u32::from(is_shown),
+        start: x.at,
+        len: x.len,
+    })
 }
 
 // A refusal with what its message shows.
 fn told_of(x: Refusal) -> Told {
     let shown = document::shown_by(x.number);
-    let first = Wide {
-        source: source(0 < shown),
-        start: x.first.at as u64,
-        len: x.first.len as u64,
-    };
-    let second = Wide {
-        source: source(1 < shown),
-        start: x.second.at as u64,
-        len: x.second.len as u64,
-    };
     Told {
-        number: x.number as u64,
-        key: x.key as u64,
-        first,
-        second,
+        number: u64::from(x.number),
+        key: u64::from(x.key),
+        first: wide(x.first, 0 < shown),
+        second: wide(x.second, 1 < shown),
     }
 }
 
-// A refusal of which nothing is shown.
-fn told_plainly(number: u32) -> Told {
-    let first = Wide {
-        source: 0,
-        start: 0,
-        len: 0,
-    };
-    let second = Wide {
-        source: 0,
-        start: 0,
-        len: 0,
-    };
-    Told {
-        number: number as u64,
-        key: 0,
-        first,
-        second,
-    }
-}
-
-// The message of a refusal on standard error, as a line.
-fn tell(rt: &HostRuntime, document: &[u8], told: Told, space: &mut [u8]) {
-    match messages::message(document, told, space) {
-        TextAnswer::Refused(_, _) => {}
-        TextAnswer::Done(n) => {
-            let _ = rt.stderr().write_all(output::front(space, n));
-            let _ = rt.stderr().write_all(b"\n");
-        }
+// The message of a refusal on standard error, as a line. Where that cannot be told, there is nobody to tell.
+fn tell(rt: &HostRuntime, document: &[u8], refusal: Refusal, space: &mut [u8]) {
+    if let Ok(n) = messages::message(document, told_of(refusal), space) {
+        let _ = rt.stderr().write_all(output::front(space, n));
+        let _ = rt.stderr().write_all(b"\n");
     }
 }
 
 // Writes the tree of the rows that were read.
-fn put_tree<'a>(
+fn put_tree(
     rt: &HostRuntime,
-    document: &'a [u8],
-    text: &'a [u8],
+    document: &[u8],
+    text: &[u8],
     rows: &[u32],
     claimed: usize,
     space: &mut [u8],
-) {
+) -> io::Result<()> {
     match trees::write_tree(document, text, rows, claimed, 0, space) {
-        TextAnswer::Refused(number, _) => tell(rt, document, told_plainly(number), space),
-        TextAnswer::Done(n) => {
-            if let Err(why) = output::flush(rt, space, n) {
-                output::failure::fail(&rt.stderr(), b"clean: cannot write standard output", why);
-            }
+        Ok(n) => rt.write_all(output::front(space, n)),
+        Err(fault) => {
+            tell(rt, document, Refusal::from(fault), space);
+            Ok(())
         }
     }
 }
 
 // The tree of a document that was read, or why it is refused.
-fn put_verdict<'a>(
+fn put_verdict(
     rt: &HostRuntime,
-    document: &'a [u8],
-    text: &'a [u8],
+    document: &[u8],
+    text: &[u8],
     rows: &[u32],
     verdict: Verdict,
     space: &mut [u8],
-) {
+) -> io::Result<()> {
     match verdict {
-        Verdict::Refused(refusal) => tell(rt, document, told_of(refusal), space),
-        Verdict::Accepted(r, t, _) => {
-            put_tree(rt, document, output::front(text, t), rows, r, space)
+        Ok(counts) => {
+            let shown = output::front(text, counts.text);
+            put_tree(rt, document, shown, rows, counts.rows, space)
+        }
+        Err(refusal) => {
+            tell(rt, document, refusal, space);
+            Ok(())
         }
     }
 }
 
 // Reads a document, and writes its tree or why it is refused; of a file in UTF-16 the document is what was decoded.
-fn put_clean(rt: &HostRuntime, file: &[u8], space: &mut [u8]) {
+fn put_clean(rt: &HostRuntime, file: &[u8], space: &mut [u8]) -> io::Result<()> {
     let mut rows = [0u32; 16384];
     let mut warnings = [0u32; 16384];
-    let mut text = output::large_buffer();
-    let mut decoded = output::large_buffer();
+    let mut text = [0u8; 65536];
+    let mut decoded = [0u8; 65536];
     let reading = reader::read(file, &mut rows, &mut warnings, &mut text, &mut decoded);
-    let verdict = reading.verdict;
-    let n = reading.decoded;
-    if n == 0 {
-        put_verdict(rt, file, &text, &rows, verdict, space);
+    let document = if reading.decoded == 0 {
+        file
     } else {
-        put_verdict(rt, output::front(&decoded, n), &text, &rows, verdict, space);
-    }
+        output::front(&decoded, reading.decoded)
+    };
+    put_verdict(rt, document, &text, &rows, reading.verdict, space)
 }
 
-// Cleans what the buffer can hold of standard input; more than the program takes is over-long. Where that cannot be read or the tree not be written,
-// says so and why on standard error.
-fn clean(rt: &HostRuntime, file: &mut [u8]) {
-    let came = output::input::read_all(&mut rt.stdin(), file);
-    if let Some(why) = came.failed {
-        output::failure::fail(&rt.stderr(), b"clean: cannot read standard input", why);
-        return;
+// Cleans what the buffer can hold of standard input; more than the program takes is over-long. The space is for what is written: 6 bytes for each
+// of a document, which is the most that escaping makes of one, and the tags of 1,024 rows.
+fn clean(rt: &HostRuntime, file: &mut [u8]) -> Result<(), Failure> {
+    let end = output::input::read_all(&mut rt.stdin(), file).map_err(Failure::Reading)?;
+    let mut space: [u8; 524288] = output::filled(0);
+    if 65536 < end {
+        tell(rt, b"", document::bare(2, 65536), &mut space);
+        return Ok(());
     }
-    let mut space = room();
-    if 65536 < came.end {
-        tell(rt, b"", told_plainly(2), &mut space);
-        return;
-    }
-    put_clean(rt, output::front(file, came.end), &mut space);
+    put_clean(rt, &file[..end], &mut space).map_err(Failure::Writing)
 }
 
 fn main(rt: HostRuntime) {
     let mut file = [0u8; 65537];
-    clean(&rt, &mut file);
+    if let Err(failure) = clean(&rt, &mut file) {
+        failure.tell(&rt.stderr(), b"clean");
+    }
 }

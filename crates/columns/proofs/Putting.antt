@@ -3,14 +3,10 @@
 use Rattle.std.proofs.Common.{◌≡◌, ℕ, zero, suc, ◌+◌, ◌-◌, ◌*◌, ◌%◌, ◌^◌, ◌<◌, ◌≤◌, List, length, get_or, set, refl, ◌∙◌, add-one, arith, length-set, get_or-set_other, get_or-set_same, w64, Fits, rules}
 use native.Mathlib.Decide.{dec_lt}
 use Rattle.columns.specs.Words.{in_rows, in_columns, difference, restored}
-use Rattle.columns.specs.Put.{Roomy, Block, Puts, word_above, restored_above}
+use Rattle.columns.specs.Put.{Roomy, Block, Puts, Apart, word_above, restored_above, Below}
 use Rattle.columns.specs.Statement.{Words}
 use Rattle.columns.proofs.Wrapped.{less_is, wrapped_none}
-use Rattle.columns.proofs.Places.{column_before, column_inside, row_inside, columns_apart, rows_apart}
-
--- each word of each of R rows has a place of its own
-abbrev pub Apart : (ℕ → ℕ → ℕ) → ℕ → Type 0
-Apart place R = (j k r s : ℕ) → j < 16 → k < 16 → r < R → s < R → place j r ≡ place k s → (j ≡ k) × (r ≡ s)
+use Rattle.columns.specs.Places.{column_before, column_inside, row_inside, columns_apart, rows_apart}
 
 module _ {place f : ℕ → ℕ → ℕ} where
   pub no_rows : {j m a : ℕ} {t : List ℕ} → Puts place f j m a a t t
@@ -139,6 +135,11 @@ module _ {R k a n b r : ℕ} {xs t₀ t : List ℕ} (g : WordsGoing R k xs a n t
       let e : r ≡ n = omega (arith, g.within) in
       rw e at g.puts
 
+-- what is put of the row above a block is the word above it
+pub below_above : (R : ℕ) (xs : List ℕ) {t : List ℕ} (a k : ℕ) → Below in_rows (restored R xs) a t → k < 16 → word_above t k a ≡ restored_above R xs k a
+below_above R xs zero k b h = refl
+below_above R xs (suc a) k b h = b.above k a h refl
+
 -- ---- a column's place is a number that fits, and inside
 
 module _ {R : ℕ} {xs t₀ : List ℕ} (y : Roomy R xs t₀) where
@@ -161,4 +162,4 @@ module _ {R : ℕ} {xs t₀ : List ℕ} (y : Roomy R xs t₀) where
     pub place_room : (t : List ℕ) → length t ≡ length t₀ → k * R + r < length t
     place_room t e = omega (arith, inside, y.room)
 
-pub ruleset putting = (above_none, above_some, column_begins, column_ends, words_begin, words_end, from_fits, place_fits, bytes_fit, place_held, place_room, rules)
+pub ruleset putting = (below_above, above_none, above_some, column_begins, column_ends, words_begin, words_end, from_fits, place_fits, bytes_fit, place_held, place_room, rules)

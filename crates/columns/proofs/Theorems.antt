@@ -1,16 +1,16 @@
 -- Where the words stand, and that each of the two entries undoes the other.
 -- Assumes nothing.
-use Rattle.std.proofs.Common.{◌≡◌, ℕ, zero, suc, ◌+◌, ◌-◌, ◌*◌, ◌/◌, ◌%◌, ◌^◌, ◌<◌, ◌≤◌, List, ◌++◌, length, get_or, take, replicate, sym, ap, ◌∙◌, arith, length-take-le, get_or-take, take_at, ext_get_or, lt-ltb}
+use Rattle.std.proofs.Common.{◌≡◌, ℕ, zero, suc, ◌-◌, ◌*◌, ◌/◌, ◌%◌, ◌^◌, ◌<◌, ◌≤◌, List, ◌++◌, length, get_or, take, replicate, Result, Ok, Err, refl, sym, ap, ◌∙◌, arith, length-take-le, get_or-take, take_at, ext_get_or}
 use native.Mathlib.Decide.{dec_lt}
 use lib.ListN.{get_or-append}
 use Rattle.columns.specs.Words.{in_rows, in_columns, difference, restored, columns_of, rows_of}
 use Rattle.columns.specs.Entries.{checked, to_columns, to_rows, answer_of, words_left, Says, Checks}
 use Rattle.columns.specs.Statement.{Words, ColumnsPlaced, RowsPlaced, RowsRestored, ColumnsRestored, EntriesUndone}
-use Rattle.columns.specs.declared.ColumnsAnswer.{ColumnsAnswer}
-use Rattle.columns.specs.declared.ColumnsAnswer.TheVariants.{Refused, Done}
+use Rattle.faults.specs.Fault.{fault}
+use Rattle.faults.specs.declared.Fault.{Fault}
 use Rattle.columns.proofs.Wrapped.{less_add, add_less, wrapped_small}
-use Rattle.columns.proofs.Answers.{check_held, check-room, check-good}
-use Rattle.columns.proofs.Places.{column_inside, row_inside, place_column, place_row, column_of, row_of, column_place, row-found, word_found, row_place, length-listed, listed_at}
+use Rattle.columns.proofs.Answers.{check-many, check_held, check-room, check-good}
+use Rattle.columns.specs.Places.{column_inside, row_inside, place_column, place_row, column_of, row_of, column_place, row-found, word_found, row_place, length-listed, listed_at}
 
 -- ---- places
 
@@ -95,32 +95,32 @@ columns_restored R xs more w l =
 
 -- an entry that is done made its words, and R rows had room
 module _ (R held room : ℕ) (ws : List ℕ) where
-  no_refusal : (n p : ℕ) → Done ≡ Refused n p → ⊥
-  no_refusal n p e = let z : ◌≡◌ {A = ℕ} 0 1 = cc in omega arith
+  no_refusal : (n p : ℕ) → ◌≡◌ {A = Result (Unit {0}) Fault} (Ok tt) (Err (fault n p)) → ⊥
+  no_refusal n p e = cc
 
-  done_checks : Done ≡ answer_of (checked R held room ws) → Checks R held room Done
+  done_checks : Ok tt ≡ answer_of (checked R held room ws) → Checks R held room (Ok R)
   done_checks e = go (dec_lt 262144 R) (dec_lt held (R * 16)) (dec_lt room (R * 16))
     where
-      go : Dec (262144 < R) → Dec (held < R * 16) → Dec (room < R * 16) → Checks R held room Done
-      go (yes a) b c = let d : Done ≡ Refused 30 262144 = rw (lt-ltb 262144 R a) at e in absurd (no_refusal 30 262144 d)
-      go (no a) (yes b) c = absurd (no_refusal 18 R (e ∙ ap answer_of ((check_held {room = room} (omega arith) b).is ws)))
-      go (no a) (no b) (yes c) = absurd (no_refusal 18 R (e ∙ ap answer_of ((check-room {room = room} (omega arith) (omega arith) c).is ws)))
-      go (no a) (no b) (no c) = check-good (omega arith) (omega arith) (omega arith)
+      go : Dec (262144 < R) → Dec (held < R * 16) → Dec (room < R * 16) → Checks R held room (Ok R)
+      go (yes a) b c = absurd (no_refusal 30 262144 (e ∙ ap answer_of ((check-many {held = held} {room = room} a).is ws)))
+      go (no a) (yes b) c = absurd (no_refusal 18 R (e ∙ ap answer_of ((check_held {room = room} refl (omega arith) b).is ws)))
+      go (no a) (no b) (yes c) = absurd (no_refusal 18 R (e ∙ ap answer_of ((check-room {room = room} refl (omega arith) (omega arith) c).is ws)))
+      go (no a) (no b) (no c) = check-good refl (omega arith) (omega arith) (omega arith)
 
 -- what an entry that is done leaves begins with its words
-module _ (R held : ℕ) (ws out : List ℕ) (r : ColumnsAnswer) where
-  leaves : Checks R held (length out) Done → Says (checked R held (length out) ws) (length out) out r → (r ≡ Done) × (out ≡ ws ++ replicate (length out - length ws) 0)
-  leaves c s = (s.answer ∙ ap answer_of (c.is.3 ws), s.left ∙ ap (words_left (length out)) (c.is.3 ws))
+module _ (R held : ℕ) (ws out : List ℕ) (r : Result (Unit {0}) Fault) where
+  leaves : Checks R held (length out) (Ok R) → Says (checked R held (length out) ws) (length out) out r → (r ≡ Ok tt) × (out ≡ ws ++ replicate (length out - length ws) 0)
+  leaves c s = (s.answer ∙ ap answer_of (c.is.4 ws), s.left ∙ ap (words_left (length out)) (c.is.4 ws))
 
 module _ (f g : ℕ → List ℕ → List ℕ) (lg : (R : ℕ) (xs : List ℕ) → length (g R xs) ≡ R * 16) (back-again : (R : ℕ) (xs more : List ℕ) → Words xs → R * 16 ≤ length xs → g R (f R xs ++ more) ≡ take (R * 16) xs) where
-  undone : (R : ℕ) (xs between back : List ℕ) (r : ColumnsAnswer) → Words xs → Says (checked R (length xs) (length between) (f R xs)) (length between) between Done → R * 16 ≤ length back → Says (checked R (length between) (length back) (g R between)) (length back) back r → (r ≡ Done) × (take (R * 16) back ≡ take (R * 16) xs)
+  undone : (R : ℕ) (xs between back : List ℕ) (r : Result (Unit {0}) Fault) → Words xs → Says (checked R (length xs) (length between) (f R xs)) (length between) between (Ok tt) → R * 16 ≤ length back → Says (checked R (length between) (length back) (g R between)) (length back) back r → (r ≡ Ok tt) × (take (R * 16) back ≡ take (R * 16) xs)
   undone R xs between back r w s l t =
       let c = done_checks R (length xs) (length between) (f R xs) s.answer in
-      let m = (leaves R (length xs) (f R xs) between Done c s).1 in
-      let d : Checks R (length between) (length back) Done = check-good c.is.0 c.is.2 l in
+      let m = (leaves R (length xs) (f R xs) between (Ok tt) c s).1 in
+      let d : Checks R (length between) (length back) (Ok R) = check-good refl c.is.1 c.is.3 l in
       let n = leaves R (length between) (g R between) back r d t in
       let e : take (R * 16) back ≡ g R between = ap (take (R * 16)) n.1 ∙ take_at (g R between) _ (R * 16) (lg R between) in
-      let q : g R between ≡ take (R * 16) xs = ap (g R) m ∙ back-again R xs _ w c.is.1 in
+      let q : g R between ≡ take (R * 16) xs = ap (g R) m ∙ back-again R xs _ w c.is.2 in
       (n.0, e ∙ q)
 
 pub entries_undone : EntriesUndone

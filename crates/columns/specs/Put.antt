@@ -1,6 +1,7 @@
 -- What the functions that fill the output say.
 -- Assumes nothing.
 use Rattle.std.specs.Prelude.{◌≡◌, ℕ, zero, suc, ◌*◌, ◌<◌, ◌≤◌, List, length, ◌≢◌, slice_index}
+use Rattle.tables.specs.Table.{Rep}
 use Rattle.columns.specs.Words.{in_rows, restored}
 
 -- R rows are few enough, and both buffers have 16 times R words
@@ -29,6 +30,15 @@ abbrev pub restored_above : ℕ → List ℕ → ℕ → ℕ → ℕ
 restored_above R columns k zero = 0
 restored_above R columns k (suc r) = restored R columns k r
 
--- the row above row a is restored
-pub record Below (R : ℕ) (columns : List ℕ) (a : ℕ) (rows : List ℕ) : Type 0 where
-  pub above : (k : ℕ) → k < 16 → word_above rows k a ≡ restored_above R columns k a
+-- of the row above row a, f k r is put at its place for each word
+pub record Below (place f : ℕ → ℕ → ℕ) (a : ℕ) (out : List ℕ) : Type 0 where
+  pub above : (k r : ℕ) → k < 16 → a ≡ suc r → slice_index out (place k r) ≡ f k r
+
+-- each word of each of R rows has a place of its own
+abbrev pub Apart : (ℕ → ℕ → ℕ) → ℕ → Type 0
+Apart place R = (j k r s : ℕ) → j < 16 → k < 16 → r < R → s < R → place j r ≡ place k s → (j ≡ k) × (r ≡ s)
+
+-- places of their own, and the words that are all there once each is put at its place
+pub record Lays (place : ℕ → ℕ → ℕ → ℕ) (word : ℕ → List ℕ → ℕ → ℕ → ℕ) (words : ℕ → List ℕ → List ℕ) : Type 0 where
+  pub apart : (R : ℕ) → Apart (place R) R
+  pub whole : (R : ℕ) (xs out : List ℕ) → ((k r : ℕ) → k < 16 → r < R → slice_index out (place R k r) ≡ word R xs k r) → Rep 16 out R (words R xs)

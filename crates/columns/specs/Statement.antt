@@ -1,10 +1,9 @@
 -- Where the words stand, and that each of the two entries undoes the other.
 -- Assumes nothing.
-use Rattle.std.specs.Prelude.{◌≡◌, ℕ, ◌*◌, ◌^◌, ◌<◌, ◌≤◌, List, ◌++◌, length, take, slice_index}
+use Rattle.std.specs.Prelude.{◌≡◌, ℕ, ◌*◌, ◌^◌, ◌<◌, ◌≤◌, List, ◌++◌, length, take, slice_index, Result, Ok}
 use Rattle.columns.specs.Words.{in_rows, in_columns, difference, restored, columns_of, rows_of}
 use Rattle.columns.specs.Entries.{Outcome, to_columns, to_rows, Says}
-use Rattle.columns.specs.declared.ColumnsAnswer.{ColumnsAnswer}
-use Rattle.columns.specs.declared.ColumnsAnswer.TheVariants.{Done}
+use Rattle.faults.specs.declared.Fault.{Fault}
 
 -- each number of the list is a word
 abbrev pub Words : List ℕ → Type 0
@@ -29,12 +28,12 @@ ColumnsRestored = (R : ℕ) (xs more : List ℕ) → Words xs → R * 16 ≤ len
 -- the same in the terms of the contracts: where the first entry is done and the second one has room, that is done too and leaves the first's words
 abbrev pub Undone : (ℕ → List ℕ → ℕ → Outcome) → (ℕ → List ℕ → ℕ → Outcome) → Type 0
 Undone first second =
-    (R : ℕ) (xs between back : List ℕ) (r : ColumnsAnswer) →
+    (R : ℕ) (xs between back : List ℕ) (r : Result (Unit {0}) Fault) →
     Words xs →
-    Says (first R xs (length between)) (length between) between Done →
+    Says (first R xs (length between)) (length between) between (Ok tt) →
     R * 16 ≤ length back →
     Says (second R between (length back)) (length back) back r →
-    (r ≡ Done) × (take (R * 16) back ≡ take (R * 16) xs)
+    (r ≡ Ok tt) × (take (R * 16) back ≡ take (R * 16) xs)
 
 abbrev pub EntriesUndone : Type 0
 EntriesUndone = Undone to_columns to_rows × Undone to_rows to_columns

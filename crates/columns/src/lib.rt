@@ -1,198 +1,226 @@
 // Rows of 16 words put down as columns, each word less the one above it, and the inverse.
 #![tactic(auto)]
 
-ghost use Rattle.std.specs.Prelude.{◌≡◌, ◌+◌, ◌*◌, ◌<◌, ◌≤◌, length};
+ghost use Rattle.std.specs.Prelude.{◌≡◌, ℕ, ◌+◌, ◌*◌, ◌<◌, ◌≤◌, List, length};
 ghost use Rattle.tables.specs.Table.{Rep};
 ghost use Rattle.columns.specs.Words.{in_rows, in_columns, difference, restored, columns_of, rows_of};
-ghost use Rattle.columns.specs.Put.{Roomy, Block, Puts, word_above, restored_above, Below};
-ghost use Rattle.columns.specs.Entries.{refused, to_columns, to_rows, answer_of, words_left, Says, Finishes, Checks};
+ghost use Rattle.columns.specs.Put.{Roomy, Block, Puts, word_above, restored_above, Below, Lays};
+ghost use Rattle.columns.specs.Entries.{checked, refused, to_columns, to_rows, answer_of, words_left, Says, Finishes, Checks};
+ghost use Rattle.columns.specs.Places.{lays_columns, lays_rows};
 
-// What an entry answers: number and place, or that all is done.
-#[derive(Clone, Copy)]
-pub enum ColumnsAnswer {
-    Refused(u32, u64),
-    Done,
-}
+use faults::Fault;
 
 // Where a block of rows ends that begins at a row: 16 rows on, or with the rows.
 fn block_end(from: usize, count: usize) -> usize
     requires { from < count }
     ensures { (from < result) × (result ≤ count) }
 {
-    if count - from < 16 {
-        return count;
-    }
-    from + 16
+    if count - from < 16 { count } else { from + 16 }
 }
 
 // Word k of the row above row r, and 0 above row 0.
 fn word_above(rows: &[u32], k: usize, r: usize) -> u32
-    requires fact_1 { k < 16 }
-    requires fact_2 { r * 16 ≤ length rows.now }
-    requires fact_3 { r ≤ 262144 }
+    requires word { k < 16 }
+    requires held { r * 16 ≤ length rows.now }
+    requires few { r ≤ 262144 }
     ensures { result ≡ word_above rows.now k r }
 {
-    if r == 0 {
-        return 0;
-    }
-    rows[(r - 1) * 16 + k]
+    if r == 0 { 0 } else { rows[(r - 1) * 16 + k] }
 }
 
 // Puts column k of a block: each word less the one above it.
+#[tactic(auto, using(crate::proofs::Putting::putting))]
 fn put_column(rows: &[u32], count: usize, k: usize, from: usize, to: usize, out: &mut [u32])
-    requires fact_1 { k < 16 }
-    requires fact_2 { Block from to count }
-    requires fact_3 { Roomy count rows.now out.old }
+    requires word { k < 16 }
+    requires block { Block from to count }
+    requires room { Roomy count rows.now out.old }
     ensures { Puts (in_columns count) (difference rows.now) k (k + 1) from to out.old
         out.new }
 {
     let start = k * count;
     let mut above = word_above(rows, k, from);
-    let mut r = from;
-    while r < to {
+    for r in from..to {
         let word = rows[r * 16 + k];
         let less = std::num::wrapping_sub_u32(word, above);
         out[start + r] = less;
         above = word;
-        r += 1;
     }
 }
 
 // Puts word k of each row of a block: the word above it plus the column's word.
+#[tactic(auto, using(crate::proofs::Putting::putting))]
 fn put_words(columns: &[u32], count: usize, k: usize, from: usize, to: usize, out: &mut [u32])
-    requires fact_1 { k < 16 }
-    requires fact_2 { Block from to count }
-    requires fact_3 { Roomy count columns.now out.old }
-    requires fact_4 { word_above out.old k from ≡ restored_above count columns.now k from }
+    requires word { k < 16 }
+    requires block { Block from to count }
+    requires room { Roomy count columns.now out.old }
+    requires above { word_above out.old k from ≡ restored_above count columns.now k from }
     ensures { Puts in_rows (restored count columns.now) k (k + 1) from to out.old
         out.new }
 {
     let start = k * count;
     let mut above = word_above(out, k, from);
-    let mut r = from;
-    while r < to {
+    for r in from..to {
         above = std::num::wrapping_add_u32(above, columns[start + r]);
         out[r * 16 + k] = above;
-        r += 1;
     }
 }
 
-// Puts the 16 columns of a block.
-fn put_column_block(rows: &[u32], count: usize, from: usize, to: usize, out: &mut [u32])
-    requires fact_1 { Block from to count }
-    requires fact_2 { Roomy count rows.now out.old }
-    ensures { Puts (in_columns count) (difference rows.now) 0 16 from to out.old out.new }
-{
-    let mut k = 0;
-    while k < 16 {
-        put_column(rows, count, k, from, to, out);
-        k += 1;
+// A way of putting words down: where word k of row r goes among `count` rows, which word it is, and all the words.
+trait Way {
+    ghost place: { ℕ → ℕ → ℕ → ℕ };
+
+    ghost word: { ℕ → List ℕ → ℕ → ℕ → ℕ };
+
+    ghost words: { ℕ → List ℕ → List ℕ };
+
+    // Puts word k of each row of a block, below the rows that are put.
+    fn put(source: &[u32], count: usize, k: usize, from: usize, to: usize, out: &mut [u32])
+        requires word { k < 16 }
+        requires block { Block from to count }
+        requires room { Roomy count source.now out.old }
+        requires below { Below (place count) (word count source.now) from out.old }
+        ensures { Puts (place count) (word count source.now) k (k + 1) from to
+            out.old out.new };
+
+    // Each word has a place of its own, and together they are all the words.
+    ghost lays: { Lays place word words };
+}
+
+struct ToColumns;
+
+impl Way for ToColumns {
+    ghost place = { in_columns };
+
+    ghost word = { λ _. difference };
+
+    ghost words = { columns_of };
+
+    ghost lays = { lays_columns };
+
+    fn put(source: &[u32], count: usize, k: usize, from: usize, to: usize, out: &mut [u32]) {
+        put_column(source, count, k, from, to, out);
+    }
+}
+
+struct ToRows;
+
+impl Way for ToRows {
+    ghost place = { λ _. in_rows };
+
+    ghost word = { restored };
+
+    ghost words = { rows_of };
+
+    ghost lays = { lays_rows };
+
+    #[tactic(auto, using(crate::proofs::Putting::putting))]
+    fn put(source: &[u32], count: usize, k: usize, from: usize, to: usize, out: &mut [u32]) {
+        put_words(source, count, k, from, to, out);
     }
 }
 
 // Puts the rows of a block, a word of each at a time, below those that are put.
-fn put_row_block(columns: &[u32], count: usize, from: usize, to: usize, out: &mut [u32])
-    requires fact_1 { Block from to count }
-    requires fact_2 { Roomy count columns.now out.old }
-    requires fact_3 { Below count columns.now from out.old }
-    ensures { Puts in_rows (restored count columns.now) 0 16 from to out.old out.new }
+#[tactic(auto, using(crate::proofs::Filling::filling))]
+fn put_block<W: Way>(source: &[u32], count: usize, from: usize, to: usize, out: &mut [u32])
+    requires block { Block from to count }
+    requires room { Roomy count source.now out.old }
+    requires below { Below (W.place count) (W.word count source.now) from out.old }
+    ensures { Puts (W.place count) (W.word count source.now) 0 16 from to out.old
+        out.new }
 {
-    let mut k = 0;
-    while k < 16 {
-        put_words(columns, count, k, from, to, out);
-        k += 1;
+    for k in 0..16 {
+        W::put(source, count, k, from, to, out);
     }
 }
 
-// Puts the columns, a block of rows at a time.
-fn put_columns(rows: &[u32], count: usize, out: &mut [u32])
-    requires { Roomy count rows.now out.old }
-    ensures { Rep 16 out.new count (columns_of count rows.now) }
-{
-    let mut from = 0;
-    while from < count {
-        let to = block_end(from, count);
-        put_column_block(rows, count, from, to, out);
-        from = to;
-    }
-}
-
-// Puts the rows, a block at a time.
-fn put_rows(columns: &[u32], count: usize, out: &mut [u32])
-    requires { Roomy count columns.now out.old }
-    ensures { Rep 16 out.new count (rows_of count columns.now) }
+// Puts the words of all rows, a block at a time.
+#[tactic(auto, using(crate::proofs::Filling::filling))]
+fn put_all<W: Way>(source: &[u32], count: usize, out: &mut [u32])
+    requires { Roomy count source.now out.old }
+    ensures { Rep 16 out.new count (W.words count source.now) }
 {
     let mut from = 0;
     while from < count {
         let to = block_end(from, count);
-        put_row_block(columns, count, from, to, out);
+        put_block::<W>(source, count, from, to, out);
         from = to;
     }
 }
 
-// Whether the rows are few enough and both buffers long enough.
-fn check(held: usize, room: usize, count: u64) -> ColumnsAnswer
+// How many rows there are, if they are few enough and both buffers long enough.
+#[tactic(auto, using(crate::proofs::Answers::steps))]
+fn check(held: usize, room: usize, count: u64) -> Result<usize, Fault>
     ensures { Checks count held room result }
 {
     if 262144 < count {
-        return ColumnsAnswer::Refused(30, 262144);
+        return Err(Fault {
+            number: 30,
+            place: 262144,
+        });
     }
-    let words = count as usize * 16;
-    if held < words {
-        return ColumnsAnswer::Refused(18, count);
+    let n = count as usize;
+    if held < n * 16 || room < n * 16 {
+        return Err(Fault {
+            number: 18,
+            place: n,
+        });
     }
-    if room < words {
-        return ColumnsAnswer::Refused(18, count);
-    }
-    ColumnsAnswer::Done
+    Ok(n)
 }
 
 // Leaves zeros.
-fn refuse(out: &mut [u32], number: u32, place: u64) -> ColumnsAnswer
-    ensures { Says (refused number place) (length out.old) out.new result }
+#[tactic(auto, using(crate::proofs::Answers::steps))]
+fn refuse(out: &mut [u32], fault: Fault) -> Result<(), Fault>
+    ensures { Says (refused fault.number fault.place) (length out.old) out.new
+        result }
 {
     tables::clear_words(out, 0);
-    ColumnsAnswer::Refused(number, place)
+    Err(fault)
 }
 
 // Leaves the words of n rows and zeros after them.
-fn finish(out: &mut [u32], n: usize) -> ColumnsAnswer
+#[tactic(auto, using(crate::proofs::Answers::steps))]
+fn finish(out: &mut [u32], n: usize) -> Result<(), Fault>
     requires { n ≤ 262144 }
     ensures { Finishes n out.old out.new result }
 {
     tables::clear_words(out, n * 16);
-    ColumnsAnswer::Done
+    Ok(())
+}
+
+// Puts words down in a way, or refuses them.
+#[tactic(auto, using(crate::proofs::Answers::entries))]
+fn put_down<W: Way>(source: &[u32], count: u64, out: &mut [u32]) -> Result<(), Fault>
+    ensures { Says
+        (checked count (length source.now) (length out.old) (W.words count source.now))
+        (length out.old) out.new result }
+{
+    match check(source.len(), out.len(), count) {
+        Ok(n) => {
+            put_all::<W>(source, n, out);
+            finish(out, n)
+        }
+        Err(fault) => refuse(out, fault),
+    }
 }
 
 // Puts rows down as columns. More than 262,144 rows are refused with 30, and then a source or an output of fewer than 16 times `count` words
 // with 18.
-pub fn columns(rows: &[u32], count: u64, out: &mut [u32]) -> ColumnsAnswer
+#[tactic(auto, unfolding(crate::specs::Entries::to_columns))]
+pub fn columns(rows: &[u32], count: u64, out: &mut [u32]) -> Result<(), Fault>
     ensures answer { result ≡ answer_of (to_columns count rows.now (length out.old)) }
     ensures left { out.new ≡ words_left (length out.old)
         (to_columns count rows.now (length out.old)) }
 {
-    match check(rows.len(), out.len(), count) {
-        ColumnsAnswer::Refused(number, place) => refuse(out, number, place),
-        ColumnsAnswer::Done => {
-            let n = count as usize;
-            put_columns(rows, n, out);
-            finish(out, n)
-        }
-    }
+    put_down::<ToColumns>(rows, count, out)
 }
 
 // Puts columns down as rows again. Refused as for `columns`.
-pub fn rows(columns: &[u32], count: u64, out: &mut [u32]) -> ColumnsAnswer
+#[tactic(auto, unfolding(crate::specs::Entries::to_rows))]
+pub fn rows(columns: &[u32], count: u64, out: &mut [u32]) -> Result<(), Fault>
     ensures answer { result ≡ answer_of (to_rows count columns.now (length out.old)) }
     ensures left { out.new ≡ words_left (length out.old)
         (to_rows count columns.now (length out.old)) }
 {
-    match check(columns.len(), out.len(), count) {
-        ColumnsAnswer::Refused(number, place) => refuse(out, number, place),
-        ColumnsAnswer::Done => {
-            let n = count as usize;
-            put_rows(columns, n, out);
-            finish(out, n)
-        }
-    }
+    put_down::<ToRows>(columns, count, out)
 }

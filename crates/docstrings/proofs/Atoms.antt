@@ -11,10 +11,10 @@ use native.Mathlib.Omega.{arith}
 use lib.Dec.{eqb, leb}
 use lib.ListN.{length, drop, length-append}
 use lib.Seq.{drop-drop, drop-append-add}
+use Rattle.std.specs.Prelude.{Result, Ok, Err}
+use Rattle.faults.specs.declared.Fault.{Fault}
 use Rattle.slices.specs.Bytes.{if, same}
 use Rattle.scan.specs.Ignorable.{markup, further, ignorable_from, ignorable}
-use Rattle.scan.specs.declared.Scan.{Scan}
-use Rattle.scan.specs.declared.Scan.TheVariants.{Fault, At}
 use Rattle.scan.specs.declared.Markup.TheVariants.{Tag, Ignored}
 use Rattle.document.specs.Tokens.{Token, start, close, fault, end, Next, more, last, tag, tag_or_end, past_ignorable, next, tokens}
 use Rattle.document.specs.Rows.{Tables}
@@ -28,11 +28,11 @@ use Rattle.docstrings.proofs.Shifts.{far, far_is, later_token, later_next, later
 
 -- what follows a `<`, up to a `>` (62): markup that is ignored
 abbrev pub Marks : List ℕ → Type 0
-Marks f = (r : List ℕ) → markup (f ++ 62 ∷ r) 0 ≡ Ignored (At (suc (suc (length f))))
+Marks f = (r : List ℕ) → markup (f ++ 62 ∷ r) 0 ≡ Ok (Ignored (suc (suc (length f))))
 
 -- a tag, which is a token if its `<` stands at 0
 pub record Tags (f : List ℕ) (k : Token) : Type 0 where
-  pub none : (r : List ℕ) → markup (f ++ 62 ∷ r) 0 ≡ Tag
+  pub none : (r : List ℕ) → markup (f ++ 62 ∷ r) 0 ≡ Ok Tag
   pub is : (r : List ℕ) → tag (f ++ 62 ∷ r) 0 ≡ more k (suc (suc (length f)))
 
 pub data Atom : Type 0 where
@@ -107,9 +107,9 @@ skip x l at n d e = go (next l (at + n)) refl
 skip_ignorable : (x l : List ℕ) (at n : ℕ) → drop n x ≡ l → ignorable x at ≡ ignorable l (at + n) → tokens x at ≡ tokens l (at + n)
 skip_ignorable x l at n d e = skip x l at n d (unfold next in ap (λ s. past_ignorable s x at) e ∙ go (ignorable l (at + n)) (ignorable_within l (at + n)))
   where
-    go : (s : Scan) → Scanned (at + n) (at + n + length l) s → past_ignorable s x at ≡ past_ignorable s l (at + n)
-    go (Fault k p) h = refl
-    go (At p) h =
+    go : (s : Result ℕ Fault) → Scanned (at + n) (at + n + length l) s → past_ignorable s x at ≡ past_ignorable s l (at + n)
+    go (Err f) h = refl
+    go (Ok p) h =
         let i : p - at ≡ n + (p - (at + n)) = omega (arith, h) in
         let j : drop (p - at) x ≡ drop (p - (at + n)) l = rw (i, ← d) (sym (drop-drop (p - (at + n)) n x)) in
         ap (λ m. tag_or_end m p) j
@@ -135,7 +135,7 @@ mark_ignorable : (f l : List ℕ) (at : ℕ) → Marks f → ignorable (60 ∷ (
 unfolding ignorable
 mark_ignorable f l at h =
     let n = suc (suc (length f)) in
-    let m : markup (f ++ 62 ∷ l) at ≡ Ignored (At (far at n)) = markup_later at (f ++ 62 ∷ l) 0 ∙ ap (later_markup at) (h l) in
+    let m : markup (f ++ 62 ∷ l) at ≡ Ok (Ignored (far at n)) = markup_later at (f ++ 62 ∷ l) 0 ∙ ap (later_markup at) (h l) in
     let i : far at n - suc at ≡ suc (length f) = omega (arith, far_is at n) in
     let j : suc at + suc (length f) ≡ at + n = omega arith in
     ap (λ k. further k at (λ p. ignorable_from (p - suc at) (f ++ 62 ∷ l) (suc at))) m
@@ -147,14 +147,14 @@ mark_skips : (f l : List ℕ) (at : ℕ) → Marks f → tokens (60 ∷ (f ++ 62
 mark_skips f l at h = skip_ignorable (60 ∷ (f ++ 62 ∷ l)) l at (suc (suc (length f))) (past_end f l) (mark_ignorable f l at h)
 
 -- at a tag's `<`
-pub next_tag : (l : List ℕ) (at : ℕ) → markup l at ≡ Tag → next (60 ∷ l) at ≡ tag l at
+pub next_tag : (l : List ℕ) (at : ℕ) → markup l at ≡ Ok Tag → next (60 ∷ l) at ≡ tag l at
 unfolding next ignorable
 next_tag l at h = rw (h, sub_self at)
 
 token_comes : (f : List ℕ) (k : Token) (l : List ℕ) (at : ℕ) → Tags f k → tokens (60 ∷ (f ++ 62 ∷ l)) at ≡ later_token at k ∷ tokens l (at + suc (suc (length f)))
 token_comes f k l at h =
     let n = suc (suc (length f)) in
-    let m : markup (f ++ 62 ∷ l) at ≡ Tag = markup_later at (f ++ 62 ∷ l) 0 ∙ ap (later_markup at) (h.none l) in
+    let m : markup (f ++ 62 ∷ l) at ≡ Ok Tag = markup_later at (f ++ 62 ∷ l) 0 ∙ ap (later_markup at) (h.none l) in
     let e : next (60 ∷ (f ++ 62 ∷ l)) at ≡ more (later_token at k) (far at n) = next_tag (f ++ 62 ∷ l) at m ∙ tag_later at (f ++ 62 ∷ l) 0 ∙ ap (later_next at) (h.is l) in
     let i : far at n - at ≡ n = omega (arith, far_is at n) in
     let j : far at n ≡ at + n = omega (arith, far_is at n) in

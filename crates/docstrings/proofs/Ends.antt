@@ -9,14 +9,14 @@ use native.Mathlib.Omega.{arith}
 use lib.Dec.{eqb}
 use lib.ListN.{length, take, drop, length-append, take-append-drop}
 use lib.Seq.{length-take-le}
+use Rattle.std.specs.Prelude.{Result, Ok, Err}
+use Rattle.faults.specs.declared.Fault.{Fault}
 use Rattle.slices.specs.Bytes.{if, bytes, other, span, past, empty, starts}
 use Rattle.slices.proofs.Runs.{and_both, starts_fits}
 use Rattle.scan.specs.Classes.{white, name_byte}
-use Rattle.scan.specs.Ignorable.{Mode, bare, quoted, quote, changed, ends, declaration_in, declared, markup, seek}
-use Rattle.scan.specs.declared.Scan.{Scan}
-use Rattle.scan.specs.declared.Scan.TheVariants.{Fault, At}
+use Rattle.scan.specs.Ignorable.{Mode, bare, quoted, quote, changed, ends, declaration_in, declared, markup, seek, ignored}
 use Rattle.scan.specs.declared.Markup.{Markup}
-use Rattle.scan.specs.declared.Markup.TheVariants as markups
+use Rattle.scan.specs.declared.Markup.TheVariants.{Tag, Ignored}
 use Rattle.document.specs.Tags.{Attr, Found, absent, found, close_quote, open_quote, equals, named, spaced, attribute, Gathered, gathered, too_many, with, another, no_more, gather, Shown, Checked, good, check}
 use Rattle.document.specs.Tags as tags
 use Rattle.document.specs.Tokens.{Next, more, last, slash_end, tag_end, with_shown, with_attrs, opening, close_end, closing, tag}
@@ -60,9 +60,9 @@ module _ (l₀ : List ℕ) (p₀ : ℕ) where
 
   -- ---- what is ignored
 
-  abbrev ScanEnds : Scan → Type 0
-  ScanEnds (Fault n q) = Unit {0}
-  ScanEnds (At q) = Ended q
+  abbrev ScanEnds : Result ℕ Fault → Type 0
+  ScanEnds (Err f) = Unit {0}
+  ScanEnds (Ok q) = Ended q
 
   key_ends : (k l : List ℕ) (p : ℕ) → starts (k ++ 62 ∷ []) l ≡ true → Goes l p → Ended (p + length (k ++ 62 ∷ []))
   key_ends [] [] p t g = absurd (let z : ◌≡◌ {A = ℕ} 0 1 = cc in omega arith)
@@ -112,9 +112,14 @@ module _ (l₀ : List ℕ) (p₀ : ℕ) where
       seek_ends 23 (93 ∷ 93 ∷ []) (at + 9) (drop 7 l) (at + 9) (rw e at (dropped 7 l (at + 2) (starts_fits (bytes "[CDATA[") l t) g)))
       (λ t. declaration_ends (bare 0) l (at + 2) g))
 
-  abbrev pub MarkupEnds : Markup → Type 0
-  MarkupEnds markups.Tag = Unit {0}
-  MarkupEnds (markups.Ignored s) = ScanEnds s
+  abbrev pub MarkupEnds : Result Markup Fault → Type 0
+  MarkupEnds (Ok Tag) = Unit {0}
+  MarkupEnds (Ok (Ignored p)) = ScanEnds (Ok p)
+  MarkupEnds (Err f) = ScanEnds (Err f)
+
+  marked : (x : Result ℕ Fault) → ScanEnds x → MarkupEnds (ignored x)
+  marked (Ok p) h = h
+  marked (Err f) h = h
 
   markup_goes : (l : List ℕ) (at : ℕ) → Goes l (suc at) → MarkupEnds (markup l at)
   markup_goes [] at g = tt
@@ -122,8 +127,8 @@ module _ (l₀ : List ℕ) (p₀ : ℕ) where
       let e : suc (suc at) ≡ at + 2 = omega arith in
       let h = rw e at (on g) in
       either MarkupEnds (eqb b 33)
-      (λ t. declared_ends l at h)
-      (λ t. either MarkupEnds (eqb b 63) (λ t. seek_ends 24 (63 ∷ []) (at + 2) l (at + 2) h) (λ t. tt))
+      (λ t. marked (declared l at) (declared_ends l at h))
+      (λ t. either MarkupEnds (eqb b 63) (λ t. marked (seek 24 (bytes "?>") (at + 2) l (at + 2)) (seek_ends 24 (63 ∷ []) (at + 2) l (at + 2) h)) (λ t. tt))
 
   -- ---- attributes
 
@@ -221,7 +226,7 @@ module _ (l₀ : List ℕ) (p₀ : ℕ) where
   tag_goes (b ∷ l) at g = either NextEnds (eqb b 47) (λ t. closing_ends l at (on g)) (λ t. opening_ends (b ∷ l) at g)
 
 -- after a `<`, whose place is given
-pub ignored_ended : (l : List ℕ) (at q : ℕ) → markup l at ≡ markups.Ignored (At q) → Ended l (suc at) q
+pub ignored_ended : (l : List ℕ) (at q : ℕ) → markup l at ≡ Ok (Ignored q) → Ended l (suc at) q
 ignored_ended l at q e = rw e at (markup_goes l (suc at) l at (begins l (suc at)))
 
 pub tag_ended : (l : List ℕ) (at : ℕ) → NextEnds l (suc at) (tag l at)

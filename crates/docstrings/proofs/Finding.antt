@@ -9,11 +9,12 @@ use native.Mathlib.Omega.{arith}
 use lib.Dec.{eqb}
 use lib.ListN.{length, drop, length-append}
 use lib.Seq.{drop-append_seam}
+use Rattle.std.specs.Prelude.{Result, Ok, Err}
+use Rattle.faults.specs.declared.Fault.{Fault}
 use Rattle.slices.specs.Bytes.{if, bytes, span, past, empty}
+use Rattle.scan.proofs.Marked.{ignored_no_tag}
 use Rattle.scan.specs.Classes.{white, name_byte}
-use Rattle.scan.specs.Ignorable.{declared, markup, seek, further, ignorable_from, ignorable}
-use Rattle.scan.specs.declared.Scan.{Scan}
-use Rattle.scan.specs.declared.Scan.TheVariants.{Fault, At}
+use Rattle.scan.specs.Ignorable.{declared, markup, seek, further, ignorable_from, ignorable, ignored}
 use Rattle.scan.specs.declared.Markup.{Markup}
 use Rattle.scan.specs.declared.Markup.TheVariants.{Tag, Ignored}
 use Rattle.document.specs.Tags.{Gathered, gathered, too_many, gather, Shown, Checked, good, check}
@@ -28,42 +29,42 @@ use Rattle.docstrings.proofs.Atoms.{Marks, Tags, Atom, text, mark, bytes_of, Lea
 
 -- ---- markup that is ignored
 
-module _ (l : List ℕ) (at q : ℕ) (e : markup l at ≡ Ignored (At q)) where
-  ignored : Ended l (suc at) q
-  ignored = ignored_ended l at q e
+module _ (l : List ℕ) (at q : ℕ) (e : markup l at ≡ Ok (Ignored q)) where
+  ends : Ended l (suc at) q
+  ends = ignored_ended l at q e
 
-  ignored_here : markup (ignored.front ++ 62 ∷ ignored.rest) 0 ≡ Ignored (At (suc (suc (length ignored.front))))
+  ignored_here : markup (ends.front ++ 62 ∷ ends.rest) 0 ≡ Ok (Ignored (suc (suc (length ends.front))))
   ignored_here =
-      let c = ignored.front ++ 62 ∷ ignored.rest in
-      let i : later_markup at (markup c 0) ≡ Ignored (At q) = sym (markup_later at c 0) ∙ rw (← ignored.is) e in
+      let c = ends.front ++ 62 ∷ ends.rest in
+      let i : later_markup at (markup c 0) ≡ Ok (Ignored q) = sym (markup_later at c 0) ∙ rw (← ends.is) e in
       go (markup c 0) i
     where
-      go : (m : Markup) → later_markup at m ≡ Ignored (At q) → m ≡ Ignored (At (suc (suc (length ignored.front))))
-      go Tag i = let z : ◌≡◌ {A = ℕ} 0 1 = cc in absurd (omega arith)
-      go (Ignored (Fault n p)) i = let z : ◌≡◌ {A = ℕ} 0 1 = cc in absurd (omega arith)
-      go (Ignored (At p)) i =
+      go : (m : Result Markup Fault) → later_markup at m ≡ Ok (Ignored q) → m ≡ Ok (Ignored (suc (suc (length ends.front))))
+      go (Ok Tag) i = let z : ◌≡◌ {A = ℕ} 0 1 = cc in absurd (omega arith)
+      go (Err f) i = let z : ◌≡◌ {A = ℕ} 0 1 = cc in absurd (omega arith)
+      go (Ok (Ignored p)) i =
           let z : far at p ≡ q = cc in
-          let y : p ≡ suc (suc (length ignored.front)) = omega (arith, far_is at p, ignored.long) in
-          ap (λ k. Ignored (At k)) y
+          let y : p ≡ suc (suc (length ends.front)) = omega (arith, far_is at p, ends.long) in
+          ap (λ k. Ok (Ignored k)) y
 
-  ignored_marks : Marks ignored.front
+  ignored_marks : Marks ends.front
   ignored_marks r =
-      let f = ignored.front in
+      let f = ends.front in
       let n : suc (suc (length f)) ≤ 1 + length (f ++ 62 ∷ []) = rw (length-append f (62 ∷ [])) (omega arith) in
-      let x : markup ((f ++ 62 ∷ []) ++ ignored.rest) 0 ≡ Ignored (At (suc (suc (length f)))) = rw (append_assoc f (62 ∷ []) ignored.rest) ignored_here in
-      rw (append_assoc f (62 ∷ []) r) at (markup_local ignored.rest r (f ++ 62 ∷ []) 0 (suc (suc (length f))) x n)
+      let x : markup ((f ++ 62 ∷ []) ++ ends.rest) 0 ≡ Ok (Ignored (suc (suc (length f)))) = rw (append_assoc f (62 ∷ []) ends.rest) ignored_here in
+      rw (append_assoc f (62 ∷ []) r) at (markup_local ends.rest r (f ++ 62 ∷ []) 0 (suc (suc (length f))) x n)
 
 -- ---- a tag
 
-tag_first : (b : ℕ) (l m : List ℕ) (at p : ℕ) → markup (b ∷ l) at ≡ Tag → markup (b ∷ m) p ≡ Tag
+tag_first : (b : ℕ) (l m : List ℕ) (at p : ℕ) → markup (b ∷ l) at ≡ Ok Tag → markup (b ∷ m) p ≡ Ok Tag
 tag_first b l m at p e = go (eqb b 33) (eqb b 63) e
   where
-    go : (t u : Bool) → if t (Ignored (declared l at)) (if u (Ignored (seek 24 (bytes "?>") (at + 2) l (at + 2))) Tag) ≡ Tag → if t (Ignored (declared m p)) (if u (Ignored (seek 24 (bytes "?>") (p + 2) m (p + 2))) Tag) ≡ Tag
-    go true u e = let z : ◌≡◌ {A = ℕ} 0 1 = cc in absurd (omega arith)
-    go false true e = let z : ◌≡◌ {A = ℕ} 0 1 = cc in absurd (omega arith)
+    go : (t u : Bool) → if t (ignored (declared l at)) (if u (ignored (seek 24 (bytes "?>") (at + 2) l (at + 2))) (Ok Tag)) ≡ Ok Tag → if t (ignored (declared m p)) (if u (ignored (seek 24 (bytes "?>") (p + 2) m (p + 2))) (Ok Tag)) ≡ Ok Tag
+    go true u e = ignored_no_tag (declared l at) e
+    go false true e = ignored_no_tag (seek 24 (bytes "?>") (at + 2) l (at + 2)) e
     go false false e = refl
 
-tag_any : (f r s : List ℕ) (at p : ℕ) → markup (f ++ 62 ∷ r) at ≡ Tag → markup (f ++ 62 ∷ s) p ≡ Tag
+tag_any : (f r s : List ℕ) (at p : ℕ) → markup (f ++ 62 ∷ r) at ≡ Ok Tag → markup (f ++ 62 ∷ s) p ≡ Ok Tag
 tag_any [] r s at p e = refl
 tag_any (b ∷ f) r s at p e = tag_first b (f ++ 62 ∷ r) (f ++ 62 ∷ s) at p e
 
@@ -82,7 +83,7 @@ here (more k p) d t q e =
     record { kind = k; place = p; is = refl; later = x; long = y }
 here (last k) d t q e = let z : ◌≡◌ {A = ℕ} 0 1 = cc in absurd (omega arith)
 
-module _ (l : List ℕ) (at : ℕ) (t : Token) (q : ℕ) (h : markup l at ≡ Tag) (e : tag l at ≡ more t q) where
+module _ (l : List ℕ) (at : ℕ) (t : Token) (q : ℕ) (h : markup l at ≡ Ok Tag) (e : tag l at ≡ more t q) where
   shut : Ended l (suc at) q
   shut = rw e at (tag_ended l at)
 
@@ -94,7 +95,7 @@ module _ (l : List ℕ) (at : ℕ) (t : Token) (q : ℕ) (h : markup l at ≡ Ta
       let f = shut.front in
       let r = shut.rest in
       let p : stood.place ≡ suc (suc (length f)) = omega (arith, stood.long, far_is at stood.place, shut.long) in
-      let n : (s : List ℕ) → markup (f ++ 62 ∷ s) 0 ≡ Tag = λ s. tag_any f r s at 0 (rw (← shut.is) h) in
+      let n : (s : List ℕ) → markup (f ++ 62 ∷ s) 0 ≡ Ok Tag = λ s. tag_any f r s at 0 (rw (← shut.is) h) in
       let x : next (60 ∷ ((f ++ 62 ∷ []) ++ r)) 0 ≡ more stood.kind (suc (suc (length f))) = rw (append_assoc f (62 ∷ []) r) (next_tag (f ++ 62 ∷ r) 0 (n r) ∙ stood.is ∙ ap (more stood.kind) p) in
       let m : suc (suc (length f)) ≤ 0 + suc (length (f ++ 62 ∷ [])) = rw (length-append f (62 ∷ [])) (omega arith) in
       record {
@@ -106,7 +107,7 @@ module _ (l : List ℕ) (at : ℕ) (t : Token) (q : ℕ) (h : markup l at ≡ Ta
 
 abbrev Begins : List ℕ → ℕ → Type 0
 Begins [] p = Unit {0}
-Begins (b ∷ l) p = (b ≡ 60) × (markup l p ≡ Tag)
+Begins (b ∷ l) p = (b ≡ 60) × (markup l p ≡ Ok Tag)
 
 record Passes (l : List ℕ) (at p : ℕ) : Type 0 where
   atoms : List Atom
@@ -116,27 +117,27 @@ record Passes (l : List ℕ) (at p : ℕ) : Type 0 where
   leads : (ns : List (List ℕ)) → Leads atoms ns ns
   begins : Begins rest p
 
-ended : (at p : ℕ) → At at ≡ At p → Passes [] at p
+ended : (at p : ℕ) → ◌≡◌ {A = Result ℕ Fault} (Ok at) (Ok p) → Passes [] at p
 ended at p e = let z : at ≡ p = cc in record { atoms = []; rest = []; is = refl; long = omega arith; leads = λ ns. refl; begins = tt }
 
 -- markup, and what follows it
 past_mark : (b : ℕ) (l f r x y : List ℕ) → b ≡ 60 → l ≡ f ++ 62 ∷ r → r ≡ x ++ y → b ∷ l ≡ 60 ∷ (f ++ 62 ∷ x) ++ y
 past_mark b l f r x y c e g = rw c (ap (◌∷◌ 60) (e ∙ ap (λ m. f ++ 62 ∷ m) g ∙ sym (append_assoc f (62 ∷ x) y)))
 
-ignorable_passes : (n : ℕ) (l : List ℕ) (at p : ℕ) → length l ≤ n → ignorable_from 0 l at ≡ At p → Passes l at p
+ignorable_passes : (n : ℕ) (l : List ℕ) (at p : ℕ) → length l ≤ n → ignorable_from 0 l at ≡ Ok p → Passes l at p
 ignorable_passes zero [] at p h e = ended at p e
 ignorable_passes zero (b ∷ l) at p h e = absurd (omega arith)
 ignorable_passes (suc n) [] at p h e = ended at p e
 ignorable_passes (suc n) (b ∷ l) at p h e = go (eqb b 60) refl e (λ m x g f. ignorable_passes n m x p g f)
   where
-    marked : (m : Markup) → markup l at ≡ m → b ≡ 60 → further m at (λ q. ignorable_from (q - suc at) l (suc at)) ≡ At p → ((m : List ℕ) (x : ℕ) → length m ≤ n → ignorable_from 0 m x ≡ At p → Passes m x p) → Passes (b ∷ l) at p
-    marked Tag f c e i = let z : at ≡ p = cc in record { atoms = []; rest = b ∷ l; is = refl; long = omega arith; leads = λ ns. refl; begins = (c, rw (← z) f) }
-    marked (Ignored (Fault k x)) f c e i = let z : ◌≡◌ {A = ℕ} 0 1 = cc in absurd (omega arith)
-    marked (Ignored (At q)) f c e i =
-        let d = ignored l at q f in
+    marked : (m : Result Markup Fault) → markup l at ≡ m → b ≡ 60 → further m at (λ q. ignorable_from (q - suc at) l (suc at)) ≡ Ok p → ((m : List ℕ) (x : ℕ) → length m ≤ n → ignorable_from 0 m x ≡ Ok p → Passes m x p) → Passes (b ∷ l) at p
+    marked (Ok Tag) f c e i = let z : at ≡ p = cc in record { atoms = []; rest = b ∷ l; is = refl; long = omega arith; leads = λ ns. refl; begins = (c, rw (← z) f) }
+    marked (Err x) f c e i = let z : ◌≡◌ {A = ℕ} 0 1 = cc in absurd (omega arith)
+    marked (Ok (Ignored q)) f c e i =
+        let d = ends l at q f in
         let y : q - suc at ≡ suc (length d.front) = omega (arith, d.long) in
         let o : length d.rest ≤ n = omega (arith, ap length d.is, length-append d.front (62 ∷ d.rest)) in
-        let w : ignorable_from 0 d.rest (suc at + suc (length d.front)) ≡ At p =
+        let w : ignorable_from 0 d.rest (suc at + suc (length d.front)) ≡ Ok p =
         sym (ignorable_taken d.front d.rest (suc at))
         ∙ ap (λ m. ignorable_from (suc (length d.front)) m (suc at)) (sym d.is)
         ∙ ap (λ k. ignorable_from k l (suc at)) (sym y)
@@ -151,7 +152,7 @@ ignorable_passes (suc n) (b ∷ l) at p h e = go (eqb b 60) refl e (λ m x g f. 
           begins = r.begins;
         }
 
-    go : (t : Bool) → eqb b 60 ≡ t → if t (further (markup l at) at (λ q. ignorable_from (q - suc at) l (suc at))) (ignorable_from 0 l (suc at)) ≡ At p → ((m : List ℕ) (x : ℕ) → length m ≤ n → ignorable_from 0 m x ≡ At p → Passes m x p) → Passes (b ∷ l) at p
+    go : (t : Bool) → eqb b 60 ≡ t → if t (further (markup l at) at (λ q. ignorable_from (q - suc at) l (suc at))) (ignorable_from 0 l (suc at)) ≡ Ok p → ((m : List ℕ) (x : ℕ) → length m ≤ n → ignorable_from 0 m x ≡ Ok p → Passes m x p) → Passes (b ∷ l) at p
     go true f e i = marked (markup l at) refl (eqb-true b 60 f) e i
     go false f e i =
         let r = i l (suc at) (omega arith) e in
@@ -196,9 +197,9 @@ next_taken l at t q e = go (ignorable l at) refl e
           came = rw (← d.is) e;
         }
 
-    go : (s : Scan) → ignorable l at ≡ s → past_ignorable s l at ≡ more t q → Taken l at t q
-    go (Fault n p) f e = let z : ◌≡◌ {A = ℕ} 0 1 = cc in absurd (omega arith)
-    go (At p) f e =
+    go : (s : Result ℕ Fault) → ignorable l at ≡ s → past_ignorable s l at ≡ more t q → Taken l at t q
+    go (Err x) f e = let z : ◌≡◌ {A = ℕ} 0 1 = cc in absurd (omega arith)
+    go (Ok p) f e =
         let w = ignorable_passes (length l) l at p (omega arith) f in
         let n : p - at ≡ length (bytes_of w.atoms) = omega (arith, w.long) in
         let d : drop (p - at) l ≡ w.rest = rw n (ap (drop (length (bytes_of w.atoms))) w.is ∙ drop-append_seam (bytes_of w.atoms) w.rest) in

@@ -7,11 +7,12 @@ use mathlib.Core.Bool.{Bool, true, false}
 use native.Mathlib.Omega.{arith}
 use lib.Dec.{eqb}
 use lib.ListN.{length, drop}
+use Rattle.std.specs.Prelude.{Result, Ok, Err}
+use Rattle.faults.specs.declared.Fault.{Fault}
 use Rattle.slices.specs.Bytes.{if, bytes, other, span, past, empty, starts}
+use Rattle.faults.specs.Fault.{fault as a_fault}
 use Rattle.scan.specs.Classes.{white, name_byte}
-use Rattle.scan.specs.Ignorable.{Mode, bare, quoted, quote, changed, ends, unended, declaration_in, declared, markup, seek}
-use Rattle.scan.specs.declared.Scan.{Scan}
-use Rattle.scan.specs.declared.Scan.TheVariants.{Fault, At}
+use Rattle.scan.specs.Ignorable.{Mode, bare, quoted, quote, changed, ends, unended, declaration_in, declared, markup, seek, ignored}
 use Rattle.scan.specs.declared.Markup.{Markup}
 use Rattle.scan.specs.declared.Markup.TheVariants.{Tag, Ignored}
 use Rattle.answers.specs.Text.{Text, text, wrong}
@@ -31,13 +32,18 @@ pub far_is : (d p : ℕ) → far d p ≡ p + d
 far_is d zero = omega arith
 far_is d (suc p) = omega (arith, far_is d p)
 
-abbrev pub later_scan : ℕ → Scan → Scan
-later_scan d (Fault n p) = Fault n (far d p)
-later_scan d (At p) = At (far d p)
+abbrev pub later_scan : ℕ → Result ℕ Fault → Result ℕ Fault
+later_scan d (Err f) = Err (a_fault f.number (far d f.place))
+later_scan d (Ok p) = Ok (far d p)
 
-abbrev pub later_markup : ℕ → Markup → Markup
-later_markup d Tag = Tag
-later_markup d (Ignored s) = Ignored (later_scan d s)
+abbrev pub later_markup : ℕ → Result Markup Fault → Result Markup Fault
+later_markup d (Ok Tag) = Ok Tag
+later_markup d (Ok (Ignored p)) = Ok (Ignored (far d p))
+later_markup d (Err f) = Err (a_fault f.number (far d f.place))
+
+later_ignored : (d : ℕ) (x : Result ℕ Fault) → ignored (later_scan d x) ≡ later_markup d (ignored x)
+later_ignored d (Ok p) = refl
+later_ignored d (Err f) = refl
 
 abbrev later_mode : ℕ → Mode → Mode
 later_mode d (bare n) = bare n
@@ -92,7 +98,7 @@ module _ (d : ℕ) where
 
   seek_later : (n : ℕ) (key : List ℕ) (c : ℕ) (l : List ℕ) (p : ℕ) → seek n key (far d c) l (far d p) ≡ later_scan d (seek n key c l p)
   seek_later n key c [] p = refl
-  seek_later n key c (b ∷ l) p = branch (later_scan d) (starts key (b ∷ l)) (ap At (plus p d (length key))) (seek_later n key c l (suc p))
+  seek_later n key c (b ∷ l) p = branch (later_scan d) (starts key (b ∷ l)) (ap Ok (plus p d (length key))) (seek_later n key c l (suc p))
 
   changed_later : (m : Mode) (b p : ℕ) → changed (later_mode d m) b (far d p) ≡ later_mode d (changed m b p)
   changed_later (bare n) b p = branch (later_mode d) (quote b) refl (branch (later_mode d) (eqb b 91) refl (branch (later_mode d) (eqb b 93) refl refl))
@@ -109,7 +115,7 @@ module _ (d : ℕ) where
   declaration_later : (m : Mode) (l : List ℕ) (p : ℕ) → declaration_in (later_mode d m) l (far d p) ≡ later_scan d (declaration_in m l p)
   declaration_later m [] p = unended_later m p
   declaration_later m (b ∷ l) p =
-      ap (λ t. if t (At (suc (far d p))) (declaration_in (changed (later_mode d m) b (far d p)) l (suc (far d p)))) (ends_later m b)
+      ap (λ t. if t (Ok (suc (far d p))) (declaration_in (changed (later_mode d m) b (far d p)) l (suc (far d p)))) (ends_later m b)
       ∙ branch (later_scan d) (ends m b) refl (ap (λ k. declaration_in k l (suc (far d p))) (changed_later m b p) ∙ declaration_later (changed m b p) l (suc p))
 
   declared_later : (l : List ℕ) (p : ℕ) → declared l (far d p) ≡ later_scan d (declared l p)
@@ -124,8 +130,8 @@ module _ (d : ℕ) where
   markup_later [] p = refl
   markup_later (b ∷ l) p =
       branch (later_markup d) (eqb b 33)
-      (ap Ignored (declared_later l p))
-      (branch (later_markup d) (eqb b 63) (ap Ignored (rw (plus p d 2) (seek_later 24 (bytes "?>") (p + 2) l (p + 2)))) refl)
+      (ap ignored (declared_later l p) ∙ later_ignored d (declared l p))
+      (branch (later_markup d) (eqb b 63) (ap ignored (rw (plus p d 2) (seek_later 24 (bytes "?>") (p + 2) l (p + 2))) ∙ later_ignored d (seek 24 (bytes "?>") (p + 2) l (p + 2))) refl)
 
   -- ---- an attribute
 

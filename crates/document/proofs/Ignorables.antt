@@ -7,11 +7,11 @@ use mathlib.Core.Bool.{true}
 use native.Mathlib.Omega.{arith}
 use lib.Dec.{eqb}
 use lib.ListN.{length, drop, length-drop}
+use Rattle.std.specs.Prelude.{Result, Ok, Err}
+use Rattle.faults.specs.declared.Fault.{Fault}
 use Rattle.slices.specs.Bytes.{bytes, starts}
 use Rattle.slices.proofs.Runs.{starts_fits}
-use Rattle.scan.specs.Ignorable.{Mode, bare, quoted, quote, changed, ends, unended, declaration_in, declared, markup, seek, further, ignorable_from, ignorable}
-use Rattle.scan.specs.declared.Scan.{Scan}
-use Rattle.scan.specs.declared.Scan.TheVariants.{Fault, At}
+use Rattle.scan.specs.Ignorable.{Mode, bare, quoted, quote, changed, ends, unended, declaration_in, declared, markup, seek, further, ignorable_from, ignorable, ignored}
 use Rattle.scan.specs.declared.Markup.{Markup}
 use Rattle.scan.specs.declared.Markup.TheVariants.{Tag, Ignored}
 use Rattle.document.proofs.Tests.{either}
@@ -22,9 +22,9 @@ abbrev pub Unended : ℕ → Type 0
 Unended n = among n (22 ∷ 23 ∷ 24 ∷ 25 ∷ []) ≡ true
 
 -- a scan comes to a place from `from` to `top`, or to a fault at a place up to `top`
-abbrev pub Scanned : ℕ → ℕ → Scan → Type 0
-Scanned from top (Fault n p) = Unended n × (p ≤ top)
-Scanned from top (At p) = (from ≤ p) × (p ≤ top)
+abbrev pub Scanned : ℕ → ℕ → Result ℕ Fault → Type 0
+Scanned from top (Err f) = Unended f.number × (f.place ≤ top)
+Scanned from top (Ok p) = (from ≤ p) × (p ≤ top)
 
 module _ (from top : ℕ) where
   seek_within : (n : ℕ) → Unended n → (key : List ℕ) (c : ℕ) (l : List ℕ) (p : ℕ) → c ≤ top → from ≤ p → p + length l ≡ top → Scanned from top (seek n key c l p)
@@ -69,17 +69,22 @@ module _ (from top : ℕ) where
       (λ t. declaration_within (bare 0) l (at + 2) f (omega arith) tt))
 
   -- what begins at a `<` is ignored up to such a place
-  abbrev Marked : Markup → Type 0
-  Marked Tag = Unit {0}
-  Marked (Ignored r) = Scanned from top r
+  abbrev Marked : Result Markup Fault → Type 0
+  Marked (Ok Tag) = Unit {0}
+  Marked (Ok (Ignored p)) = Scanned from top (Ok p)
+  Marked (Err f) = Scanned from top (Err f)
+
+  marked : (x : Result ℕ Fault) → Scanned from top x → Marked (ignored x)
+  marked (Ok p) h = h
+  marked (Err f) h = h
 
   markup_within : (l : List ℕ) (at : ℕ) → from ≤ suc at → suc at + length l ≡ top → Marked (markup l at)
   markup_within [] at f e = tt
   markup_within (b ∷ l) at f e =
       either Marked (eqb b 33)
-      (λ t. declared_within l at (omega arith) (omega arith))
+      (λ t. marked (declared l at) (declared_within l at (omega arith) (omega arith)))
       (λ t. either Marked (eqb b 63)
-      (λ t. seek_within 24 refl (bytes "?>") (at + 2) l (at + 2) (omega arith) (omega arith) (omega arith))
+      (λ t. marked (seek 24 (bytes "?>") (at + 2) l (at + 2)) (seek_within 24 refl (bytes "?>") (at + 2) l (at + 2) (omega arith) (omega arith) (omega arith)))
       (λ t. tt))
 
 module _ (from top : ℕ) where
@@ -90,10 +95,10 @@ module _ (from top : ℕ) where
       (λ t. go (markup l at) (markup_within (suc at) top l at (omega arith) (omega arith)) (λ k h. from_within k l (suc at) (omega arith) h (omega arith)))
       (λ t. from_within 0 l (suc at) (omega arith) (omega arith) (omega arith))
     where
-      go : (m : Markup) → Marked (suc at) top m → ((k : ℕ) → k ≤ length l → Scanned from top (ignorable_from k l (suc at))) → Scanned from top (further m at (λ p. ignorable_from (p - suc at) l (suc at)))
-      go Tag w i = (omega arith, omega arith)
-      go (Ignored (Fault n p)) w i = w
-      go (Ignored (At p)) w i = i (p - suc at) (omega arith)
+      go : (m : Result Markup Fault) → Marked (suc at) top m → ((k : ℕ) → k ≤ length l → Scanned from top (ignorable_from k l (suc at))) → Scanned from top (further m at (λ p. ignorable_from (p - suc at) l (suc at)))
+      go (Ok Tag) w i = (omega arith, omega arith)
+      go (Err f) w i = w
+      go (Ok (Ignored p)) w i = i (p - suc at) (omega arith)
   from_within (suc k) (b ∷ l) at f h e = from_within k l (suc at) (omega arith) (omega arith) (omega arith)
 
 pub ignorable_within : (l : List ℕ) (at : ℕ) → Scanned at (at + length l) (ignorable l at)

@@ -11,6 +11,7 @@ use native.Mathlib.Omega.{arith}
 use lib.Dec.{eqb}
 use lib.ListN.{length, take}
 use lib.Seq.{take-take}
+use Rattle.std.specs.Prelude.{Result, Ok, Err}
 use Rattle.slices.specs.Bytes.{if}
 use Rattle.document.specs.Kinds as kinds
 use Rattle.document.specs.Tags.{Shown}
@@ -22,8 +23,8 @@ use Rattle.document.specs.Outcome.{Lent, lent, Stands, Bounded, Ready, Steps, En
 use Rattle.document.specs.declared.StartTag.{StartTag}
 use Rattle.document.specs.declared.Fill.{Fill}
 use Rattle.document.specs.declared.Refusal.{Refusal}
-use Rattle.document.specs.declared.Answer.{Answer}
 use Rattle.document.specs.declared.Next.{Next}
+use Rattle.document.specs.declared.Closing.{Closing}
 
 pub moved_stands : {u : Tables Shown} {b : Lent} {f : Fill} (at : ℕ) → Stands u b f → Stands u b (moved f at)
 moved_stands at s = record { rows = s.rows; many = s.many; warnings = s.warnings; text = s.text }
@@ -61,8 +62,8 @@ module _ {doc hs : List ℕ} {docs : Bool} {at len i : ℕ} {f₀ : Fill} {b₀ 
     leads = λ k fs u e d s. (u, s, refl, refl);
   }
 
-  module _ {f : Fill} {b : Lent} (g : Sofar doc hs docs at len i f₀ b₀ f b) {r : Next} (s : Steps doc f.at at len r) where
-    pub loop_fault : {x : Refusal} → r ≡ Next.Fault x → Children doc hs docs at len i f₀ b₀ b (Answer.Fault x)
+  module _ {f : Fill} {b : Lent} (g : Sofar doc hs docs at len i f₀ b₀ f b) {r : Result Next Refusal} (s : Steps doc f.at at len r) where
+    pub loop_fault : {x : Refusal} → r ≡ Err x → Children doc hs docs at len i f₀ b₀ b (Err x)
     loop_fault q = record {
       onward = tt;
       ends = λ k fs u e d z.
@@ -70,9 +71,9 @@ module _ {doc hs : List ℕ} {docs : Bool} {at len i : ℕ} {f₀ : Fill} {b₀ 
           x.2 ∙ (rw q at s).leads (element k (name_at doc at len) i) fs x.0 refl;
     }
 
-    pub loop_close : {lt end : ℕ} {m : Fill} → r ≡ Next.Close lt end → m ≡ moved f end → Children doc hs docs at len i f₀ b₀ b (Answer.Done m)
-    loop_close {lt} {end} q y =
-        let c : Steps doc f.at at len (Next.Close lt end) = rw q at s in
+    pub loop_close : {q : Closing} {m : Fill} → r ≡ Ok (Next.Close q) → m ≡ moved f q.end → Children doc hs docs at len i f₀ b₀ b (Ok m)
+    loop_close {q} e y =
+        let c : Steps doc f.at at len (Ok (Next.Close q)) = rw e at s in
         rw y
         record {
           onward = (
@@ -87,11 +88,11 @@ module _ {doc hs : List ℕ} {docs : Bool} {at len i : ℕ} {f₀ : Fill} {b₀ 
           );
           ends = λ k fs u e d z.
               let x = g.leads k fs u e d z in
-              (x.0, moved_stands end x.1, x.2 ∙ c.leads (element k (name_at doc at len) i) fs x.0 refl, x.3);
+              (x.0, moved_stands q.end x.1, x.2 ∙ c.leads (element k (name_at doc at len) i) fs x.0 refl, x.3);
         }
 
-    module _ {c : StartTag} (q : r ≡ Next.Start c) where
-      start : Steps doc f.at at len (Next.Start c)
+    module _ {c : StartTag} (q : r ≡ Ok (Next.Start c)) where
+      start : Steps doc f.at at len (Ok (Next.Start c))
       start = rw q at s
 
       pub loop_ready : {m : Fill} → m ≡ moved f c.end → Ready doc c m
@@ -103,11 +104,11 @@ module _ {doc hs : List ℕ} {docs : Bool} {at len i : ℕ} {f₀ : Fill} {b₀ 
         text = omega (arith, g.bounds.text, start.onward.0);
       }
 
-      module _ {b' : Lent} {a : Answer} {m : Fill} (h : Child doc hs docs c i m b b' a) (y : m ≡ moved f c.end) where
-        taken : {x : Answer} → a ≡ x → Child doc hs docs c i (moved f c.end) b b' x
+      module _ {b' : Lent} {a : Result Fill Refusal} {m : Fill} (h : Child doc hs docs c i m b b' a) (y : m ≡ moved f c.end) where
+        taken : {x : Result Fill Refusal} → a ≡ x → Child doc hs docs c i (moved f c.end) b b' x
         taken w = rw (y, w) at h
 
-        pub loop_child_fault : {x : Refusal} → a ≡ Answer.Fault x → Children doc hs docs at len i f₀ b₀ b' (Answer.Fault x)
+        pub loop_child_fault : {x : Refusal} → a ≡ Err x → Children doc hs docs at len i f₀ b₀ b' (Err x)
         loop_child_fault w = record {
           onward = tt;
           ends = λ k fs u e d z.
@@ -116,9 +117,9 @@ module _ {doc hs : List ℕ} {docs : Bool} {at len i : ℕ} {f₀ : Fill} {b₀ 
               x.2 ∙ v'.2 ∙ (taken w).ends k (name_at doc at len) v'.0 fs x.0 e d v'.1 (moved_stands c.end x.1);
         }
 
-        pub loop_child : {g' : Fill} → a ≡ Answer.Done g' → Sofar doc hs docs at len i f₀ b₀ g' b'
+        pub loop_child : {g' : Fill} → a ≡ Ok g' → Sofar doc hs docs at len i f₀ b₀ g' b'
         loop_child {g'} w =
-            let j : Child doc hs docs c i (moved f c.end) b b' (Answer.Done g') = taken w in
+            let j : Child doc hs docs c i (moved f c.end) b b' (Ok g') = taken w in
             record {
               since = omega (arith, g.since, start.onward.0, start.onward.1.inside, j.onward.0);
               grown = omega (arith, g.grown, j.onward.1);
@@ -131,9 +132,9 @@ module _ {doc hs : List ℕ} {docs : Bool} {at len i : ℕ} {f₀ : Fill} {b₀ 
                   (o.0, o.1, x.2 ∙ v'.2 ∙ o.2, o.3 ∙ x.3);
             }
 
-        pub loop_less : {g' : Fill} → a ≡ Answer.Done g' → length doc - g'.at < length doc - f.at
+        pub loop_less : {g' : Fill} → a ≡ Ok g' → length doc - g'.at < length doc - f.at
         loop_less {g'} w =
-            let j : Child doc hs docs c i (moved f c.end) b b' (Answer.Done g') = taken w in
+            let j : Child doc hs docs c i (moved f c.end) b b' (Ok g') = taken w in
             omega (arith, start.onward.0, start.onward.1.inside, j.onward.0, j.onward.2.inside)
 
 pub ruleset loops = (moved_owner, loop_begins, loop_fault, loop_close, loop_ready, loop_child_fault, loop_child, loop_less, rules)
@@ -159,16 +160,16 @@ pub rows-kept : (i n : ℕ) (v u : List (Row Shown)) → i ≤ n → take n v �
 rows-kept i n v u h e = rw (← e) (sym (take-take i n v h))
 
 -- an answer that leaves the first n rows leaves the first i of them
-abbrev kept : (doc : List ℕ) (s s' : State Shown) (fs : List Frame) (n i : ℕ) (u : List (Row Shown)) (b : Lent) (r : Answer) → i ≤ n → s ≡ s' → Ends doc s' fs n u b r → Ends doc s fs i (take i u) b r
-kept doc s s' fs n i u b (Answer.Fault x) h q e = q ∙ e
-kept doc s s' fs n i u b (Answer.Done g) h q e = (e.0, e.1, q ∙ e.2, rows-kept i n e.0.rows u h e.3)
+abbrev kept : (doc : List ℕ) (s s' : State Shown) (fs : List Frame) (n i : ℕ) (u : List (Row Shown)) (b : Lent) (r : Result Fill Refusal) → i ≤ n → s ≡ s' → Ends doc s' fs n u b r → Ends doc s fs i (take i u) b r
+kept doc s s' fs n i u b (Err x) h q e = q ∙ e
+kept doc s s' fs n i u b (Ok g) h q e = (e.0, e.1, q ∙ e.2, rows-kept i n e.0.rows u h e.3)
 
 not_held : (doc : List ℕ) (at m i : ℕ) (t : Tag) (fs : List Frame) (u : Tables Shown) → (eqb (kind_of t.name) kinds.docstring && not (eqb m kinds.annotation)) ≡ false → among (kind_of t.name) (held_by_lem m) ≡ false → runs doc at (child whole doc m i t fs u) ≡ runs doc at (unsupported whole doc t fs u)
 unfolding may_hold
 not_held doc at m i t fs u j y = rw (j, y)
 
 module _ {doc : List ℕ} {c : StartTag} {i : ℕ} {f : Fill} where
-  pub other_docstring : {rows rows' w : List ℕ} {r : Answer} → c.kind ≡ kinds.docstring → Captures doc c i f rows rows' r → Others doc c i f rows rows' w w r
+  pub other_docstring : {rows rows' w : List ℕ} {r : Result Fill Refusal} → c.kind ≡ kinds.docstring → Captures doc c i f rows rows' r → Others doc c i f rows rows' w w r
   other_docstring {rows} {rows'} {w} {r} k h = record {
     onward = h.onward;
     ends = λ m t fs u bytes a o z s.
@@ -176,7 +177,7 @@ module _ {doc : List ℕ} {c : StartTag} {i : ℕ} {f : Fill} where
         rw (j, o) (h.ends t fs u w bytes z s);
   }
 
-  pub other_unsupported : {rows w w' : List ℕ} {r : Answer} → i < f.rows → (c.kind ≡ kinds.docstring → ⊥) → Ignores doc c f w w' r → Others doc c i f rows rows w w' r
+  pub other_unsupported : {rows w w' : List ℕ} {r : Result Fill Refusal} → i < f.rows → (c.kind ≡ kinds.docstring → ⊥) → Ignores doc c f w w' r → Others doc c i f rows rows w w' r
   other_unsupported {rows} {w} {w'} {r} l k h = record {
     onward = h.onward;
     ends = λ m t fs u bytes a o z s.
@@ -187,7 +188,7 @@ module _ {doc : List ℕ} {c : StartTag} {i : ℕ} {f : Fill} where
   }
 
   -- in an annotation every child is unsupported
-  pub child_bare : {rows w w' bytes : List ℕ} {r : Answer} → i < f.rows → Ignores doc c f w w' r → Child doc [] false c i f (lent rows w bytes) (lent rows w' bytes) r
+  pub child_bare : {rows w w' bytes : List ℕ} {r : Result Fill Refusal} → i < f.rows → Ignores doc c f w w' r → Child doc [] false c i f (lent rows w bytes) (lent rows w' bytes) r
   child_bare {rows} {w} {w'} {bytes} {r} l h = record {
     onward = h.onward;
     ends = λ m n t fs u e o z s.
@@ -201,7 +202,7 @@ module _ {doc : List ℕ} {c : StartTag} {i : ℕ} {f : Fill} where
       and-false true = refl
       and-false false = refl
 
-  pub child_other : {hs rows rows' w w' bytes : List ℕ} {r : Answer} → among c.kind hs ≡ false → Others doc c i f rows rows' w w' r → Child doc hs true c i f (lent rows w bytes) (lent rows' w' bytes) r
+  pub child_other : {hs rows rows' w w' bytes : List ℕ} {r : Result Fill Refusal} → among c.kind hs ≡ false → Others doc c i f rows rows' w w' r → Child doc hs true c i f (lent rows w bytes) (lent rows' w' bytes) r
   child_other {bytes = bytes} a h = record {
     onward = h.onward;
     ends = λ k n t fs u e o z s. h.ends k t (element k n i ∷ fs) u bytes (rw e a) o z s;
@@ -210,7 +211,7 @@ module _ {doc : List ℕ} {c : StartTag} {i : ℕ} {f : Fill} where
 pub ruleset others = (other_docstring, other_unsupported, rules)
 
 module _ {doc hs : List ℕ} {docs : Bool} {c : StartTag} {i : ℕ} {f : Fill} where
-  pub child_begins : {b b' : Lent} {m : ℕ} {r : Answer} → i < f.rows → c.kind ≡ m → among m hs ≡ true → among m parts_and_docstring ≡ false → Begins doc m c (i + 1) f b b' r → Child doc hs docs c i f b b' r
+  pub child_begins : {b b' : Lent} {m : ℕ} {r : Result Fill Refusal} → i < f.rows → c.kind ≡ m → among m hs ≡ true → among m parts_and_docstring ≡ false → Begins doc m c (i + 1) f b b' r → Child doc hs docs c i f b b' r
   unfolding may_hold
   child_begins {b} {b'} {m} {r} l k a x h = record {
     onward = h.onward;

@@ -7,11 +7,11 @@ use mathlib.Core.Bool.{true}
 use native.Mathlib.Omega.{arith}
 use lib.Dec.{eqb}
 use lib.ListN.{length, drop, length-drop}
+use Rattle.std.specs.Prelude.{Result, Ok, Err}
+use Rattle.faults.specs.declared.Fault.{Fault}
 use Rattle.slices.specs.Bytes.{span, past, empty}
 use Rattle.scan.specs.Classes.{white, name_byte}
 use Rattle.scan.specs.Ignorable.{ignorable}
-use Rattle.scan.specs.declared.Scan.{Scan}
-use Rattle.scan.specs.declared.Scan.TheVariants.{Fault, At}
 use Rattle.document.specs.Tags.{Attr, Gathered, gathered, too_many, gather, Shown, Checked, good, check}
 use Rattle.document.specs.Tags as tags
 use Rattle.document.specs.Tokens.{Tag, Token, start, close, fault, end, Next, more, last, slash_end, tag_end, with_shown, with_attrs, opening, close_end, closing, tag, tag_or_end, past_ignorable, next}
@@ -128,6 +128,6 @@ pub next_reaches : (l : List ℕ) (at : ℕ) → Reaches at (at + length l) (nex
 unfolding next
 next_reaches l at = go (ignorable l at) (ignorable_within l at)
   where
-    go : (s : Scan) → Scanned at (at + length l) s → Reaches at (at + length l) (past_ignorable s l at)
-    go (Fault n p) h = record { number = among_all (λ m. among m faults) n (22 ∷ 23 ∷ 24 ∷ 25 ∷ []) refl h.0; place = h.1 }
-    go (At p) h = tag_or_end_lem at (at + length l) (drop (p - at) l) p h.0 (rw length-drop (omega (arith, h)))
+    go : (s : Result ℕ Fault) → Scanned at (at + length l) s → Reaches at (at + length l) (past_ignorable s l at)
+    go (Err f) h = record { number = among_all (λ m. among m faults) f.number (22 ∷ 23 ∷ 24 ∷ 25 ∷ []) refl h.0; place = h.1 }
+    go (Ok p) h = tag_or_end_lem at (at + length l) (drop (p - at) l) p h.0 (rw length-drop (omega (arith, h)))

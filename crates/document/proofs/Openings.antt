@@ -9,6 +9,7 @@ use native.Mathlib.Omega.{arith}
 use lib.Dec.{eqb}
 use lib.ListN.{length}
 use lib.Seq.{take_at}
+use Rattle.std.specs.Prelude.{Result, Ok, Err}
 use Rattle.document.specs.Kinds as kinds
 use Rattle.document.specs.Tags.{Shown}
 use Rattle.document.specs.Tokens.{Tag}
@@ -19,23 +20,22 @@ use Rattle.document.specs.Outcome.{Lent, lent, Stands, Bounded, name_at, TagIs, 
 use Rattle.document.specs.declared.StartTag.{StartTag}
 use Rattle.document.specs.declared.Fill.{Fill}
 use Rattle.document.specs.declared.Refusal.{Refusal}
-use Rattle.document.specs.declared.Answer.{Answer}
 use Rattle.document.proofs.Runs.{run_refused}
 
 -- the name of a tag stands where the tag says
 pub tag_named : {doc : List ℕ} {c : StartTag} {t : Tag} → TagIs doc c t → tag_name t ≡ name_at doc c.at c.len
 tag_named z = rw (sym z.at, z.named.is)
 
-module _ {doc : List ℕ} {k : ℕ} {c : StartTag} {p : ℕ} {f : Fill} {rows rows' bytes bytes' : List ℕ} {a : Answer} (o : Opening doc k c p f rows rows' bytes bytes' a) where
-  pub opening_fault : {x : Refusal} {w : List ℕ} → a ≡ Answer.Fault x → Begins doc k c p f (lent rows w bytes) (lent rows' w bytes') (Answer.Fault x)
+module _ {doc : List ℕ} {k : ℕ} {c : StartTag} {p : ℕ} {f : Fill} {rows rows' bytes bytes' : List ℕ} {a : Result Fill Refusal} (o : Opening doc k c p f rows rows' bytes bytes' a) where
+  pub opening_fault : {x : Refusal} {w : List ℕ} → a ≡ Err x → Begins doc k c p f (lent rows w bytes) (lent rows' w bytes') (Err x)
   unfolding begins
   opening_fault {x} e = record {
     onward = tt;
     ends = λ t fs u z h s. rw (h, (rw e at o).is t z) (run_refused whole doc c.end x);
   }
 
-  module _ {g : Fill} (e : a ≡ Answer.Done g) where
-    done : Opening doc k c p f rows rows' bytes bytes' (Answer.Done g)
+  module _ {g : Fill} (e : a ≡ Ok g) where
+    done : Opening doc k c p f rows rows' bytes bytes' (Ok g)
     done = rw e at o
 
     pub opening_bounds : Bounded doc g
@@ -56,7 +56,7 @@ module _ {doc : List ℕ} {k : ℕ} {c : StartTag} {p : ℕ} {f : Fill} {rows ro
     shut_at d t fs u z x row = rw (at-end, sym z.closes ∙ x, d)
 
     module _ {w : List ℕ} (d : among k kinds.definitions ≡ false) where
-      pub opening_closes : c.closes ≡ true → Begins doc k c p f (lent rows w bytes) (lent rows' w bytes') (Answer.Done g)
+      pub opening_closes : c.closes ≡ true → Begins doc k c p f (lent rows w bytes) (lent rows' w bytes') (Ok g)
       opening_closes x = record {
         onward = (omega (arith, done.onward.0), omega (arith, done.onward.1), done.onward.2);
         ends = λ t fs u z h s.
@@ -64,7 +64,7 @@ module _ {doc : List ℕ} {k : ℕ} {c : StartTag} {p : ℕ} {f : Fill} {rows ro
             (with_row i.0 u, i.2 w s, ap (runs doc c.end) i.1 ∙ shut_at d t fs u z x i.0, take_at u.rows (i.0 ∷ []) f.rows s.many);
       }
 
-      module _ {b : Lent} {r : Answer} (x : c.closes ≡ false) (y : eqb k kinds.node ≡ false) (l : Children doc (held_by_lem k) (not (eqb k kinds.annotation)) c.at c.len f.rows g (lent rows' w bytes') b r) where
+      module _ {b : Lent} {r : Result Fill Refusal} (x : c.closes ≡ false) (y : eqb k kinds.node ≡ false) (l : Children doc (held_by_lem k) (not (eqb k kinds.annotation)) c.at c.len f.rows g (lent rows' w bytes') b r) where
         inside : (t : Tag) (fs : List Frame) (u : Tables Shown) → TagIs doc c t → length u.rows ≡ f.rows → (row : Row Shown) → runs doc c.end (entered whole doc k t row fs u) ≡ runs doc g.at (reading (element k (name_at doc c.at c.len) f.rows ∷ noted k t fs) (with_row row u))
         inside t fs u z n row = rw (at-end, sym z.closes ∙ x, d, y, tag_named z, n)
 
@@ -77,12 +77,12 @@ module _ {doc : List ℕ} {k : ℕ} {c : StartTag} {p : ℕ} {f : Fill} {rows ro
               carried (noted k t fs) r (ap (runs doc c.end) i.1 ∙ inside t fs u z s.many i.0) (take_at u.rows (i.0 ∷ []) f.rows s.many) j;
         }
           where
-            further : (r : Answer) → Onward doc g r → Onward doc f r
-            further (Answer.Fault x) h = tt
-            further (Answer.Done m) h = (omega (arith, done.onward.0, h.0), omega (arith, done.onward.1, h.1), h.2)
+            further : (r : Result Fill Refusal) → Onward doc g r → Onward doc f r
+            further (Err x) h = tt
+            further (Ok m) h = (omega (arith, done.onward.0, h.0), omega (arith, done.onward.1, h.1), h.2)
 
-            carried : {s s' : State Shown} {before before' : List (Row Shown)} (fs : List Frame) (r : Answer) → s ≡ s' → before ≡ before' → Ends doc s' fs f.rows before b r → Ends doc s fs f.rows before' b r
-            carried fs (Answer.Fault x) h k e = h ∙ e
-            carried fs (Answer.Done m) h k e = (e.0, e.1, h ∙ e.2, e.3 ∙ k)
+            carried : {s s' : State Shown} {before before' : List (Row Shown)} (fs : List Frame) (r : Result Fill Refusal) → s ≡ s' → before ≡ before' → Ends doc s' fs f.rows before b r → Ends doc s fs f.rows before' b r
+            carried fs (Err x) h k e = h ∙ e
+            carried fs (Ok m) h k e = (e.0, e.1, h ∙ e.2, e.3 ∙ k)
 
 pub ruleset openings = (opening_fault, opening_bounds, opening_owner, opening_closes, opening_children, rules)

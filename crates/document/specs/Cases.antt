@@ -2,7 +2,6 @@
 -- with what it is escaped to.
 -- Assumes nothing.
 use Rattle.std.specs.Prelude.{ℕ, ◌≡◌, refl, List, [], ◌∷◌, ◌++◌, map, replicate}
-use Prim.Native.String as string
 use Rattle.slices.specs.Bytes.{bytes}
 use Rattle.utf8.specs.WellFormed.{sequence, ill_formed}
 use Rattle.utf8.specs.WhiteSpace.{characters, trim_start, trim_end}

@@ -8,6 +8,7 @@ pub mod Refusals
 pub mod Elements
 pub mod Prefixes
 pub mod Reading
+pub mod Verdict
 pub mod Whole
 pub mod Outcome
 pub mod Cases

@@ -1,6 +1,6 @@
 -- What the reader's functions say: what the structs stand for, and how a run goes on after each answer.
 -- Assumes nothing.
-use Rattle.std.specs.Prelude.{ℕ, suc, ◌+◌, ◌-◌, ◌*◌, ◌≤◌, ◌<◌, ◌≡◌, List, ◌∷◌, Bool, true, false, not, eqb, length, take, drop, get_or}
+use Rattle.std.specs.Prelude.{ℕ, suc, ◌+◌, ◌-◌, ◌*◌, ◌≤◌, ◌<◌, ◌≡◌, List, ◌∷◌, Bool, true, false, not, eqb, length, take, drop, get_or, Result, Ok, Err}
 use Rattle.std.proofs.Math.Option.{Option, none, some}
 use Rattle.slices.specs.Bytes.{if, bytes, all}
 use Rattle.utf8.specs.WellFormed.{ill_formed}
@@ -20,10 +20,10 @@ use Rattle.document.specs.declared.Value.{Value}
 use Rattle.document.specs.declared.Values.{Values}
 use Rattle.document.specs.declared.StartTag.{StartTag}
 use Rattle.document.specs.declared.Fill.{Fill}
-use Rattle.document.specs.declared.Answer.{Answer}
 use Rattle.document.specs.declared.Token.{Token}
 use Rattle.document.specs.declared.Next.{Next}
-use Rattle.document.specs.declared.Passed.{Passed}
+use Rattle.document.specs.declared.Closing.{Closing}
+use Rattle.document.specs.declared.Refusal.{Refusal}
 pub use Rattle.document.specs.Elements.{whole}
 
 abbrev pub runs : List ℕ → ℕ → State Shown → State Shown
@@ -146,19 +146,19 @@ pub record Ready (doc : List ℕ) (c : StartTag) (f : Fill) : Type 0 where
   pub text : f.text ≤ 3 * c.at
 
 -- an answer that is no fault is further on, with no fewer rows, within bounds
-abbrev pub Onward : List ℕ → Fill → Answer → Type 0
-Onward doc f (Answer.Fault x) = Unit {0}
-Onward doc f (Answer.Done g) = (f.at ≤ g.at) × (f.rows ≤ g.rows) × Bounded doc g
+abbrev pub Onward : List ℕ → Fill → Result Fill Refusal → Type 0
+Onward doc f (Err x) = Unit {0}
+Onward doc f (Ok g) = (f.at ≤ g.at) × (f.rows ≤ g.rows) × Bounded doc g
 
 -- a run refuses as the answer says; or it goes on with these frames, the buffers stand for its tables, and the first n rows
 -- are as they were
-abbrev pub Ends : List ℕ → State Shown → List Frame → ℕ → List (Row Shown) → Lent → Answer → Type 0
-Ends doc s fs n before b (Answer.Fault x) = s ≡ refused x
-Ends doc s fs n before b (Answer.Done g) =
+abbrev pub Ends : List ℕ → State Shown → List Frame → ℕ → List (Row Shown) → Lent → Result Fill Refusal → Type 0
+Ends doc s fs n before b (Err x) = s ≡ refused x
+Ends doc s fs n before b (Ok g) =
     (v : Tables Shown) × Stands v b g × (s ≡ runs doc g.at (closed fs v)) × (take n v.rows ≡ before)
 
 -- what reading an element of kind k says, from after its start tag on; p is the parent's row plus one
-pub record Begins (doc : List ℕ) (k : ℕ) (c : StartTag) (p : ℕ) (f : Fill) (b b' : Lent) (r : Answer) : Type 0 where
+pub record Begins (doc : List ℕ) (k : ℕ) (c : StartTag) (p : ℕ) (f : Fill) (b b' : Lent) (r : Result Fill Refusal) : Type 0 where
   pub onward : Onward doc f r
   pub ends :
       (t : Tag) (fs : List Frame) (u : Tables Shown) →
@@ -168,26 +168,26 @@ pub record Begins (doc : List ℕ) (k : ℕ) (c : StartTag) (p : ℕ) (f : Fill)
       Ends doc (runs doc c.end (begins whole doc k t fs u)) (noted k t fs) f.rows u.rows b' r
 
 -- what putting the row of an element of kind k says: the tag's first fault, or its row in the tables
-abbrev pub OnwardOpening : List ℕ → Fill → Answer → Type 0
-OnwardOpening doc f (Answer.Fault x) = Unit {0}
-OnwardOpening doc f (Answer.Done g) = (g.at ≡ f.at) × (g.rows ≡ f.rows + 1) × Bounded doc g
+abbrev pub OnwardOpening : List ℕ → Fill → Result Fill Refusal → Type 0
+OnwardOpening doc f (Err x) = Unit {0}
+OnwardOpening doc f (Ok g) = (g.at ≡ f.at) × (g.rows ≡ f.rows + 1) × Bounded doc g
 
-abbrev pub IsOpening : List ℕ → ℕ → StartTag → ℕ → Fill → List ℕ → List ℕ → List ℕ → List ℕ → Answer → Type 0
-IsOpening doc k c p f rows rows' bytes bytes' (Answer.Fault x) = (t : Tag) → TagIs doc c t → opens_as whole k p t ≡ refuses x
-IsOpening doc k c p f rows rows' bytes bytes' (Answer.Done g) =
+abbrev pub IsOpening : List ℕ → ℕ → StartTag → ℕ → Fill → List ℕ → List ℕ → List ℕ → List ℕ → Result Fill Refusal → Type 0
+IsOpening doc k c p f rows rows' bytes bytes' (Err x) = (t : Tag) → TagIs doc c t → opens_as whole k p t ≡ refuses x
+IsOpening doc k c p f rows rows' bytes bytes' (Ok g) =
     (t : Tag) →
     TagIs doc c t →
     (row : Row Shown)
     × (opens_as whole k p t ≡ opens row)
     × ((u : Tables Shown) (w : List ℕ) → Stands u (lent rows w bytes) f → Stands (with_row row u) (lent rows' w bytes') g)
 
-pub record Opening (doc : List ℕ) (k : ℕ) (c : StartTag) (p : ℕ) (f : Fill) (rows rows' bytes bytes' : List ℕ) (r : Answer) : Type 0 where
+pub record Opening (doc : List ℕ) (k : ℕ) (c : StartTag) (p : ℕ) (f : Fill) (rows rows' bytes bytes' : List ℕ) (r : Result Fill Refusal) : Type 0 where
   pub at : f.at ≡ c.end
   pub onward : OnwardOpening doc f r
   pub is : IsOpening doc k c p f rows rows' bytes bytes' r
 
 -- what passing over an element that nobody asked for says: rows and text are left alone
-pub record Ignores (doc : List ℕ) (c : StartTag) (f : Fill) (w w' : List ℕ) (r : Answer) : Type 0 where
+pub record Ignores (doc : List ℕ) (c : StartTag) (f : Fill) (w w' : List ℕ) (r : Result Fill Refusal) : Type 0 where
   pub onward : Onward doc f r
   pub ends :
       (t : Tag) (fs : List Frame) (u : Tables Shown) (rows bytes : List ℕ) →
@@ -196,7 +196,7 @@ pub record Ignores (doc : List ℕ) (c : StartTag) (f : Fill) (w w' : List ℕ) 
       Ends doc (runs doc c.end (unsupported whole doc t fs u)) fs f.rows u.rows (lent rows w' bytes) r
 
 -- what reading a docstring for row i says: warnings and text are left alone
-pub record Captures (doc : List ℕ) (c : StartTag) (i : ℕ) (f : Fill) (rows rows' : List ℕ) (r : Answer) : Type 0 where
+pub record Captures (doc : List ℕ) (c : StartTag) (i : ℕ) (f : Fill) (rows rows' : List ℕ) (r : Result Fill Refusal) : Type 0 where
   pub onward : Onward doc f r
   pub ends :
       (t : Tag) (fs : List Frame) (u : Tables Shown) (w bytes : List ℕ) →
@@ -205,7 +205,7 @@ pub record Captures (doc : List ℕ) (c : StartTag) (i : ℕ) (f : Fill) (rows r
       Ends doc (runs doc c.end (docstring_in whole doc t fs i u)) fs i (take i u.rows) (lent rows' w bytes) r
 
 -- what reading a docstring or an element that nobody asked for says, in every element that holds docstrings, with row i
-pub record Others (doc : List ℕ) (c : StartTag) (i : ℕ) (f : Fill) (rows rows' w w' : List ℕ) (r : Answer) : Type 0 where
+pub record Others (doc : List ℕ) (c : StartTag) (i : ℕ) (f : Fill) (rows rows' w w' : List ℕ) (r : Result Fill Refusal) : Type 0 where
   pub onward : Onward doc f r
   pub ends :
       (k : ℕ) (t : Tag) (fs : List Frame) (u : Tables Shown) (bytes : List ℕ) →
@@ -216,7 +216,7 @@ pub record Others (doc : List ℕ) (c : StartTag) (i : ℕ) (f : Fill) (rows row
       Ends doc (runs doc c.end (child whole doc k i t fs u)) fs i (take i u.rows) (lent rows' w' bytes) r
 
 -- what reading a child says, in every element that holds these kinds, and docstrings or not, with row i
-pub record Child (doc : List ℕ) (hs : List ℕ) (docs : Bool) (c : StartTag) (i : ℕ) (f : Fill) (b b' : Lent) (r : Answer) : Type 0 where
+pub record Child (doc : List ℕ) (hs : List ℕ) (docs : Bool) (c : StartTag) (i : ℕ) (f : Fill) (b b' : Lent) (r : Result Fill Refusal) : Type 0 where
   pub onward : Onward doc f r
   pub ends :
       (k : ℕ) (n : Name) (t : Tag) (fs : List Frame) (u : Tables Shown) →
@@ -227,7 +227,7 @@ pub record Child (doc : List ℕ) (hs : List ℕ) (docs : Bool) (c : StartTag) (
       Ends doc (runs doc c.end (child whole doc k i t (element k n i ∷ fs) u)) (element k n i ∷ fs) i (take i u.rows) b' r
 
 -- what reading the rest of such an element says, whose name stands in the document
-pub record Children (doc : List ℕ) (hs : List ℕ) (docs : Bool) (at len i : ℕ) (f : Fill) (b b' : Lent) (r : Answer) : Type 0 where
+pub record Children (doc : List ℕ) (hs : List ℕ) (docs : Bool) (at len i : ℕ) (f : Fill) (b b' : Lent) (r : Result Fill Refusal) : Type 0 where
   pub onward : Onward doc f r
   pub ends :
       (k : ℕ) (fs : List Frame) (u : Tables Shown) →
@@ -237,51 +237,51 @@ pub record Children (doc : List ℕ) (hs : List ℕ) (docs : Bool) (at len i : �
       Ends doc (runs doc f.at (reading.reading (element k (name_at doc at len) i ∷ fs) u)) fs i (take i u.rows) b' r
 
 -- the next token from a place on
-abbrev pub OnwardToken : List ℕ → ℕ → Token → Type 0
-OnwardToken doc from (Token.Fault x) = Unit {0}
-OnwardToken doc from (Token.End p) = Unit {0}
-OnwardToken doc from (Token.Close c) =
+abbrev pub OnwardToken : List ℕ → ℕ → Result Token Refusal → Type 0
+OnwardToken doc from (Err x) = Unit {0}
+OnwardToken doc from (Ok (Token.End p)) = Unit {0}
+OnwardToken doc from (Ok (Token.Close c)) =
     (from ≤ c.lt) × (c.at ≡ c.lt + 2) × (c.at + c.len < c.end) × (c.end ≤ length doc) × (get_or doc c.lt 0 ≡ 60)
-OnwardToken doc from (Token.Start c) = (from < c.at) × TagFits doc c
+OnwardToken doc from (Ok (Token.Start c)) = (from < c.at) × TagFits doc c
 
 -- the answer is what the definition has; for a fault it is the refusal of its number and place
-abbrev pub Comes : List ℕ → tokens.Next → Token → Type 0
-Comes doc next (Token.Fault x) = (n : ℕ) × (p : ℕ) × (next ≡ last (fault n p)) × (x ≡ fault_in doc n p)
-Comes doc next (Token.End p) = next ≡ last (end p)
-Comes doc next (Token.Close c) = next ≡ more (close c.lt (take c.len (drop c.at doc)) c.end) c.end
-Comes doc next (Token.Start c) = (t : Tag) × TagIs doc c t × (next ≡ more (start t) c.end)
+abbrev pub Comes : List ℕ → tokens.Next → Result Token Refusal → Type 0
+Comes doc next (Err x) = (n : ℕ) × (p : ℕ) × (next ≡ last (fault n p)) × (x ≡ fault_in doc n p)
+Comes doc next (Ok (Token.End p)) = next ≡ last (end p)
+Comes doc next (Ok (Token.Close c)) = next ≡ more (close c.lt (take c.len (drop c.at doc)) c.end) c.end
+Comes doc next (Ok (Token.Start c)) = (t : Tag) × TagIs doc c t × (next ≡ more (start t) c.end)
 
-pub record Tokenises (doc : List ℕ) (from : ℕ) (r : Token) : Type 0 where
+pub record Tokenises (doc : List ℕ) (from : ℕ) (r : Result Token Refusal) : Type 0 where
   pub onward : OnwardToken doc from r
   pub is : Comes doc (next (drop from doc) from) r
 
 -- what comes next in an open element, whatever the element is
-abbrev pub OnwardNext : List ℕ → ℕ → Next → Type 0
-OnwardNext doc from (Next.Fault x) = Unit {0}
-OnwardNext doc from (Next.Close lt q) = (from ≤ lt) × (lt < q) × (q ≤ length doc) × (get_or doc lt 0 ≡ 60)
-OnwardNext doc from (Next.Start c) = (from < c.at) × TagFits doc c
+abbrev pub OnwardNext : List ℕ → ℕ → Result Next Refusal → Type 0
+OnwardNext doc from (Err x) = Unit {0}
+OnwardNext doc from (Ok (Next.Close z)) = (from ≤ z.lt) × (z.lt < z.end) × (z.end ≤ length doc) × (get_or doc z.lt 0 ≡ 60)
+OnwardNext doc from (Ok (Next.Start c)) = (from < c.at) × TagFits doc c
 
-abbrev pub Leads : List ℕ → ℕ → Frame → List Frame → Tables Shown → Next → Type 0
-Leads doc from f fs u (Next.Fault x) = runs doc from (reading.reading (f ∷ fs) u) ≡ refused x
-Leads doc from f fs u (Next.Close lt q) = runs doc from (reading.reading (f ∷ fs) u) ≡ runs doc q (shut doc f fs u lt)
-Leads doc from f fs u (Next.Start c) =
+abbrev pub Leads : List ℕ → ℕ → Frame → List Frame → Tables Shown → Result Next Refusal → Type 0
+Leads doc from f fs u (Err x) = runs doc from (reading.reading (f ∷ fs) u) ≡ refused x
+Leads doc from f fs u (Ok (Next.Close z)) = runs doc from (reading.reading (f ∷ fs) u) ≡ runs doc z.end (shut doc f fs u z.lt)
+Leads doc from f fs u (Ok (Next.Start c)) =
     (t : Tag) × TagIs doc c t × (runs doc from (reading.reading (f ∷ fs) u) ≡ runs doc c.end (started whole doc f fs u t))
 
 -- from a place on, in an element whose name stands at another, with a length
-pub record Steps (doc : List ℕ) (from at len : ℕ) (r : Next) : Type 0 where
+pub record Steps (doc : List ℕ) (from at len : ℕ) (r : Result Next Refusal) : Type 0 where
   pub onward : OnwardNext doc from r
   pub leads : (f : Frame) (fs : List Frame) (u : Tables Shown) → name_of f ≡ name_at doc at len → Leads doc from f fs u r
 
 -- what passing over the rest of an element says, whatever for, when so many elements are open in what is passed over
-abbrev pub OnwardPassed : List ℕ → ℕ → Passed → Type 0
-OnwardPassed doc from (Passed.Fault x) = Unit {0}
-OnwardPassed doc from (Passed.Closed lt q) = (from ≤ lt) × (lt < q) × (q ≤ length doc) × (get_or doc lt 0 ≡ 60)
+abbrev pub OnwardPassed : List ℕ → ℕ → Result Closing Refusal → Type 0
+OnwardPassed doc from (Err x) = Unit {0}
+OnwardPassed doc from (Ok z) = (from ≤ z.lt) × (z.lt < z.end) × (z.end ≤ length doc) × (get_or doc z.lt 0 ≡ 60)
 
-abbrev pub Passing : List ℕ → ℕ → Purpose → List Name → List Frame → Tables Shown → Passed → Type 0
-Passing doc from p ns fs u (Passed.Fault x) = runs doc from (reading.reading (passing p ns ∷ fs) u) ≡ refused x
-Passing doc from p ns fs u (Passed.Closed lt q) =
-    runs doc from (reading.reading (passing p ns ∷ fs) u) ≡ runs doc q (shut doc (passing p ns) fs u lt)
+abbrev pub Passing : List ℕ → ℕ → Purpose → List Name → List Frame → Tables Shown → Result Closing Refusal → Type 0
+Passing doc from p ns fs u (Err x) = runs doc from (reading.reading (passing p ns ∷ fs) u) ≡ refused x
+Passing doc from p ns fs u (Ok z) =
+    runs doc from (reading.reading (passing p ns ∷ fs) u) ≡ runs doc z.end (shut doc (passing p ns) fs u z.lt)
 
-pub record Passes (doc : List ℕ) (from at len depth : ℕ) (r : Passed) : Type 0 where
+pub record Passes (doc : List ℕ) (from at len depth : ℕ) (r : Result Closing Refusal) : Type 0 where
   pub onward : OnwardPassed doc from r
   pub leads : (p : Purpose) (ns : List Name) (fs : List Frame) (u : Tables Shown) → suc (length ns) ≡ depth → Passing doc from p (name_at doc at len ∷ ns) fs u r

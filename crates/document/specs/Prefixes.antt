@@ -1,23 +1,22 @@
 -- What the prefix of a name decides, by the colons that the name scanner tells: where the local name of an element begins, and whether
 -- an attribute is a tp type. That these are `localName` and `isTpType` are two laws.
 -- Assumes nothing.
-use Rattle.std.specs.Prelude.{ℕ, suc, ◌-◌, ◌≡◌, List, Bool, false, not, ◌&&◌, eqb, drop}
+use Rattle.std.specs.Prelude.{ℕ, suc, ◌-◌, ◌≡◌, List, Bool, false, not, ◌&&◌, eqb, drop, Option, Some, None}
 use Rattle.slices.specs.Bytes.{bytes, same}
 use Rattle.scan.specs.Colons.{colons_from}
 use Rattle.scan.specs.declared.Colons.{Colons}
-use Rattle.scan.specs.declared.Colons.TheVariants.{Absent, Between}
 use Rattle.document.specs.Tags.{is_tp_type_lem}
 use Rattle.document.specs.Elements.{local_name}
 
 -- where the local name begins in a name from p on: past the last colon, or at p
-abbrev pub local_start : ℕ → Colons → ℕ
-local_start p Absent = p
-local_start p (Between first last) = suc last
+abbrev pub local_start : ℕ → Option Colons → ℕ
+local_start p None = p
+local_start p (Some q) = suc q.last
 
 -- the name n from p on has a first colon, not at p, and exactly `type` follows it
-abbrev pub tp_type_by : List ℕ → ℕ → Colons → Bool
-tp_type_by n p Absent = false
-tp_type_by n p (Between first last) = not (eqb first p) && same (drop (suc first - p) n) (bytes "type")
+abbrev pub tp_type_by : List ℕ → ℕ → Option Colons → Bool
+tp_type_by n p None = false
+tp_type_by n p (Some q) = not (eqb q.first p) && same (drop (suc q.first - p) n) (bytes "type")
 
 -- the two laws
 abbrev pub LocalNames : Type 0

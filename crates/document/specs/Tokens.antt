@@ -1,12 +1,11 @@
 -- The tokens of a document (docs/FORMAT.md, Tags): what is ignorable is passed over; then comes a start tag, a closing
 -- tag, a fault or the end.
 -- Assumes nothing.
-use Rattle.std.specs.Prelude.{ℕ, zero, suc, ◌+◌, ◌-◌, List, [], ◌∷◌, Bool, true, false, eqb, length, drop}
+use Rattle.std.specs.Prelude.{ℕ, zero, suc, ◌+◌, ◌-◌, List, [], ◌∷◌, Bool, true, false, eqb, length, drop, Result, Ok, Err}
+use Rattle.faults.specs.declared.Fault.{Fault}
 use Rattle.slices.specs.Bytes.{if, span, past, empty}
 use Rattle.scan.specs.Classes.{white, name_byte}
 use Rattle.scan.specs.Ignorable.{ignorable}
-use Rattle.scan.specs.declared.Scan.{Scan}
-use Rattle.scan.specs.declared.Scan.TheVariants.{Fault, At}
 use Rattle.document.specs.Tags.{Gathered, gathered, too_many, gather, Shown, Checked, check}
 
 -- a start tag: place of `<`, name, attributes, whether it is `/>`, place after the tag
@@ -84,9 +83,9 @@ abbrev pub tag_or_end : List ℕ → ℕ → Next
 tag_or_end [] p = last (end p)
 tag_or_end (b ∷ l) p = tag l p
 
-abbrev pub past_ignorable : Scan → List ℕ → ℕ → Next
-past_ignorable (Fault n p) l at = last (fault n p)
-past_ignorable (At p) l at = tag_or_end (drop (p - at) l) p
+abbrev pub past_ignorable : Result ℕ Fault → List ℕ → ℕ → Next
+past_ignorable (Err f) l at = last (fault f.number f.place)
+past_ignorable (Ok p) l at = tag_or_end (drop (p - at) l) p
 
 unfoldable pub next : List ℕ → ℕ → Next
 next l at = past_ignorable (ignorable l at) l at

@@ -1,6 +1,6 @@
 -- A whole document and the room lent (docs/FORMAT.md, Answers): the answer, and every word and byte of rows, warnings and text.
 -- Assumes nothing.
-use Rattle.std.specs.Prelude.{ℕ, ◌-◌, ◌/◌, ◌≡◌, List, ◌++◌, ◌||◌, ltb, length, replicate}
+use Rattle.std.specs.Prelude.{ℕ, ◌-◌, ◌/◌, ◌≡◌, List, ◌++◌, ◌||◌, ltb, length, replicate, Ok, Err}
 use Rattle.slices.specs.Bytes.{if}
 use Rattle.utf8.specs.WellFormed.{ill_formed}
 use Rattle.document.specs.Tags.{Shown}
@@ -8,8 +8,7 @@ use Rattle.document.specs.Rows.{Tables, words_from, texts, warned}
 use Rattle.document.specs.Refusals.{bare}
 use Rattle.document.specs.Elements.{whole}
 use Rattle.document.specs.Reading.{State, begun, reading, accepted, refused, run}
-use Rattle.document.specs.declared.Verdict.{Verdict}
-use Rattle.document.specs.declared.Verdict.TheVariants.{Refused, Accepted}
+use Rattle.document.specs.Verdict.{Verdict, counts}
 
 -- how many words of rows, words of warnings and bytes of text are lent
 pub record Room : Type 0 where
@@ -39,10 +38,10 @@ read doc r = fitted (length doc) r (meaning doc)
 
 -- the refusal, or the counts; no document ends in `begun` or `reading`, since its last token is the end
 abbrev pub verdict_of : State Shown → Verdict
-verdict_of begun = Refused (bare 0 0)
-verdict_of (reading fs t) = Refused (bare 0 0)
-verdict_of (accepted t) = Accepted (length t.rows) (length (texts t.rows)) (length t.warnings)
-verdict_of (refused x) = Refused x
+verdict_of begun = Err (bare 0 0)
+verdict_of (reading fs t) = Err (bare 0 0)
+verdict_of (accepted t) = Ok (counts (length t.rows) (length (texts t.rows)) (length t.warnings))
+verdict_of (refused x) = Err x
 
 -- what is used, and zeros past it; zeros alone after a refusal
 abbrev pub filled : ℕ → List ℕ → List ℕ

@@ -8,6 +8,8 @@ ghost use Rattle.document.specs.Outcome.{Lies, Raw, moved};
 
 pub mod kinds;
 
+use faults::Fault;
+
 // Bytes of the document, by their place and how many they are.
 #[derive(Clone, Copy)]
 pub struct Excerpt {
@@ -68,43 +70,35 @@ pub fn showing(number: u32, place: usize, first: Excerpt) -> Refusal
     }
 }
 
+impl From<Fault> for Refusal {
+    ghost from_gives = { λ f r. r ≡ bare f.number f.place };
+
+    fn from(fault: Fault) -> Refusal {
+        bare(fault.number, fault.place)
+    }
+}
+
 // How many excerpts the message of a number shows.
 pub fn shown_by(number: u32) -> u32
     ensures { result ≡ shown_by number }
 {
-    if number == 6 {
-        return 2;
+    match number {
+        6 => 2,
+        5 | 8 | 10 | 11 | 12 | 15 | 16 => 1,
+        _ => 0,
     }
-    if number == 5 {
-        return 1;
-    }
-    if number == 8 {
-        return 1;
-    }
-    if number == 10 {
-        return 1;
-    }
-    if number == 11 {
-        return 1;
-    }
-    if number == 12 {
-        return 1;
-    }
-    if number == 15 {
-        return 1;
-    }
-    if number == 16 {
-        return 1;
-    }
-    0
 }
 
-// A refusal, or how many rows, text bytes and warnings were read.
+// How many rows, text bytes and warnings were read.
 #[derive(Clone, Copy)]
-pub enum Verdict {
-    Refused(Refusal),
-    Accepted(usize, usize, usize),
+pub struct Counts {
+    pub rows: usize,
+    pub text: usize,
+    pub warnings: usize,
 }
+
+// What was read of a document, or why it is refused.
+pub type Verdict = Result<Counts, Refusal>;
 
 // The raw value of an attribute: kind 0 is absent, 1 shown as it stands, 2 changed.
 #[derive(Clone, Copy)]
@@ -170,13 +164,6 @@ impl Fill {
     }
 }
 
-// What reading an element comes to: a fault, or where it ended.
-#[derive(Clone, Copy)]
-pub enum Answer {
-    Fault(Refusal),
-    Done(Fill),
-}
-
 // A closing tag: the place of `<`, the place and length of its name, the place after it.
 #[derive(Clone, Copy)]
 pub struct ClosingTag {
@@ -186,26 +173,24 @@ pub struct ClosingTag {
     pub end: usize,
 }
 
-// A token: the refusal of a fault, the end, a closing tag or a start tag.
+// A token: the end, a closing tag or a start tag.
 #[derive(Clone, Copy)]
 pub enum Token {
-    Fault(Refusal),
     End(usize),
     Close(ClosingTag),
     Start(StartTag),
 }
 
-// What comes next in an open element: a fault, its closing tag (the place of `<` and the place after it), or a start tag.
+// Where the closing tag of an element stands: the place of `<`, and the place after it.
 #[derive(Clone, Copy)]
-pub enum Next {
-    Fault(Refusal),
-    Close(usize, usize),
-    Start(StartTag),
+pub struct Closing {
+    pub lt: usize,
+    pub end: usize,
 }
 
-// What passing over an element comes to: a fault, or its closing tag.
+// What comes next in an open element: its closing tag, or a start tag.
 #[derive(Clone, Copy)]
-pub enum Passed {
-    Fault(Refusal),
-    Closed(usize, usize),
+pub enum Next {
+    Close(Closing),
+    Start(StartTag),
 }

@@ -9,6 +9,7 @@ use borrow.Author.Rules.{rules}
 use borrow.Author.Tests.{ne_eqb, not-true, not-false}
 use native.Mathlib.Omega.{arith}
 use lib.Dec.{eqb}
+use Rattle.std.specs.Prelude.{Ok, Err}
 use Rattle.slices.specs.Bytes.{if, bytes, same}
 use Rattle.names.specs.Names.{interface_name, member_name, property_name}
 use Rattle.names.specs.Signature.{signature}
@@ -23,7 +24,6 @@ use Rattle.document.specs.declared.StartTag.{StartTag}
 use Rattle.document.specs.declared.Fill.{Fill}
 use Rattle.document.specs.declared.Excerpt.{Excerpt}
 use Rattle.document.specs.declared.Refusal.{Refusal}
-use Rattle.document.specs.declared.Answer.{Answer}
 use Rattle.document.proofs.Presence.{value_absent, value_there}
 use Rattle.shown.specs.Outcome.{Tests}
 use Rattle.rows.specs.Outcome.{RowFits, RowPut}
@@ -57,7 +57,7 @@ module _ {doc : List ℕ} {c : StartTag} {f : Fill} {h : Head} {name second tp :
   }
 
   -- a row that fits the tag's element
-  opened : {k p : ℕ} {rows rows' text text' : List ℕ} {g : Fill} → RowPut doc h name second tp f rows rows' text text' g → h.kind ≡ k → h.parent ≡ p → h.at ≡ c.at → ((t : Tag) → TagIs doc c t → (n v y : Option Shown) × (opens_as whole k p t ≡ opens (row whole t k p n v y h.word)) × ValueIs doc name n × ValueIs doc second v × ValueIs doc tp y) → Opening doc k c p f rows rows' text text' (Answer.Done g)
+  opened : {k p : ℕ} {rows rows' text text' : List ℕ} {g : Fill} → RowPut doc h name second tp f rows rows' text text' g → h.kind ≡ k → h.parent ≡ p → h.at ≡ c.at → ((t : Tag) → TagIs doc c t → (n v y : Option Shown) × (opens_as whole k p t ≡ opens (row whole t k p n v y h.word)) × ValueIs doc name n × ValueIs doc second v × ValueIs doc tp y) → Opening doc k c p f rows rows' text text' (Ok g)
   opened {k} {p} {g = g} q e o l i = record {
     at = r.at;
     onward = (
@@ -74,7 +74,7 @@ module _ {doc : List ℕ} {c : StartTag} {f : Fill} {h : Head} {name second tp :
   }
 
 -- the tag's first fault
-refused : {doc : List ℕ} {c : StartTag} {f : Fill} {k p : ℕ} {x : Refusal} {rows text : List ℕ} → Ready doc c f → ((t : Tag) → TagIs doc c t → opens_as whole k p t ≡ refuses x) → Opening doc k c p f rows rows text text (Answer.Fault x)
+refused : {doc : List ℕ} {c : StartTag} {f : Fill} {k p : ℕ} {x : Refusal} {rows text : List ℕ} → Ready doc c f → ((t : Tag) → TagIs doc c t → opens_as whole k p t ≡ refuses x) → Opening doc k c p f rows rows text text (Err x)
 refused r i = record { at = r.at; onward = tt; is = i }
 
 -- the kinds by what they need
@@ -116,19 +116,19 @@ there doc key t {v} h e = value_there doc v (attr key t) h e
 module _ {doc : List ℕ} {c : StartTag} {f : Fill} (r : Ready doc c f) {p : ℕ} {rows rows' text text' : List ℕ} {g : Fill} where
   -- kinds whose attributes may be missing
   module _ {x y : Value} (a : Absent x) (b : Absent y) where
-    pub node_done : RowPut doc (record { kind = kinds.node; parent = p; word = 0; at = c.at }) c.values.name x y f rows rows' text text' g → Opening doc kinds.node c p f rows rows' text text' (Answer.Done g)
+    pub node_done : RowPut doc (record { kind = kinds.node; parent = p; word = 0; at = c.at }) c.values.name x y f rows rows' text text' g → Opening doc kinds.node c p f rows rows' text text' (Ok g)
     unfolding opens_as
     node_done q =
         opened r r.fits.values.name (absent_fits r a) (absent_fits r b) q refl refl refl
         (λ t z. (attr (bytes "name") t, none, none, refl, z.values.name, a.kind, b.kind))
 
-    pub untyped_done : {k : ℕ} → UntypedKind k → RowPut doc (record { kind = k; parent = p; word = 0; at = c.at }) c.values.name x y f rows rows' text text' g → Opening doc k c p f rows rows' text text' (Answer.Done g)
+    pub untyped_done : {k : ℕ} → UntypedKind k → RowPut doc (record { kind = k; parent = p; word = 0; at = c.at }) c.values.name x y f rows rows' text text' g → Opening doc k c p f rows rows' text text' (Ok g)
     untyped_done i q =
         opened r r.fits.values.name (absent_fits r a) (absent_fits r b) q refl refl refl
         (λ t z. (attr (bytes "name") t, none, none, i.is p t, z.values.name, a.kind, b.kind))
 
     -- a name that is there and good
-    pub named_done : {k : ℕ} {good : List ℕ → Bool} {ok : Bool} → NamedKind good k → (c.values.name.kind ≡ 0 → ⊥) → Tests good doc c.values.name ok → ok ≡ true → RowPut doc (record { kind = k; parent = p; word = 0; at = c.at }) c.values.name x y f rows rows' text text' g → Opening doc k c p f rows rows' text text' (Answer.Done g)
+    pub named_done : {k : ℕ} {good : List ℕ → Bool} {ok : Bool} → NamedKind good k → (c.values.name.kind ≡ 0 → ⊥) → Tests good doc c.values.name ok → ok ≡ true → RowPut doc (record { kind = k; parent = p; word = 0; at = c.at }) c.values.name x y f rows rows' text text' g → Opening doc k c p f rows rows' text text' (Ok g)
     named_done i n o e q =
         opened r r.fits.values.name (absent_fits r a) (absent_fits r b) q refl refl refl
         (λ t z.
@@ -136,18 +136,18 @@ module _ {doc : List ℕ} {c : StartTag} {f : Fill} (r : Ready doc c f) {p : ℕ
         (some s.0, none, none, i.is p t ∙ rw (s.1, sym (o.is s.0 s.2) ∙ e), s.2, a.kind, b.kind))
 
   module _ {x : Value} (a : Absent x) where
-    pub typed_done : {k : ℕ} → TypedKind k → RowPut doc (record { kind = k; parent = p; word = 0; at = c.at }) c.values.name c.values.ty x f rows rows' text text' g → Opening doc k c p f rows rows' text text' (Answer.Done g)
+    pub typed_done : {k : ℕ} → TypedKind k → RowPut doc (record { kind = k; parent = p; word = 0; at = c.at }) c.values.name c.values.ty x f rows rows' text text' g → Opening doc k c p f rows rows' text text' (Ok g)
     typed_done i q =
         opened r r.fits.values.name r.fits.values.ty (absent_fits r a) q refl refl refl
         (λ t z. (attr (bytes "name") t, attr (bytes "type") t, none, i.is p t, z.values.name, z.values.ty, a.kind))
 
-    pub enumvalue_done : RowPut doc (record { kind = kinds.enumvalue; parent = p; word = 0; at = c.at }) c.values.suffix c.values.value x f rows rows' text text' g → Opening doc kinds.enumvalue c p f rows rows' text text' (Answer.Done g)
+    pub enumvalue_done : RowPut doc (record { kind = kinds.enumvalue; parent = p; word = 0; at = c.at }) c.values.suffix c.values.value x f rows rows' text text' g → Opening doc kinds.enumvalue c p f rows rows' text text' (Ok g)
     unfolding opens_as
     enumvalue_done q =
         opened r r.fits.values.suffix r.fits.values.value (absent_fits r a) q refl refl refl
         (λ t z. (attr (bytes "suffix") t, attr (bytes "value") t, none, refl, z.values.suffix, z.values.value, a.kind))
 
-    pub annotation_done : (c.values.name.kind ≡ 0 → ⊥) → (c.values.value.kind ≡ 0 → ⊥) → RowPut doc (record { kind = kinds.annotation; parent = p; word = 0; at = c.at }) c.values.name c.values.value x f rows rows' text text' g → Opening doc kinds.annotation c p f rows rows' text text' (Answer.Done g)
+    pub annotation_done : (c.values.name.kind ≡ 0 → ⊥) → (c.values.value.kind ≡ 0 → ⊥) → RowPut doc (record { kind = kinds.annotation; parent = p; word = 0; at = c.at }) c.values.name c.values.value x f rows rows' text text' g → Opening doc kinds.annotation c p f rows rows' text text' (Ok g)
     unfolding opens_as
     annotation_done n v q =
         opened r r.fits.values.name r.fits.values.value (absent_fits r a) q refl refl refl
@@ -156,7 +156,7 @@ module _ {doc : List ℕ} {c : StartTag} {f : Fill} (r : Ready doc c f) {p : ℕ
         let w = there doc (bytes "value") t z.values.value v in
         (some s.0, some w.0, none, rw (s.1, w.1), s.2, w.2, a.kind))
 
-  pub member_done : RowPut doc (record { kind = kinds.member; parent = p; word = 0; at = c.at }) c.values.name c.values.ty c.values.tp f rows rows' text text' g → Opening doc kinds.member c p f rows rows' text text' (Answer.Done g)
+  pub member_done : RowPut doc (record { kind = kinds.member; parent = p; word = 0; at = c.at }) c.values.name c.values.ty c.values.tp f rows rows' text text' g → Opening doc kinds.member c p f rows rows' text text' (Ok g)
   unfolding opens_as
   member_done q =
       opened r r.fits.values.name r.fits.values.ty r.fits.values.tp q refl refl refl
@@ -177,21 +177,21 @@ shown_after : {doc : List ℕ} {c : StartTag} {t : Tag} {v : Value} {s : Shown} 
 shown_after n z h = rw (z.end, h.at, h.len)
 
 module _ {doc : List ℕ} {c : StartTag} {f : Fill} (r : Ready doc c f) {p : ℕ} {rows text : List ℕ} where
-  pub named_missing : {k : ℕ} {good : List ℕ → Bool} {x : Refusal} → NamedKind good k → c.values.name.kind ≡ 0 → x ≡ lacking_at 1 c.at c.len → Opening doc k c p f rows rows text text (Answer.Fault x)
+  pub named_missing : {k : ℕ} {good : List ℕ → Bool} {x : Refusal} → NamedKind good k → c.values.name.kind ≡ 0 → x ≡ lacking_at 1 c.at c.len → Opening doc k c p f rows rows text text (Err x)
   named_missing i e q = refused r (λ t z. i.is p t ∙ rw (missing doc (bytes "name") t c.values.name z.values.name e) (ap refuses (lacks_tag z ∙ sym q)))
 
-  pub named_bad : {k : ℕ} {good : List ℕ → Bool} {ok : Bool} {x : Refusal} → NamedKind good k → (c.values.name.kind ≡ 0 → ⊥) → Tests good doc c.values.name ok → ok ≡ false → x ≡ bare 13 c.at → Opening doc k c p f rows rows text text (Answer.Fault x)
+  pub named_bad : {k : ℕ} {good : List ℕ → Bool} {ok : Bool} {x : Refusal} → NamedKind good k → (c.values.name.kind ≡ 0 → ⊥) → Tests good doc c.values.name ok → ok ≡ false → x ≡ bare 13 c.at → Opening doc k c p f rows rows text text (Err x)
   named_bad i n o e q =
       refused r
       (λ t z.
       let s = there doc (bytes "name") t z.values.name n in
       i.is p t ∙ rw (s.1, sym (o.is s.0 s.2) ∙ e) (ap refuses (ap (bare 13) (sym z.at) ∙ sym q)))
 
-  pub annotation_unnamed : {x : Refusal} → c.values.name.kind ≡ 0 → x ≡ lacking_at 1 c.at c.len → Opening doc kinds.annotation c p f rows rows text text (Answer.Fault x)
+  pub annotation_unnamed : {x : Refusal} → c.values.name.kind ≡ 0 → x ≡ lacking_at 1 c.at c.len → Opening doc kinds.annotation c p f rows rows text text (Err x)
   unfolding opens_as
   annotation_unnamed e q = refused r (λ t z. rw (missing doc (bytes "name") t c.values.name z.values.name e) (ap refuses (lacks_tag z ∙ sym q)))
 
-  pub annotation_unvalued : {x : Refusal} → (c.values.name.kind ≡ 0 → ⊥) → c.values.value.kind ≡ 0 → x ≡ lacking_at 4 c.at c.len → Opening doc kinds.annotation c p f rows rows text text (Answer.Fault x)
+  pub annotation_unvalued : {x : Refusal} → (c.values.name.kind ≡ 0 → ⊥) → c.values.value.kind ≡ 0 → x ≡ lacking_at 4 c.at c.len → Opening doc kinds.annotation c p f rows rows text text (Err x)
   unfolding opens_as
   annotation_unvalued n e q =
       refused r
@@ -229,12 +229,12 @@ accesses {doc} {v} n l = record { is = λ o h. let s = value_there doc v o h n i
 -- property: the tests in a row
 module _ {doc : List ℕ} {c : StartTag} {f : Fill} (r : Ready doc c f) {p : ℕ} where
   module _ {rows text : List ℕ} where
-    pub property_unnamed : {x : Refusal} → c.values.name.kind ≡ 0 → x ≡ lacking_at 1 c.at c.len → Opening doc kinds.property c p f rows rows text text (Answer.Fault x)
+    pub property_unnamed : {x : Refusal} → c.values.name.kind ≡ 0 → x ≡ lacking_at 1 c.at c.len → Opening doc kinds.property c p f rows rows text text (Err x)
     unfolding opens_as
     property_unnamed e q = refused r (λ t z. rw (missing doc (bytes "name") t c.values.name z.values.name e) (ap refuses (lacks_tag z ∙ sym q)))
 
   module _ (n : c.values.name.kind ≡ 0 → ⊥) {o : Bool} (i : Tests property_name doc c.values.name o) where
-    pub property_bad : {rows text : List ℕ} {x : Refusal} → not o ≡ true → x ≡ bare 13 c.at → Opening doc kinds.property c p f rows rows text text (Answer.Fault x)
+    pub property_bad : {rows text : List ℕ} {x : Refusal} → not o ≡ true → x ≡ bare 13 c.at → Opening doc kinds.property c p f rows rows text text (Err x)
     unfolding opens_as
     property_bad e q =
         refused r
@@ -243,7 +243,7 @@ module _ {doc : List ℕ} {c : StartTag} {f : Fill} (r : Ready doc c f) {p : ℕ
         rw (s.1, sym (i.is s.0 s.2) ∙ not-true o e) (ap refuses (ap (bare 13) (sym z.at) ∙ sym q)))
 
   module _ (h : PropertyNamed doc c) where
-    pub property_untyped : {rows text : List ℕ} {x : Refusal} → c.values.ty.kind ≡ 0 → x ≡ lacking_at 2 c.at c.len → Opening doc kinds.property c p f rows rows text text (Answer.Fault x)
+    pub property_untyped : {rows text : List ℕ} {x : Refusal} → c.values.ty.kind ≡ 0 → x ≡ lacking_at 2 c.at c.len → Opening doc kinds.property c p f rows rows text text (Err x)
     unfolding opens_as
     property_untyped e q =
         refused r
@@ -252,7 +252,7 @@ module _ {doc : List ℕ} {c : StartTag} {f : Fill} (r : Ready doc c f) {p : ℕ
         rw (s.1, s.3, missing doc (bytes "type") t c.values.ty z.values.ty e) (ap refuses (lacks_tag z ∙ sym q)))
 
     module _ (m : c.values.ty.kind ≡ 0 → ⊥) {y : Bool} (j : Tests signature doc c.values.ty y) where
-      pub property_unsigned : {rows text : List ℕ} {x : Refusal} → not y ≡ true → x ≡ bare 14 c.at → Opening doc kinds.property c p f rows rows text text (Answer.Fault x)
+      pub property_unsigned : {rows text : List ℕ} {x : Refusal} → not y ≡ true → x ≡ bare 14 c.at → Opening doc kinds.property c p f rows rows text text (Err x)
       unfolding opens_as
       property_unsigned e q =
           refused r
@@ -263,7 +263,7 @@ module _ {doc : List ℕ} {c : StartTag} {f : Fill} (r : Ready doc c f) {p : ℕ
 
       module _ (x : not y ≡ false) where
         module _ {word : ℕ} (l : Accesses doc c.values.access word) where
-          pub property_unaccessed : {rows text : List ℕ} {x : Refusal} → word ≡ 4 → x ≡ lacking_at 3 c.at c.len → Opening doc kinds.property c p f rows rows text text (Answer.Fault x)
+          pub property_unaccessed : {rows text : List ℕ} {x : Refusal} → word ≡ 4 → x ≡ lacking_at 3 c.at c.len → Opening doc kinds.property c p f rows rows text text (Err x)
           unfolding opens_as
           property_unaccessed e q =
               refused r
@@ -273,7 +273,7 @@ module _ {doc : List ℕ} {c : StartTag} {f : Fill} (r : Ready doc c f) {p : ℕ
               rw (s.1, s.3, w.1, sym (j.is w.0 w.2) ∙ not-false y x, access_missing (attr (bytes "access") t) (sym (l.is (attr (bytes "access") t) z.values.access) ∙ e))
               (ap refuses (lacks_tag z ∙ sym q)))
 
-          pub property_inaccessible : {rows text : List ℕ} {x : Refusal} → word ≡ 0 → x ≡ showing 15 c.end (record { at = c.values.access.at; len = c.values.access.len }) → Opening doc kinds.property c p f rows rows text text (Answer.Fault x)
+          pub property_inaccessible : {rows text : List ℕ} {x : Refusal} → word ≡ 0 → x ≡ showing 15 c.end (record { at = c.values.access.at; len = c.values.access.len }) → Opening doc kinds.property c p f rows rows text text (Err x)
           unfolding opens_as
           property_inaccessible e q =
               refused r
@@ -283,7 +283,7 @@ module _ {doc : List ℕ} {c : StartTag} {f : Fill} (r : Ready doc c f) {p : ℕ
               rw (s.1, s.3, w.1, sym (j.is w.0 w.2) ∙ not-false y x)
               (access_bad c.values.access z (attr (bytes "access") t) z.values.access _ (sym (l.is (attr (bytes "access") t) z.values.access) ∙ e) ∙ ap refuses (sym q)))
 
-          pub property_done : {rows rows' text text' : List ℕ} {g : Fill} → (word ≡ 4 → ⊥) → (word ≡ 0 → ⊥) → RowPut doc (record { kind = kinds.property; parent = p; word = word; at = c.at }) c.values.name c.values.ty c.values.tp f rows rows' text text' g → Opening doc kinds.property c p f rows rows' text text' (Answer.Done g)
+          pub property_done : {rows rows' text text' : List ℕ} {g : Fill} → (word ≡ 4 → ⊥) → (word ≡ 0 → ⊥) → RowPut doc (record { kind = kinds.property; parent = p; word = word; at = c.at }) c.values.name c.values.ty c.values.tp f rows rows' text text' g → Opening doc kinds.property c p f rows rows' text text' (Ok g)
           unfolding opens_as
           property_done n e q =
               opened r r.fits.values.name r.fits.values.ty r.fits.values.tp q refl refl refl
@@ -341,12 +341,12 @@ direction_good t (some s) k e = go (eqb (direction_of s.value) 0) refl e
     go false h e = rw h
 
 module _ {doc : List ℕ} {c : StartTag} {f : Fill} (r : Ready doc c f) where
-  pub arg_untyped : {p : ℕ} {rows text : List ℕ} {x : Refusal} → c.values.ty.kind ≡ 0 → x ≡ lacking_at 2 c.at c.len → Opening doc kinds.arg c p f rows rows text text (Answer.Fault x)
+  pub arg_untyped : {p : ℕ} {rows text : List ℕ} {x : Refusal} → c.values.ty.kind ≡ 0 → x ≡ lacking_at 2 c.at c.len → Opening doc kinds.arg c p f rows rows text text (Err x)
   unfolding opens_as
   arg_untyped e q = refused r (λ t z. rw (missing doc (bytes "type") t c.values.ty z.values.ty e) (ap refuses (lacks_tag z ∙ sym q)))
 
   module _ (m : c.values.ty.kind ≡ 0 → ⊥) {y : Bool} (j : Tests signature doc c.values.ty y) where
-    pub arg_unsigned : {p : ℕ} {rows text : List ℕ} {x : Refusal} → not y ≡ true → x ≡ bare 14 c.at → Opening doc kinds.arg c p f rows rows text text (Answer.Fault x)
+    pub arg_unsigned : {p : ℕ} {rows text : List ℕ} {x : Refusal} → not y ≡ true → x ≡ bare 14 c.at → Opening doc kinds.arg c p f rows rows text text (Err x)
     unfolding opens_as
     arg_unsigned e q =
         refused r
@@ -361,7 +361,7 @@ module _ {doc : List ℕ} {c : StartTag} {f : Fill} (r : Ready doc c f) where
           let w = there doc (bytes "type") t z.values.ty m in
           (w.0, w.2, rw (w.1, sym (j.is w.0 w.2) ∙ not-false y x))
 
-      pub arg_undirected : {p : ℕ} {rows text : List ℕ} {x : Refusal} → word ≡ 3 → x ≡ showing 16 c.end (record { at = c.values.direction.at; len = c.values.direction.len }) → Opening doc kinds.arg c p f rows rows text text (Answer.Fault x)
+      pub arg_undirected : {p : ℕ} {rows text : List ℕ} {x : Refusal} → word ≡ 3 → x ≡ showing 16 c.end (record { at = c.values.direction.at; len = c.values.direction.len }) → Opening doc kinds.arg c p f rows rows text text (Err x)
       arg_undirected {p} e q =
           refused r
           (λ t z.
@@ -369,7 +369,7 @@ module _ {doc : List ℕ} {c : StartTag} {f : Fill} (r : Ready doc c f) where
           ∙ direction_bad c.values.direction z (attr (bytes "direction") t) z.values.direction (λ d. opens (row whole t kinds.arg p (attr (bytes "name") t) (some (typed p t z).0) (tp_type t.attrs) d)) (sym (l.is (attr (bytes "direction") t) z.values.direction) ∙ e)
           ∙ ap refuses (sym q))
 
-      pub arg_done : {p : ℕ} {rows rows' text text' : List ℕ} {g : Fill} → (word ≡ 3 → ⊥) → RowPut doc (record { kind = kinds.arg; parent = p; word = word; at = c.at }) c.values.name c.values.ty c.values.tp f rows rows' text text' g → Opening doc kinds.arg c p f rows rows' text text' (Answer.Done g)
+      pub arg_done : {p : ℕ} {rows rows' text text' : List ℕ} {g : Fill} → (word ≡ 3 → ⊥) → RowPut doc (record { kind = kinds.arg; parent = p; word = word; at = c.at }) c.values.name c.values.ty c.values.tp f rows rows' text text' g → Opening doc kinds.arg c p f rows rows' text text' (Ok g)
       arg_done {p} e q =
           opened r r.fits.values.name r.fits.values.ty r.fits.values.tp q refl refl refl
           (λ t z.

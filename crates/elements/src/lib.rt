@@ -7,7 +7,7 @@ ghost use Rattle.document.specs.Kinds as kinds;
 ghost use Rattle.document.specs.Outcome.{Lies, Ready, Opening};
 ghost use Rattle.elements.specs.Outcome.{Absent, Accesses, Directs, PropertyNamed, NamedKind, TypedKind, UntypedKind, lacking_at};
 
-use document::{Answer, Excerpt, Fill, Refusal, StartTag, Value, kinds};
+use document::{Excerpt, Fill, Refusal, StartTag, Value, kinds};
 use rows::Head;
 
 // A value that is not there.
@@ -36,6 +36,7 @@ fn lacking(key: u32, at: usize, len: usize) -> Refusal
 }
 
 // A node: its name may be missing.
+#[tactic(auto, using(crate::proofs::Rows::elements))]
 pub fn node_row(
     doc: &[u8],
     rows: &mut [u32],
@@ -43,9 +44,9 @@ pub fn node_row(
     c: StartTag,
     parent: usize,
     f: Fill,
-) -> Answer
-    requires fact_1 { Ready doc.now c f }
-    requires fact_2 { parent ≤ 1048576 }
+) -> Result<Fill, Refusal>
+    requires ready { Ready doc.now c f }
+    requires parent_small { parent ≤ 1048576 }
     ensures { Opening doc.now kinds.node c parent f rows.old rows.new
         text.old text.new result }
 {
@@ -55,10 +56,11 @@ pub fn node_row(
         word: 0,
         at: c.at,
     };
-    Answer::Done(rows::put_row(doc, rows, text, head, c.values.name, absent(), absent(), f))
+    Ok(rows::put_row(doc, rows, text, head, c.values.name, absent(), absent(), f))
 }
 
 // An interface: name there, name good.
+#[tactic(auto, using(crate::proofs::Rows::elements))]
 pub fn interface_row(
     doc: &[u8],
     rows: &mut [u32],
@@ -66,15 +68,15 @@ pub fn interface_row(
     c: StartTag,
     parent: usize,
     f: Fill,
-) -> Answer
-    requires fact_1 { Ready doc.now c f }
-    requires fact_2 { parent ≤ 1048576 }
+) -> Result<Fill, Refusal>
+    requires ready { Ready doc.now c f }
+    requires parent_small { parent ≤ 1048576 }
     ensures { Opening doc.now kinds.interface c parent f rows.old rows.new
         text.old text.new result }
 {
     let name = c.values.name;
     if name.kind == 0 {
-        return Answer::Fault(lacking(1, c.at, c.len));
+        return Err(lacking(1, c.at, c.len));
     }
     if shown::interface_name(doc, name) {
         let head = Head {
@@ -83,12 +85,13 @@ pub fn interface_row(
             word: 0,
             at: c.at,
         };
-        return Answer::Done(rows::put_row(doc, rows, text, head, name, absent(), absent(), f));
+        return Ok(rows::put_row(doc, rows, text, head, name, absent(), absent(), f));
     }
-    Answer::Fault(document::bare(13, c.at))
+    Err(document::bare(13, c.at))
 }
 
 // A method or a signal: name there, name good.
+#[tactic(auto, using(crate::proofs::Rows::elements))]
 pub fn callable_row(
     doc: &[u8],
     rows: &mut [u32],
@@ -97,16 +100,16 @@ pub fn callable_row(
     kind: u32,
     parent: usize,
     f: Fill,
-) -> Answer
-    requires fact_1 { Ready doc.now c f }
-    requires fact_2 { parent ≤ 1048576 }
-    requires fact_3 { NamedKind member_name kind }
+) -> Result<Fill, Refusal>
+    requires ready { Ready doc.now c f }
+    requires parent_small { parent ≤ 1048576 }
+    requires of_kind { NamedKind member_name kind }
     ensures { Opening doc.now kind c parent f rows.old rows.new
         text.old text.new result }
 {
     let name = c.values.name;
     if name.kind == 0 {
-        return Answer::Fault(lacking(1, c.at, c.len));
+        return Err(lacking(1, c.at, c.len));
     }
     if shown::member_name(doc, name) {
         let head = Head {
@@ -115,12 +118,13 @@ pub fn callable_row(
             word: 0,
             at: c.at,
         };
-        return Answer::Done(rows::put_row(doc, rows, text, head, name, absent(), absent(), f));
+        return Ok(rows::put_row(doc, rows, text, head, name, absent(), absent(), f));
     }
-    Answer::Fault(document::bare(13, c.at))
+    Err(document::bare(13, c.at))
 }
 
 // An annotation: name, value.
+#[tactic(auto, using(crate::proofs::Rows::elements))]
 pub fn annotation_row(
     doc: &[u8],
     rows: &mut [u32],
@@ -128,19 +132,19 @@ pub fn annotation_row(
     c: StartTag,
     parent: usize,
     f: Fill,
-) -> Answer
-    requires fact_1 { Ready doc.now c f }
-    requires fact_2 { parent ≤ 1048576 }
+) -> Result<Fill, Refusal>
+    requires ready { Ready doc.now c f }
+    requires parent_small { parent ≤ 1048576 }
     ensures { Opening doc.now kinds.annotation c parent f rows.old rows.new
         text.old text.new result }
 {
     let name = c.values.name;
     let value = c.values.value;
     if name.kind == 0 {
-        return Answer::Fault(lacking(1, c.at, c.len));
+        return Err(lacking(1, c.at, c.len));
     }
     if value.kind == 0 {
-        return Answer::Fault(lacking(4, c.at, c.len));
+        return Err(lacking(4, c.at, c.len));
     }
     let head = Head {
         kind: kinds::ANNOTATION,
@@ -148,10 +152,11 @@ pub fn annotation_row(
         word: 0,
         at: c.at,
     };
-    Answer::Done(rows::put_row(doc, rows, text, head, name, value, absent(), f))
+    Ok(rows::put_row(doc, rows, text, head, name, value, absent(), f))
 }
 
 // A simple-type or an enum: name and type, which may be missing.
+#[tactic(auto, using(crate::proofs::Rows::elements))]
 pub fn typed_row(
     doc: &[u8],
     rows: &mut [u32],
@@ -160,10 +165,10 @@ pub fn typed_row(
     kind: u32,
     parent: usize,
     f: Fill,
-) -> Answer
-    requires fact_1 { Ready doc.now c f }
-    requires fact_2 { parent ≤ 1048576 }
-    requires fact_3 { TypedKind kind }
+) -> Result<Fill, Refusal>
+    requires ready { Ready doc.now c f }
+    requires parent_small { parent ≤ 1048576 }
+    requires of_kind { TypedKind kind }
     ensures { Opening doc.now kind c parent f rows.old rows.new
         text.old text.new result }
 {
@@ -173,7 +178,7 @@ pub fn typed_row(
         word: 0,
         at: c.at,
     };
-    Answer::Done(rows::put_row(
+    Ok(rows::put_row(
         doc,
         rows,
         text,
@@ -186,6 +191,7 @@ pub fn typed_row(
 }
 
 // A struct or a mapping: its name may be missing.
+#[tactic(auto, using(crate::proofs::Rows::elements))]
 pub fn untyped_row(
     doc: &[u8],
     rows: &mut [u32],
@@ -194,10 +200,10 @@ pub fn untyped_row(
     kind: u32,
     parent: usize,
     f: Fill,
-) -> Answer
-    requires fact_1 { Ready doc.now c f }
-    requires fact_2 { parent ≤ 1048576 }
-    requires fact_3 { UntypedKind kind }
+) -> Result<Fill, Refusal>
+    requires ready { Ready doc.now c f }
+    requires parent_small { parent ≤ 1048576 }
+    requires of_kind { UntypedKind kind }
     ensures { Opening doc.now kind c parent f rows.old rows.new
         text.old text.new result }
 {
@@ -207,10 +213,11 @@ pub fn untyped_row(
         word: 0,
         at: c.at,
     };
-    Answer::Done(rows::put_row(doc, rows, text, head, c.values.name, absent(), absent(), f))
+    Ok(rows::put_row(doc, rows, text, head, c.values.name, absent(), absent(), f))
 }
 
 // An enumvalue: suffix and value, which may be missing.
+#[tactic(auto, using(crate::proofs::Rows::elements))]
 pub fn enumvalue_row(
     doc: &[u8],
     rows: &mut [u32],
@@ -218,9 +225,9 @@ pub fn enumvalue_row(
     c: StartTag,
     parent: usize,
     f: Fill,
-) -> Answer
-    requires fact_1 { Ready doc.now c f }
-    requires fact_2 { parent ≤ 1048576 }
+) -> Result<Fill, Refusal>
+    requires ready { Ready doc.now c f }
+    requires parent_small { parent ≤ 1048576 }
     ensures { Opening doc.now kinds.enumvalue c parent f rows.old rows.new
         text.old text.new result }
 {
@@ -230,7 +237,7 @@ pub fn enumvalue_row(
         word: 0,
         at: c.at,
     };
-    Answer::Done(rows::put_row(
+    Ok(rows::put_row(
         doc,
         rows,
         text,
@@ -243,6 +250,7 @@ pub fn enumvalue_row(
 }
 
 // A member of a struct or a mapping: name, type and tp type, which may be missing.
+#[tactic(auto, using(crate::proofs::Rows::elements))]
 pub fn member_row(
     doc: &[u8],
     rows: &mut [u32],
@@ -250,9 +258,9 @@ pub fn member_row(
     c: StartTag,
     parent: usize,
     f: Fill,
-) -> Answer
-    requires fact_1 { Ready doc.now c f }
-    requires fact_2 { parent ≤ 1048576 }
+) -> Result<Fill, Refusal>
+    requires ready { Ready doc.now c f }
+    requires parent_small { parent ≤ 1048576 }
     ensures { Opening doc.now kinds.member c parent f rows.old rows.new
         text.old text.new result }
 {
@@ -262,7 +270,7 @@ pub fn member_row(
         word: 0,
         at: c.at,
     };
-    Answer::Done(rows::put_row(
+    Ok(rows::put_row(
         doc,
         rows,
         text,
@@ -275,6 +283,7 @@ pub fn member_row(
 }
 
 // A property: name there, name good, type there, signature good, access there, access good.
+#[tactic(auto, using(crate::proofs::Rows::properties))]
 pub fn property_row(
     doc: &[u8],
     rows: &mut [u32],
@@ -282,23 +291,24 @@ pub fn property_row(
     c: StartTag,
     parent: usize,
     f: Fill,
-) -> Answer
-    requires fact_1 { Ready doc.now c f }
-    requires fact_2 { parent ≤ 1048576 }
+) -> Result<Fill, Refusal>
+    requires ready { Ready doc.now c f }
+    requires parent_small { parent ≤ 1048576 }
     ensures { Opening doc.now kinds.property c parent f rows.old rows.new
         text.old text.new result }
 {
     let v = c.values;
     if v.name.kind == 0 {
-        return Answer::Fault(lacking(1, c.at, c.len));
+        return Err(lacking(1, c.at, c.len));
     }
     if !shown::property_name(doc, v.name) {
-        return Answer::Fault(document::bare(13, c.at));
+        return Err(document::bare(13, c.at));
     }
     accessed_row(doc, rows, text, c, parent, f)
 }
 
 // A property whose name is good: type there, signature good, access there, access good.
+#[tactic(auto, using(crate::proofs::Rows::properties))]
 fn accessed_row(
     doc: &[u8],
     rows: &mut [u32],
@@ -306,30 +316,30 @@ fn accessed_row(
     c: StartTag,
     parent: usize,
     f: Fill,
-) -> Answer
-    requires fact_1 { Ready doc.now c f }
-    requires fact_2 { parent ≤ 1048576 }
-    requires fact_3 { PropertyNamed doc.now c }
+) -> Result<Fill, Refusal>
+    requires ready { Ready doc.now c f }
+    requires parent_small { parent ≤ 1048576 }
+    requires property_named { PropertyNamed doc.now c }
     ensures { Opening doc.now kinds.property c parent f rows.old rows.new
         text.old text.new result }
 {
     let v = c.values;
     if v.ty.kind == 0 {
-        return Answer::Fault(lacking(2, c.at, c.len));
+        return Err(lacking(2, c.at, c.len));
     }
     if !shown::signature(doc, v.ty) {
-        return Answer::Fault(document::bare(14, c.at));
+        return Err(document::bare(14, c.at));
     }
     let word = access_word(doc, v.access);
     if word == 4 {
-        return Answer::Fault(lacking(3, c.at, c.len));
+        return Err(lacking(3, c.at, c.len));
     }
     if word == 0 {
         let first = Excerpt {
             at: v.access.at,
             len: v.access.len,
         };
-        return Answer::Fault(document::showing(15, c.end, first));
+        return Err(document::showing(15, c.end, first));
     }
     let head = Head {
         kind: kinds::PROPERTY,
@@ -337,7 +347,7 @@ fn accessed_row(
         word,
         at: c.at,
     };
-    Answer::Done(rows::put_row(doc, rows, text, head, v.name, v.ty, v.tp, f))
+    Ok(rows::put_row(doc, rows, text, head, v.name, v.ty, v.tp, f))
 }
 
 // The number of a property's access: 4 if it has none, 0 if it is neither of the three.
@@ -367,6 +377,7 @@ fn direction_word(doc: &[u8], v: Value) -> u32
 }
 
 // An arg: type, signature, direction.
+#[tactic(auto, using(crate::proofs::Rows::args))]
 pub fn arg_row(
     doc: &[u8],
     rows: &mut [u32],
@@ -374,18 +385,18 @@ pub fn arg_row(
     c: StartTag,
     parent: usize,
     f: Fill,
-) -> Answer
-    requires fact_1 { Ready doc.now c f }
-    requires fact_2 { parent ≤ 1048576 }
+) -> Result<Fill, Refusal>
+    requires ready { Ready doc.now c f }
+    requires parent_small { parent ≤ 1048576 }
     ensures { Opening doc.now kinds.arg c parent f rows.old rows.new
         text.old text.new result }
 {
     let v = c.values;
     if v.ty.kind == 0 {
-        return Answer::Fault(lacking(2, c.at, c.len));
+        return Err(lacking(2, c.at, c.len));
     }
     if !shown::signature(doc, v.ty) {
-        return Answer::Fault(document::bare(14, c.at));
+        return Err(document::bare(14, c.at));
     }
     let word = direction_word(doc, v.direction);
     if word == 3 {
@@ -393,7 +404,7 @@ pub fn arg_row(
             at: v.direction.at,
             len: v.direction.len,
         };
-        return Answer::Fault(document::showing(16, c.end, first));
+        return Err(document::showing(16, c.end, first));
     }
     let head = Head {
         kind: kinds::ARG,
@@ -401,5 +412,5 @@ pub fn arg_row(
         word,
         at: c.at,
     };
-    Answer::Done(rows::put_row(doc, rows, text, head, v.name, v.ty, v.tp, f))
+    Ok(rows::put_row(doc, rows, text, head, v.name, v.ty, v.tp, f))
 }

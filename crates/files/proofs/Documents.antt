@@ -7,43 +7,45 @@ use mathlib.Core.Bool.{Bool, true, false}
 use native.Mathlib.Omega.{arith}
 use lib.ListN.{length, take, replicate, length-append}
 use lib.Seq.{take-append_seam}
+use Rattle.std.specs.Prelude.{Ok, Err, Some, None}
+use Rattle.faults.specs.declared.Fault.{Fault}
+use Rattle.faults.specs.Fault.{fault}
 use Rattle.slices.specs.Bytes.{if}
 use Rattle.answers.specs.Text.{Text, text, wrong}
 use Rattle.utf16.specs.Entry.{marked, decoding, answer_of, answer, left}
-use Rattle.utf16.specs.declared.Answer.TheVariants.{Unmarked, Refused, Decoded}
 use Rattle.document.specs.Refusals.{bare}
 use Rattle.document.specs.Reading.{refused}
 use Rattle.document.specs.Whole.{Room, verdict_of, Says}
-use Rattle.document.specs.declared.Verdict.{Verdict}
+use Rattle.document.specs.Verdict.{Verdict}
 use Rattle.files.specs.Files.{document_of, read_file, decoded_length, Reads}
 
 -- ---- what decoding answers, by the mark
 
 module _ (raw : List ℕ) (room : ℕ) where
-  of_unmarked : (m : Bool) (o : Text) → if m (answer_of o) Unmarked ≡ Unmarked → m ≡ false
+  of_unmarked : (m : Bool) (o : Text) → if m (answer_of o) (Ok None) ≡ Ok None → m ≡ false
   of_unmarked true (text t) e = let z : ◌≡◌ {A = ℕ} 0 1 = cc in absurd (omega arith)
   of_unmarked true (wrong k q) e = let z : ◌≡◌ {A = ℕ} 0 1 = cc in absurd (omega arith)
   of_unmarked false o e = refl
 
-  of_refused : (n p : ℕ) (m : Bool) (o : Text) → if m (answer_of o) Unmarked ≡ Refused n p → (m ≡ true) × (o ≡ wrong n p)
-  of_refused n p true (text t) e = let z : ◌≡◌ {A = ℕ} 0 1 = cc in absurd (omega arith)
-  of_refused n p true (wrong k q) e = (refl, cc)
-  of_refused n p false o e = let z : ◌≡◌ {A = ℕ} 0 1 = cc in absurd (omega arith)
+  of_refused : (f : Fault) (m : Bool) (o : Text) → if m (answer_of o) (Ok None) ≡ Err f → (m ≡ true) × (o ≡ wrong f.number f.place)
+  of_refused f true (text t) e = let z : ◌≡◌ {A = ℕ} 0 1 = cc in absurd (omega arith)
+  of_refused f true (wrong k q) e = (refl, let g : fault k q ≡ f = cc in ap (λ (z : Fault). wrong z.number z.place) g)
+  of_refused f false o e = let z : ◌≡◌ {A = ℕ} 0 1 = cc in absurd (omega arith)
 
-  of_decoded : (n : ℕ) (m : Bool) (o : Text) → if m (answer_of o) Unmarked ≡ Decoded n → (m ≡ true) × (t : List ℕ) × (o ≡ text t) × (n ≡ length t)
+  of_decoded : (n : ℕ) (m : Bool) (o : Text) → if m (answer_of o) (Ok None) ≡ Ok (Some n) → (m ≡ true) × (t : List ℕ) × (o ≡ text t) × (n ≡ length t)
   of_decoded n true (text t) e = (refl, t, refl, cc)
   of_decoded n true (wrong k q) e = let z : ◌≡◌ {A = ℕ} 0 1 = cc in absurd (omega arith)
   of_decoded n false o e = let z : ◌≡◌ {A = ℕ} 0 1 = cc in absurd (omega arith)
 
-  unmarked : answer raw room ≡ Unmarked → marked raw ≡ false
+  unmarked : answer raw room ≡ Ok None → marked raw ≡ false
   unfolding answer
   unmarked = of_unmarked (marked raw) (decoding raw room)
 
-  refusing : {n p : ℕ} → answer raw room ≡ Refused n p → (marked raw ≡ true) × (decoding raw room ≡ wrong n p)
+  refusing : {f : Fault} → answer raw room ≡ Err f → (marked raw ≡ true) × (decoding raw room ≡ wrong f.number f.place)
   unfolding answer
-  refusing {n} {p} = of_refused n p (marked raw) (decoding raw room)
+  refusing {f} = of_refused f (marked raw) (decoding raw room)
 
-  decodes : {n : ℕ} → answer raw room ≡ Decoded n → (marked raw ≡ true) × (t : List ℕ) × (decoding raw room ≡ text t) × (n ≡ length t)
+  decodes : {n : ℕ} → answer raw room ≡ Ok (Some n) → (marked raw ≡ true) × (t : List ℕ) × (decoding raw room ≡ text t) × (n ≡ length t)
   unfolding answer
   decodes {n} = of_decoded n (marked raw) (decoding raw room)
 
@@ -56,31 +58,31 @@ module _ (raw : List ℕ) (room : ℕ) where
 
   -- ---- the document, and how many bytes were decoded
 
-  pub document_unmarked : answer raw room ≡ Unmarked → document_of raw room ≡ text raw
+  pub document_unmarked : answer raw room ≡ Ok None → document_of raw room ≡ text raw
   unfolding document_of
   document_unmarked e = rw (unmarked e)
 
-  pub none_unmarked : answer raw room ≡ Unmarked → decoded_length raw room ≡ 0
+  pub none_unmarked : answer raw room ≡ Ok None → decoded_length raw room ≡ 0
   unfolding decoded_length
   none_unmarked e = rw (unmarked e)
 
-  pub document_refused : {n p : ℕ} → answer raw room ≡ Refused n p → document_of raw room ≡ wrong n p
+  pub document_refused : {f : Fault} → answer raw room ≡ Err f → document_of raw room ≡ wrong f.number f.place
   unfolding document_of
   document_refused e = let h = refusing e in rw (h.0, h.1)
 
-  pub none_refused : {n p : ℕ} → answer raw room ≡ Refused n p → decoded_length raw room ≡ 0
+  pub none_refused : {f : Fault} → answer raw room ≡ Err f → decoded_length raw room ≡ 0
   unfolding decoded_length
   none_refused e = let h = refusing e in rw (h.0, h.1)
 
-  pub document_decoded : {n : ℕ} → answer raw room ≡ Decoded n → document_of raw room ≡ text (take n (left raw room))
+  pub document_decoded : {n : ℕ} → answer raw room ≡ Ok (Some n) → document_of raw room ≡ text (take n (left raw room))
   unfolding document_of
   document_decoded {n} e = let h = decodes e in rw (h.0, h.2) (ap text (sym (front_is n h.1 h.0 h.2 h.3)))
 
-  pub some_decoded : {n : ℕ} → answer raw room ≡ Decoded n → decoded_length raw room ≡ n
+  pub some_decoded : {n : ℕ} → answer raw room ≡ Ok (Some n) → decoded_length raw room ≡ n
   unfolding decoded_length
   some_decoded e = let h = decodes e in rw (h.0, h.2) (sym h.3)
 
-  pub inside_decoded : {n : ℕ} → answer raw room ≡ Decoded n → n ≤ length (left raw room)
+  pub inside_decoded : {n : ℕ} → answer raw room ≡ Ok (Some n) → n ≤ length (left raw room)
   inside_decoded e =
       let h = decodes e in
       rw (left_is h.1 h.0 h.2) (omega (arith, length-append h.1 (replicate (room - length h.1) 0), h.3))

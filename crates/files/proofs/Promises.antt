@@ -9,6 +9,7 @@ use borrow.Author.Tests.{ne_eqb, ltb-true, le-ltb}
 use native.Mathlib.Omega.{arith}
 use lib.Dec.{eqb, ltb}
 use lib.ListN.{length}
+use Rattle.std.specs.Prelude.{Ok}
 use Rattle.slices.specs.Bytes.{if, starts}
 use Rattle.utf8.specs.WellFormed.{ill_formed}
 use Rattle.scan.specs.Ignorable.{ignorable}
@@ -21,7 +22,7 @@ use Rattle.document.specs.Refusals.{bare}
 use Rattle.document.specs.Elements.{among}
 use Rattle.document.specs.Reading.{refused, step, run}
 use Rattle.document.specs.Whole.{Room, meaning, read, verdict_of}
-use Rattle.document.specs.declared.Verdict.TheVariants.{Accepted}
+use Rattle.document.specs.Verdict.{counts}
 use Rattle.files.specs.Files.{document_of, read_text, read_file, decoded_length, document_left}
 use Rattle.files.specs.Promises.{Unmarked, ReadAsDocument, AcceptedDocument, DecodingRefused, DecodedRoom}
 use Rattle.files.proofs.Documents.{front_is}
@@ -67,7 +68,7 @@ accepted_document raw rows warnings x decoded room decodedRoom r n m k s a = go 
     left_is : (t : List ℕ) → document_of raw decodedRoom ≡ text t → (length t ≡ 0 → ⊥) → document_left raw decoded r.decoded ≡ t
     left_is t e h = rw (s.decoded_left, s.length) (document_left_lem raw decodedRoom t e h)
 
-    go : (o : Text) → document_of raw decodedRoom ≡ o → verdict_of (read_text o room) ≡ Accepted n m k → o ≡ text (document_left raw decoded r.decoded)
+    go : (o : Text) → document_of raw decodedRoom ≡ o → verdict_of (read_text o room) ≡ Ok (counts n m k) → o ≡ text (document_left raw decoded r.decoded)
     go (text []) e f = let q = rw (nothing_read room) at f in let z : ◌≡◌ {A = ℕ} 0 1 = cc in absurd (omega arith)
     go (text (b ∷ t)) e f = ap text (sym (left_is (b ∷ t) e (λ h. absurd (omega arith))))
     go (wrong p q) e f = let z : ◌≡◌ {A = ℕ} 0 1 = cc in absurd (omega arith)

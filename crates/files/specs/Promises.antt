@@ -1,13 +1,13 @@
 -- What is promised of every file that is read: its document is the one that what follows is handed, and how much room is always enough.
 -- Assumes nothing.
-use Rattle.std.specs.Prelude.{ℕ, ◌*◌, ◌≤◌, ◌≡◌, List, [], ◌∷◌, true, false, length}
+use Rattle.std.specs.Prelude.{ℕ, ◌*◌, ◌≤◌, ◌≡◌, List, [], ◌∷◌, true, false, length, Ok}
 use Rattle.slices.specs.Bytes.{all}
 use Rattle.answers.specs.Text.{text, wrong}
 use Rattle.utf16.specs.Entry.{marked}
 use Rattle.utf16.specs.Promises.{is_byte}
 use Rattle.document.specs.Elements.{among}
 use Rattle.document.specs.Whole.{Room, Says}
-use Rattle.document.specs.declared.Verdict.TheVariants.{Accepted}
+use Rattle.document.specs.Verdict.{counts}
 use Rattle.files.specs.Files.{document_of, Reads, document_left}
 use Rattle.files.specs.declared.Reading.{Reading}
 
@@ -28,7 +28,7 @@ abbrev pub AcceptedDocument : Type 0
 AcceptedDocument =
     (raw rows warnings x decoded : List ℕ) (room : Room) (decodedRoom : ℕ) (r : Reading) (n m k : ℕ) →
     Reads raw room decodedRoom rows warnings x decoded r →
-    r.verdict ≡ Accepted n m k →
+    r.verdict ≡ Ok (counts n m k) →
     document_of raw decodedRoom ≡ text (document_left raw decoded r.decoded)
 
 -- a file that cannot be decoded is refused by one of four numbers

@@ -7,13 +7,14 @@ use mathlib.Core.Bool.{Bool, true, false}
 use borrow.Author.Rules.{rules}
 use borrow.Author.Tests.{eq-eqb, ne_eqb, eqb-true}
 use lib.Dec.{eqb}
+use Rattle.std.specs.Prelude.{Result}
 use Rattle.slices.specs.Bytes.{if}
 use Rattle.document.specs.Kinds.{simple_type, enum, struct, mapping, definitions, in_interface}
 use Rattle.document.specs.Elements.{among}
 use Rattle.document.specs.Outcome.{Lent, Begins, Child}
 use Rattle.document.specs.declared.StartTag.{StartTag}
 use Rattle.document.specs.declared.Fill.{Fill}
-use Rattle.document.specs.declared.Answer.{Answer}
+use Rattle.document.specs.declared.Refusal.{Refusal}
 use Rattle.document.proofs.Loops.{child_begins, parts_and_docstring}
 use Rattle.telepathy.specs.Outcome.{DefinitionKind}
 use Rattle.members.proofs.Members.{NoneOf, none_more, child_else, child_parent, child_taken, method_callable, signal_callable}
@@ -77,7 +78,7 @@ no_part k =
     (pick NoPart k struct (mapping ∷ []) refl
     (pick NoPart k mapping [] refl (λ e. cc))))
 
-pub child_definition : {doc hs : List ℕ} {docs : Bool} {c : StartTag} {i : ℕ} {f : Fill} {b b' : Lent} {t : Bool} {r : Answer} → i < f.rows → HoldsDefinitions hs → Among c.kind definitions t → t ≡ true → Begins doc c.kind c (i + 1) f b b' r → Child doc hs docs c i f b b' r
+pub child_definition : {doc hs : List ℕ} {docs : Bool} {c : StartTag} {i : ℕ} {f : Fill} {b b' : Lent} {t : Bool} {r : Result Fill Refusal} → i < f.rows → HoldsDefinitions hs → Among c.kind definitions t → t ≡ true → Begins doc c.kind c (i + 1) f b b' r → Child doc hs docs c i f b b' r
 child_definition {c = c} l d a e h = let y = sym a.is ∙ e in child_begins l refl (d.is c.kind y) (no_part c.kind y) h
 
 pub ruleset interfaces = (child_definition, interface_holds, definition_kind, among_none, method_callable, signal_callable, child_taken, child_begins, none_more, child_else, child_parent, rules)

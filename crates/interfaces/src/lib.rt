@@ -2,13 +2,13 @@
 #![tactic(auto)]
 
 ghost use Rattle.std.specs.Prelude.{◌+◌, ◌≤◌, ◌<◌, true, length};
-ghost use Rattle.scan.specs.Classes.{Classes};
 ghost use Rattle.document.specs.Kinds as kinds;
 ghost use Rattle.document.specs.Outcome.{lent, Bounded, Ready, Begins, Child, Children};
 ghost use Rattle.interfaces.specs.Among.{Among};
 
-use document::{Answer, Excerpt, Fill, Next, Refusal, StartTag, kinds};
+use document::{Fill, Next, Refusal, StartTag, kinds};
 use members::{annotation, callable, property};
+use scan::ClassTable;
 use skip::docstring_or_skip;
 use tags::step;
 use telepathy::definition;
@@ -30,19 +30,19 @@ pub fn is_definition(kind: u32) -> bool
 }
 
 // A child of an interface with row i.
+#[tactic(auto, using(crate::proofs::Interfaces::interfaces))]
 fn interface_child(
     doc: &[u8],
-    classes: &[u8; 256],
+    classes: &ClassTable,
     rows: &mut [u32],
     warnings: &mut [u32],
     text: &mut [u8],
     c: StartTag,
     i: usize,
     f: Fill,
-) -> Answer
-    requires fact_1 { Ready doc.now c f }
-    requires fact_2 { i < f.rows }
-    requires fact_3 { Classes classes.now }
+) -> Result<Fill, Refusal>
+    requires ready { Ready doc.now c f }
+    requires owner { i < f.rows }
     ensures { Child doc.now kinds.in_interface true c i f
         (lent rows.old warnings.old text.old)
         (lent rows.new warnings.new text.new) result }
@@ -62,27 +62,7 @@ fn interface_child(
         );
     }
     if kind == kinds::PROPERTY {
-        // by its parts: a copy of the whole answer is a delay for each
-        match property(doc, classes, rows, warnings, text, c, i + 1, f) {
-            Answer::Fault(refusal) => {
-                return Answer::Fault(Refusal {
-                    place: refusal.place,
-                    number: refusal.number,
-                    key: refusal.key,
-                    first: Excerpt {
-                        at: refusal.first.at,
-                        len: refusal.first.len,
-                    },
-                    second: Excerpt {
-                        at: refusal.second.at,
-                        len: refusal.second.len,
-                    },
-                });
-            }
-            Answer::Done(g) => {
-                return Answer::Done(g);
-            }
-        }
+        return property(doc, classes, rows, warnings, text, c, i + 1, f);
     }
     if kind == kinds::SIGNAL {
         return callable(
@@ -107,9 +87,10 @@ fn interface_child(
 }
 
 // The children of an interface with row i.
+#[tactic(auto, using(document::proofs::Loops::loops))]
 fn interface_children(
     doc: &[u8],
-    classes: &[u8; 256],
+    classes: &ClassTable,
     rows: &mut [u32],
     warnings: &mut [u32],
     text: &mut [u8],
@@ -117,76 +98,47 @@ fn interface_children(
     len: usize,
     i: usize,
     f: Fill,
-) -> Answer
-    requires fact_1 { Bounded doc.now f }
-    requires fact_2 { i < f.rows }
-    requires fact_3 { at + len ≤ length doc.now }
-    requires fact_4 { Classes classes.now }
+) -> Result<Fill, Refusal>
+    requires bounded { Bounded doc.now f }
+    requires owner { i < f.rows }
+    requires named { at + len ≤ length doc.now }
     ensures { Children doc.now kinds.in_interface true at len i f
         (lent rows.old warnings.old text.old)
         (lent rows.new warnings.new text.new) result }
 {
     let mut g = f;
     loop {
-        match step(doc, classes, g.at, at, len) {
-            Next::Fault(refusal) => {
-                return Answer::Fault(refusal);
-            }
-            Next::Close(_, end) => {
-                return Answer::Done(g.moved(end));
-            }
+        match step(doc, classes, g.at, at, len)? {
+            Next::Close(closing) => return Ok(g.moved(closing.end)),
             Next::Start(c) => {
                 let h = g.moved(c.end);
-                match interface_child(doc, classes, rows, warnings, text, c, i, h) {
-                    Answer::Fault(refusal) => {
-                        return Answer::Fault(Refusal {
-                            place: refusal.place,
-                            number: refusal.number,
-                            key: refusal.key,
-                            first: Excerpt {
-                                at: refusal.first.at,
-                                len: refusal.first.len,
-                            },
-                            second: Excerpt {
-                                at: refusal.second.at,
-                                len: refusal.second.len,
-                            },
-                        });
-                    }
-                    Answer::Done(k) => {
-                        g = k;
-                    }
-                }
+                g = interface_child(doc, classes, rows, warnings, text, c, i, h)?;
             }
         }
     }
 }
 
 // An interface.
+#[tactic(auto, using(members::proofs::Members::elements))]
 pub fn interface(
     doc: &[u8],
-    classes: &[u8; 256],
+    classes: &ClassTable,
     rows: &mut [u32],
     warnings: &mut [u32],
     text: &mut [u8],
     c: StartTag,
     parent: usize,
     f: Fill,
-) -> Answer
-    requires fact_1 { Ready doc.now c f }
-    requires fact_2 { parent ≤ 1048576 }
-    requires fact_3 { Classes classes.now }
+) -> Result<Fill, Refusal>
+    requires ready { Ready doc.now c f }
+    requires parent_small { parent ≤ 1048576 }
     ensures { Begins doc.now kinds.interface c parent f
         (lent rows.old warnings.old text.old)
         (lent rows.new warnings.new text.new) result }
 {
-    match elements::interface_row(doc, rows, text, c, parent, f) {
-        Answer::Fault(refusal) => Answer::Fault(refusal),
-        Answer::Done(g) => {
-            if c.closes {
-                return Answer::Done(g);
-            }
-            interface_children(doc, classes, rows, warnings, text, c.at, c.len, f.rows, g)
-        }
+    let g = elements::interface_row(doc, rows, text, c, parent, f)?;
+    if c.closes {
+        return Ok(g);
     }
+    interface_children(doc, classes, rows, warnings, text, c.at, c.len, f.rows, g)
 }

@@ -7,21 +7,20 @@ use mathlib.Core.Bool.{Bool}
 use borrow.Author.Rules.{rules}
 use lib.Dec.{ltb}
 use lib.ListN.{length, replicate, get_or}
+use Rattle.std.specs.Prelude.{Result, Ok, Err}
 use Rattle.tables.specs.declared.Triple.{Triple}
 use Rattle.tables.specs.Triple.{inside, resolved}
 use Rattle.columns.specs.Entries.{Outcome}
 use Rattle.columns.specs.Entries as entries-of
-use Rattle.columns.specs.declared.ColumnsAnswer.{ColumnsAnswer}
-use Rattle.columns.specs.declared.ColumnsAnswer.TheVariants as columns
 use Rattle.answers.specs.Text.{Text, answer_of, left_of, Says}
-use Rattle.answers.specs.declared.TextAnswer.{TextAnswer}
-use Rattle.answers.specs.declared.TextAnswer.TheVariants as answer
 use Rattle.messages.specs.Message.{message_of, warning_message_of}
 use Rattle.document.specs.Refusals.{shown_by}
 use Rattle.document.specs.Whole.{Room}
 use Rattle.document.specs.declared.Refusal.{Refusal}
-use Rattle.document.specs.declared.Verdict.{Verdict}
-use Rattle.document.specs.declared.Verdict.TheVariants as verdict
+use Rattle.document.specs.Verdict.{Verdict}
+use Rattle.document.specs.declared.Counts.{Counts}
+use Rattle.faults.specs.declared.Fault.{Fault}
+use Rattle.order.specs.declared.Ordered.{Ordered}
 use Rattle.files.specs.Files as files
 use Rattle.files.specs.declared.Reading.{Reading}
 use Rattle.strict.specs.Strict as strict
@@ -31,17 +30,15 @@ use Rattle.trees.specs.Writing.{tree_writing, WritesTree}
 use Rattle.introspection.specs.Words.{bit, verdict_words, answer_words, columns_words, Reads, ReadsStrictly, text_words, outcome_words, part_words, lookup_words, told_by, message_by, warning_message_by, refusal_words, order_words, ordering_words}
 use Rattle.order.specs.Ordering as ordering
 use Rattle.order.specs.Steps.{Orders}
-use Rattle.order.specs.declared.Order.{Order}
-use Rattle.order.specs.declared.Order.TheVariants as order
 
 pub refusal-words : {x : Refusal} {a b n d : ℕ} → n ≡ shown_by x.number → a ≡ bit (ltb 0 n) → b ≡ bit (ltb 1 n) → (x.number ∷ x.place ∷ 0 ∷ 0 ∷ 0 ∷ a ∷ x.first.at ∷ x.first.len ∷ b ∷ x.second.at ∷ x.second.len ∷ x.key ∷ d ∷ 0 ∷ 0 ∷ 0 ∷ []) ≡ refusal_words x d
 refusal-words n a b = rw (a, b, n) refl
 
 module _ {v : Verdict} where
-  pub verdict-refused : {x : Refusal} {d : ℕ} {ws : List ℕ} → v ≡ verdict.Refused x → ws ≡ refusal_words x d → ws ≡ verdict_words v d
+  pub verdict-refused : {x : Refusal} {d : ℕ} {ws : List ℕ} → v ≡ Err x → ws ≡ refusal_words x d → ws ≡ verdict_words v d
   verdict-refused e h = h ∙ rw e refl
 
-  pub verdict-accepted : {r t w d : ℕ} → v ≡ verdict.Accepted r t w → (0 ∷ 0 ∷ r ∷ t ∷ w ∷ 0 ∷ 0 ∷ 0 ∷ 0 ∷ 0 ∷ 0 ∷ 0 ∷ d ∷ 0 ∷ 0 ∷ 0 ∷ []) ≡ verdict_words v d
+  pub verdict-accepted : {n : Counts} {d : ℕ} → v ≡ Ok n → (0 ∷ 0 ∷ n.rows ∷ n.text ∷ n.warnings ∷ 0 ∷ 0 ∷ 0 ∷ 0 ∷ 0 ∷ 0 ∷ 0 ∷ d ∷ 0 ∷ 0 ∷ 0 ∷ []) ≡ verdict_words v d
   verdict-accepted e = rw e refl
 
 module _ {raw rows warnings text decoded ws : List ℕ} {room : Room} {k : ℕ} {r : Reading} where
@@ -63,35 +60,35 @@ module _ {raw rows warnings text decoded ws : List ℕ} {room : Room} {k : ℕ} 
     decoded_left = s.decoded_left;
   }
 
-module _ {a : TextAnswer} where
-  pub answer-refused : {n p : ℕ} → a ≡ answer.Refused n p → (n ∷ p ∷ 0 ∷ []) ≡ answer_words a
+module _ {a : Result ℕ Fault} where
+  pub answer-refused : {f : Fault} → a ≡ Err f → (f.number ∷ f.place ∷ 0 ∷ []) ≡ answer_words a
   answer-refused e = rw e refl
 
-  pub answer-done : {n : ℕ} → a ≡ answer.Done n → (0 ∷ 0 ∷ n ∷ []) ≡ answer_words a
+  pub answer-done : {n : ℕ} → a ≡ Ok n → (0 ∷ 0 ∷ n ∷ []) ≡ answer_words a
   answer-done e = rw e refl
 
   pub text-words : (t : Text) {ws : List ℕ} → ws ≡ answer_words a → a ≡ answer_of t → ws ≡ text_words t
   text-words t h e = h ∙ ap answer_words e
 
-module _ {a : ColumnsAnswer} where
-  pub columns-refused : {n p : ℕ} → a ≡ columns.Refused n p → (n ∷ p ∷ []) ≡ columns_words a
+module _ {a : Result (Unit {0}) Fault} where
+  pub columns-refused : {f : Fault} → a ≡ Err f → (f.number ∷ f.place ∷ []) ≡ columns_words a
   columns-refused e = rw e refl
 
-  pub columns-done : a ≡ columns.Done → (0 ∷ 0 ∷ []) ≡ columns_words a
+  pub columns-done : a ≡ Ok tt → (0 ∷ 0 ∷ []) ≡ columns_words a
   columns-done e = rw e refl
 
   pub outcome-words : (o : Outcome) {ws : List ℕ} → ws ≡ columns_words a → a ≡ entries-of.answer_of o → ws ≡ outcome_words o
   outcome-words o h e = h ∙ ap columns_words e
 
-module _ {a : Order} where
-  pub order-refused : {n p : ℕ} → a ≡ order.Refused n p → (n ∷ p ∷ 0 ∷ 0 ∷ []) ≡ order_words a
+module _ {a : Result Ordered Fault} where
+  pub order-refused : {f : Fault} → a ≡ Err f → (f.number ∷ f.place ∷ 0 ∷ 0 ∷ []) ≡ order_words a
   order-refused e = rw e refl
 
-  pub order-done : {n u : ℕ} → a ≡ order.Ordered n u → (0 ∷ 0 ∷ n ∷ u ∷ []) ≡ order_words a
+  pub order-done : {o : Ordered} → a ≡ Ok o → (0 ∷ 0 ∷ o.definitions ∷ o.unnamed ∷ []) ≡ order_words a
   order-done e = rw e refl
 
 -- of definitions that were ordered
-module _ {document x ws work out work' : List ℕ} {n room : ℕ} {a : Order} (w : Orders document x ws n room work out work' a) where
+module _ {document x ws work out work' : List ℕ} {n room : ℕ} {a : Result Ordered Fault} (w : Orders document x ws n room work out work' a) where
   pub ordered_words : {rs : List ℕ} → rs ≡ order_words a → rs ≡ ordering_words (ordering.ordering document x ws n room)
   ordered_words h = h ∙ ap order_words w.says.answer
 
@@ -105,21 +102,21 @@ pub lookup-words : (document text : List ℕ) (t : Triple) {p : Triple} {b : Boo
 lookup-words document text t h e f = h ∙ rw (e, f) refl
 
 -- of a row that was written
-pub write-words : {document x ws out : List ℕ} {n i room : ℕ} {a : TextAnswer} {rs : List ℕ} → rs ≡ answer_words a → Writes document x ws n i room out a → rs ≡ text_words (writing document x ws n i room)
+pub write-words : {document x ws out : List ℕ} {n i room : ℕ} {a : Result ℕ Fault} {rs : List ℕ} → rs ≡ answer_words a → Writes document x ws n i room out a → rs ≡ text_words (writing document x ws n i room)
 write-words h w = h ∙ ap answer_words w.says.answer
 
-pub write-left : {document x ws out : List ℕ} {n i room : ℕ} {a : TextAnswer} → Writes document x ws n i room out a → out ≡ left_of room (writing document x ws n i room)
+pub write-left : {document x ws out : List ℕ} {n i room : ℕ} {a : Result ℕ Fault} → Writes document x ws n i room out a → out ≡ left_of room (writing document x ws n i room)
 write-left w = w.says.left
 
 -- of a tree that was written
-pub tree-words : {document x ws out : List ℕ} {n i room : ℕ} {a : TextAnswer} {rs : List ℕ} → rs ≡ answer_words a → WritesTree document x ws n i room out a → rs ≡ text_words (tree_writing document x ws n i room)
+pub tree-words : {document x ws out : List ℕ} {n i room : ℕ} {a : Result ℕ Fault} {rs : List ℕ} → rs ≡ answer_words a → WritesTree document x ws n i room out a → rs ≡ text_words (tree_writing document x ws n i room)
 tree-words h w = h ∙ ap answer_words w.says.answer
 
-pub tree_left : {document x ws out : List ℕ} {n i room : ℕ} {a : TextAnswer} → WritesTree document x ws n i room out a → out ≡ left_of room (tree_writing document x ws n i room)
+pub tree_left : {document x ws out : List ℕ} {n i room : ℕ} {a : Result ℕ Fault} → WritesTree document x ws n i room out a → out ≡ left_of room (tree_writing document x ws n i room)
 tree_left w = w.says.left
 
 -- of several rows
-module _ {document x ws is out ends : List ℕ} {n room slots : ℕ} {a : TextAnswer} (w : WritesSeveral document x ws n is room slots out ends a) where
+module _ {document x ws is out ends : List ℕ} {n room slots : ℕ} {a : Result ℕ Fault} (w : WritesSeveral document x ws n is room slots out ends a) where
   pub several-words : {rs : List ℕ} → rs ≡ answer_words a → rs ≡ text_words (several_writing document x ws n is room slots)
   several-words h = h ∙ ap answer_words w.says.answer
 
@@ -130,7 +127,7 @@ module _ {document x ws is out ends : List ℕ} {n room slots : ℕ} {a : TextAn
   several-ends = w.ends_left_lem
 
 -- of a message
-module _ (document ws : List ℕ) (room : ℕ) {out : List ℕ} {a : TextAnswer} where
+module _ (document ws : List ℕ) (room : ℕ) {out : List ℕ} {a : Result ℕ Fault} where
   pub message-words : {rs : List ℕ} → rs ≡ answer_words a → Says (message_of document (told_by ws) room) room out a → rs ≡ text_words (message_by document ws room)
   unfolding message_by
   message-words h s = h ∙ ap answer_words s.answer

@@ -1,29 +1,24 @@
 -- The words of each answer, in the order of include/introspection.h.
 -- Assumes nothing.
-use Rattle.std.specs.Prelude.{ℕ, suc, ◌≡◌, List, [], ◌∷◌, ◌++◌, Bool, ltb, replicate, get_or}
+use Rattle.std.specs.Prelude.{ℕ, suc, ◌≡◌, List, [], ◌∷◌, ◌++◌, Bool, ltb, replicate, get_or, Result, Ok, Err}
 use Rattle.slices.specs.Bytes.{if}
 use Rattle.tables.specs.Triple.{inside, resolved}
 use Rattle.tables.specs.declared.Triple.{Triple}
 use Rattle.columns.specs.Entries.{Outcome}
 use Rattle.columns.specs.Entries as entries
-use Rattle.columns.specs.declared.ColumnsAnswer.{ColumnsAnswer}
-use Rattle.columns.specs.declared.ColumnsAnswer.TheVariants as columns
 use Rattle.answers.specs.Text.{Text, answer_of}
-use Rattle.answers.specs.declared.TextAnswer.{TextAnswer}
-use Rattle.answers.specs.declared.TextAnswer.TheVariants as answer
 use Rattle.messages.specs.Message.{message_of, warning_message_of}
 use Rattle.messages.specs.declared.Wide.{Wide}
 use Rattle.messages.specs.declared.Told.{Told}
 use Rattle.order.specs.Ordering as ordering
-use Rattle.order.specs.declared.Order.{Order}
-use Rattle.order.specs.declared.Order.TheVariants as order
+use Rattle.order.specs.declared.Ordered.{Ordered}
+use Rattle.faults.specs.declared.Fault.{Fault}
 use Rattle.document.specs.Tags.{Shown}
 use Rattle.document.specs.Reading.{State}
 use Rattle.document.specs.Refusals.{shown_by}
 use Rattle.document.specs.Whole.{Room, verdict_of, rows_left_lem, warnings_left, text_left}
 use Rattle.document.specs.declared.Refusal.{Refusal}
-use Rattle.document.specs.declared.Verdict.{Verdict}
-use Rattle.document.specs.declared.Verdict.TheVariants as verdict
+use Rattle.document.specs.Verdict.{Verdict}
 use Rattle.utf16.specs.Entry.{left}
 use Rattle.files.specs.Files.{read_file, decoded_length}
 use Rattle.strict.specs.Strict.{strict_file}
@@ -43,23 +38,23 @@ abbrev pub refusal_words : Refusal → ℕ → List ℕ
 refusal_words x d = x.number ∷ x.place ∷ 0 ∷ 0 ∷ 0 ∷ shown_words x d
 
 abbrev pub verdict_words : Verdict → ℕ → List ℕ
-verdict_words (verdict.Refused x) d = refusal_words x d
-verdict_words (verdict.Accepted rows text warnings) d = 0 ∷ 0 ∷ rows ∷ text ∷ warnings ∷ replicate 7 0 ++ (d ∷ 0 ∷ 0 ∷ 0 ∷ [])
+verdict_words (Err x) d = refusal_words x d
+verdict_words (Ok n) d = 0 ∷ 0 ∷ n.rows ∷ n.text ∷ n.warnings ∷ replicate 7 0 ++ (d ∷ 0 ∷ 0 ∷ 0 ∷ [])
 
 -- number, place, bytes written
-abbrev pub answer_words : TextAnswer → List ℕ
-answer_words (answer.Refused n p) = n ∷ p ∷ 0 ∷ []
-answer_words (answer.Done n) = 0 ∷ 0 ∷ n ∷ []
+abbrev pub answer_words : Result ℕ Fault → List ℕ
+answer_words (Err f) = f.number ∷ f.place ∷ 0 ∷ []
+answer_words (Ok n) = 0 ∷ 0 ∷ n ∷ []
 
 -- number, place
-abbrev pub columns_words : ColumnsAnswer → List ℕ
-columns_words (columns.Refused n p) = n ∷ p ∷ []
-columns_words columns.Done = 0 ∷ 0 ∷ []
+abbrev pub columns_words : Result (Unit {0}) Fault → List ℕ
+columns_words (Err f) = f.number ∷ f.place ∷ []
+columns_words (Ok u) = 0 ∷ 0 ∷ []
 
 -- number, place, definitions, members that bear names of no row
-abbrev pub order_words : Order → List ℕ
-order_words (order.Refused n p) = n ∷ p ∷ 0 ∷ 0 ∷ []
-order_words (order.Ordered n u) = 0 ∷ 0 ∷ n ∷ u ∷ []
+abbrev pub order_words : Result Ordered Fault → List ℕ
+order_words (Err f) = f.number ∷ f.place ∷ 0 ∷ 0 ∷ []
+order_words (Ok o) = 0 ∷ 0 ∷ o.definitions ∷ o.unnamed ∷ []
 
 -- of a file that was read; the number is 0 for those accepted alone, since every other number is more than 0 (crate bounds)
 abbrev pub read_words : State Shown → ℕ → List ℕ

@@ -15,10 +15,10 @@ ghost use Rattle.introspection.specs.Words.{verdict_words, answer_words, columns
 ghost use Rattle.order.specs.Ordering as order;
 
 use answers::TextAnswer;
-use columns::ColumnsAnswer;
 use document::{Refusal, Verdict};
+use faults::Fault;
 use messages::{Told, Wide};
-use order::Order;
+use order::Ordered;
 use tables::Triple;
 
 // What a refusal's message shows goes with it, each excerpt as a triple; then how many bytes were decoded.
@@ -50,13 +50,13 @@ fn verdict_words(v: Verdict, decoded: usize) -> [u64; 16]
     ensures { result ≡ verdict_words v decoded }
 {
     match v {
-        Verdict::Refused(x) => refusal_words(x, decoded),
-        Verdict::Accepted(rows, text, warnings) => [
+        Err(refusal) => refusal_words(refusal, decoded),
+        Ok(counts) => [
             0,
             0,
-            rows as u64,
-            text as u64,
-            warnings as u64,
+            counts.rows as u64,
+            counts.text as u64,
+            counts.warnings as u64,
             0,
             0,
             0,
@@ -76,36 +76,33 @@ fn answer_words(a: TextAnswer) -> [u64; 3]
     ensures { result ≡ answer_words a }
 {
     match a {
-        TextAnswer::Refused(number, place) => [number as u64, place as u64, 0],
-        TextAnswer::Done(written) => [0, 0, written as u64],
+        Ok(written) => [0, 0, written as u64],
+        Err(fault) => [fault.number as u64, fault.place as u64, 0],
     }
 }
 
-fn columns_words(a: ColumnsAnswer) -> [u64; 2]
+fn columns_words(a: Result<(), Fault>) -> [u64; 2]
     ensures { result ≡ columns_words a }
 {
     match a {
-        ColumnsAnswer::Refused(number, place) => [number as u64, place],
-        ColumnsAnswer::Done => [0, 0],
+        Ok(()) => [0, 0],
+        Err(fault) => [fault.number as u64, fault.place as u64],
     }
 }
 
-fn order_words(a: Order) -> [u64; 4]
+fn order_words(a: Result<Ordered, Fault>) -> [u64; 4]
     ensures { result ≡ order_words a }
 {
     match a {
-        Order::Refused(number, place) => [number as u64, place as u64, 0, 0],
-        Order::Ordered(definitions, undefined) => [0, 0, definitions as u64, undefined as u64],
+        Ok(ordered) => [0, 0, ordered.definitions as u64, ordered.unnamed as u64],
+        Err(fault) => [fault.number as u64, fault.place as u64, 0, 0],
     }
 }
 
 fn bit(yes: bool) -> u64
     ensures { result ≡ bit yes }
 {
-    if yes {
-        return 1;
-    }
-    0
+    if yes { 1 } else { 0 }
 }
 
 fn part_words(yes: bool, t: Triple) -> [u64; 4]

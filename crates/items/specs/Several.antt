@@ -1,10 +1,10 @@
 -- What writing several items answers and leaves (docs/FORMAT.md, Answers), for the room lent.
 -- Assumes nothing.
-use Rattle.std.specs.Prelude.{ℕ, ◌+◌, ◌-◌, ◌≡◌, List, [], ◌∷◌, ◌++◌, map, Bool, true, false, ◌||◌, ltb, length, replicate}
+use Rattle.std.specs.Prelude.{ℕ, ◌+◌, ◌-◌, ◌≡◌, List, [], ◌∷◌, ◌++◌, map, Bool, true, false, ◌||◌, ltb, length, replicate, Result}
 use Rattle.std.proofs.Math.Option.{Option, none, some}
+use Rattle.faults.specs.declared.Fault.{Fault}
 use Rattle.slices.specs.Bytes.{if}
 use Rattle.answers.specs.Text.{Text, text, wrong, Says}
-use Rattle.answers.specs.declared.TextAnswer.{TextAnswer}
 use Rattle.items.specs.Sound.{soundness}
 use Rattle.items.specs.Written.{Item, written, concat}
 use Rattle.items.specs.Content.{content_at}
@@ -66,6 +66,6 @@ several_ends document x ws n is room slots =
     ends_left slots (ends_from 0 (texts_of (content_at document x ws n) is)) (several_writing document x ws n is room slots)
 
 -- what writing several rows answers, and what it leaves in the bytes and the words lent
-pub record WritesSeveral (document x ws : List ℕ) (n : ℕ) (is : List ℕ) (room slots : ℕ) (out ends : List ℕ) (r : TextAnswer) : Type 0 where
+pub record WritesSeveral (document x ws : List ℕ) (n : ℕ) (is : List ℕ) (room slots : ℕ) (out ends : List ℕ) (r : Result ℕ Fault) : Type 0 where
   pub says : Says (several_writing document x ws n is room slots) room out r
   pub ends_left_lem : ends ≡ several_ends document x ws n is room slots

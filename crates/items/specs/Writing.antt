@@ -1,10 +1,10 @@
 -- What the writers answer and leave (docs/FORMAT.md, Answers), for the room lent.
 -- Assumes nothing.
-use Rattle.std.specs.Prelude.{ℕ, List, ◌||◌, ltb, length}
+use Rattle.std.specs.Prelude.{ℕ, List, ◌||◌, ltb, length, Result}
 use Rattle.std.proofs.Math.Option.{Option, none, some}
+use Rattle.faults.specs.declared.Fault.{Fault}
 use Rattle.slices.specs.Bytes.{if}
 use Rattle.answers.specs.Text.{Text, text, wrong, roomy, Says}
-use Rattle.answers.specs.declared.TextAnswer.{TextAnswer}
 use Rattle.items.specs.Sound.{Soundness, sound, unsound, soundness}
 use Rattle.items.specs.Written.{Item, written}
 use Rattle.items.specs.Content.{content_at}
@@ -25,5 +25,5 @@ writing document x ws n i room =
     if (ltb 1048576 (length document) || ltb 1048576 (length x)) (wrong 2 1048576) r
 
 -- what writing row i answers, and what it leaves in a buffer of that room
-pub record Writes (document x ws : List ℕ) (n i room : ℕ) (out : List ℕ) (r : TextAnswer) : Type 0 where
+pub record Writes (document x ws : List ℕ) (n i room : ℕ) (out : List ℕ) (r : Result ℕ Fault) : Type 0 where
   pub says : Says (writing document x ws n i room) room out r

@@ -9,7 +9,8 @@ use tables::Triple;
 
 // Word k of row i.
 pub fn word(rows: &[u32], i: usize, k: usize) -> u32
-    requires { (k < 16) × (i * 16 + 16 ≤ length rows.now) }
+    requires inside { k < 16 }
+    requires held { i * 16 + 16 ≤ length rows.now }
     ensures { Word rows.now i k result }
 {
     rows[i * 16 + k]
@@ -17,8 +18,8 @@ pub fn word(rows: &[u32], i: usize, k: usize) -> u32
 
 // The triple from word k on of row i.
 pub fn triple(rows: &[u32], i: usize, k: usize) -> Triple
-    requires fact_1 { k ≤ 11 }
-    requires fact_2 { i * 16 + 16 ≤ length rows.now }
+    requires inside { k ≤ 11 }
+    requires held { i * 16 + 16 ≤ length rows.now }
     ensures { TripleIs rows.now i k result }
 {
     Triple {
@@ -32,11 +33,5 @@ pub fn triple(rows: &[u32], i: usize, k: usize) -> Triple
 pub fn is_absent(t: Triple) -> bool
     ensures { result ≡ absent t }
 {
-    if t.source != 0 {
-        return false;
-    }
-    if t.start != 0 {
-        return false;
-    }
-    t.len == 0
+    t.source == 0 && t.start == 0 && t.len == 0
 }

@@ -4,124 +4,89 @@
 
 ghost use Rattle.std.specs.Prelude.{◌<◌};
 
-use document::Verdict;
-use std::io::{Read, Result};
+use document::Counts;
+use output::Sink;
+use output::failure::Failure;
+use std::io;
+use std::io::{Result, Write};
 
-fn wide(x: u32) -> u64 {
-    x as u64
-}
-
-// What follows the word before a place: a line's end after each `width` words.
-fn ending(i: usize, width: usize) -> u8
-    requires { 0 < width }
-{
-    if i % width == 0 {
-        return 10;
+// Puts words as a line.
+fn put_line<W: Write>(out: &mut W, words: &[u32]) -> Result<()> {
+    if let Some((last, before)) = words.split_last() {
+        for word in before {
+            write!(out, "{word} ")?;
+        }
+        writeln!(out, "{last}")?;
     }
-    32
+    Ok(())
 }
 
 // Puts words, a line for each `width`.
-fn put_table<P: Print>(
-    to: &P,
-    out: &mut [u8],
-    n: usize,
-    words: &[u32],
-    width: usize,
-) -> Result<usize>
+fn put_table<W: Write>(out: &mut W, words: &[u32], width: usize) -> Result<()>
     requires { 0 < width }
 {
-    let mut m = n;
-    let mut i = 0;
-    while i < words.len() {
-        m = output::put_number(to, out, m, wide(words[i]))?;
-        i += 1;
-        m = output::put(to, out, m, ending(i, width))?;
+    for record in words.chunks(width) {
+        put_line(out, record)?;
     }
-    Ok(m)
+    Ok(())
 }
 
-// The line of a refusal.
-fn put_refused<P: Print>(to: &P, out: &mut [u8], number: u32, place: usize) -> Result<usize> {
-    let n = output::put_refused(to, out, 0, number, place)?;
-    output::put(to, out, n, 10)
-}
-
-// The first line of a document that was read: counts of rows, text bytes and warnings.
-fn put_counts<P: Print>(to: &P, out: &mut [u8], r: usize, t: usize, w: usize) -> Result<usize> {
-    let n = output::put_counts(to, out, 0, r, t, w)?;
-    output::put(to, out, n, 10)
-}
-
-// That line, the rows and the warnings.
-fn put_accepted<P: Print>(
-    to: &P,
-    out: &mut [u8],
+// The counts of rows, text bytes and warnings, then the rows and the warnings.
+fn put_accepted<W: Write>(
+    out: &mut W,
     rows: &[u32],
     warnings: &[u32],
-    r: usize,
-    t: usize,
-    w: usize,
-) -> Result<usize> {
-    let m = put_counts(to, out, r, t, w)?;
-    let k = put_table(
-        to,
-        out,
-        m,
-        output::front_words(rows, output::least(r, 1024) * 16),
-        16,
-    )?;
-    put_table(
-        to,
-        out,
-        k,
-        output::front_words(warnings, output::least(w, 4096) * 4),
-        4,
-    )
+    counts: Counts,
+) -> Result<()> {
+    let r = counts.rows;
+    let t = counts.text;
+    let w = counts.warnings;
+    writeln!(out, "ok {r} {t} {w}")?;
+    put_table(out, output::front(rows, r.min(1024) * 16), 16)?;
+    put_table(out, output::front(warnings, w.min(4096) * 4), 4)
 }
 
 // Reads a document, and puts what was read.
-fn put_listing<P: Print>(to: &P, out: &mut [u8], document: &[u8]) -> Result<usize> {
+fn put_listing<W: Write>(out: &mut W, document: &[u8]) -> Result<()> {
     let mut rows = [0u32; 16384];
     let mut warnings = [0u32; 16384];
-    let mut text = output::large_buffer();
-    let mut decoded = output::large_buffer();
+    let mut text = [0u8; 65536];
+    let mut decoded = [0u8; 65536];
     let reading = reader::read(document, &mut rows, &mut warnings, &mut text, &mut decoded);
-    let verdict = reading.verdict;
-    match verdict {
-        Verdict::Refused(refusal) => put_refused(to, out, refusal.number, refusal.place),
-        Verdict::Accepted(r, t, w) => put_accepted(to, out, &rows, &warnings, r, t, w),
+    match reading.verdict {
+        Err(refusal) => {
+            let number = refusal.number;
+            let place = refusal.place;
+            writeln!(out, "refused {number} {place}")
+        }
+        Ok(counts) => put_accepted(out, &rows, &warnings, counts),
     }
 }
 
-// Puts what the first bytes of the buffer are read as; more than the program takes are over-long.
-fn put_answer<P: Print>(to: &P, out: &mut [u8], document: &[u8], end: usize) -> Result<usize> {
-    if 65536 < end {
-        return put_refused(to, out, 2, 65536);
+// Puts what a file is read as; one of more bytes than the program takes is over-long.
+fn put_answer<W: Write>(out: &mut W, document: &[u8]) -> Result<()> {
+    if 65536 < document.len() {
+        return writeln!(out, "refused 2 65536");
     }
-    put_listing(to, out, output::front(document, end))
+    put_listing(out, document)
 }
 
-// Writes what the first bytes of the buffer are read as.
-fn write_answer<P: Print>(to: &P, document: &[u8], end: usize) -> Result<()> {
-    let mut out = output::large_buffer();
-    let n = put_answer(to, &mut out, document, end)?;
-    output::flush(to, &out, n)
+// Writes what a file is read as.
+fn write_answer<P: Print>(to: &P, document: &[u8]) -> Result<()> {
+    let mut out = Sink::new(io::writer(to));
+    put_answer(&mut out, document)?;
+    out.flush()
 }
 
-// Lists what the buffer can hold of standard input; where that cannot be read or the listing not be written, says so and why on standard error.
-fn list(rt: &HostRuntime, document: &mut [u8]) {
-    let came = output::input::read_all(&mut rt.stdin(), document);
-    if let Some(why) = came.failed {
-        output::failure::fail(&rt.stderr(), b"listing: cannot read standard input", why);
-        return;
-    }
-    if let Err(why) = write_answer(rt, document, came.end) {
-        output::failure::fail(&rt.stderr(), b"listing: cannot write standard output", why);
-    }
+// Lists what the buffer can hold of standard input.
+fn list(rt: &HostRuntime, document: &mut [u8]) -> std::result::Result<(), Failure> {
+    let end = output::input::read_all(&mut rt.stdin(), document).map_err(Failure::Reading)?;
+    write_answer(rt, &document[..end]).map_err(Failure::Writing)
 }
 
 fn main(rt: HostRuntime) {
     let mut document = [0u8; 65537];
-    list(&rt, &mut document);
+    if let Err(failure) = list(&rt, &mut document) {
+        failure.tell(&rt.stderr(), b"listing");
+    }
 }

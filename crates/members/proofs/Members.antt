@@ -7,20 +7,21 @@ use mathlib.Core.Bool.{Bool, true, false}
 use borrow.Author.Rules.{rules}
 use native.Mathlib.Omega.{arith}
 use lib.ListN.{length}
+use Rattle.std.specs.Prelude.{Result, Ok}
 use Rattle.document.specs.Kinds as kinds
 use Rattle.document.specs.Elements.{among}
 use Rattle.document.specs.Outcome.{Lent, lent, Ready, Steps, Ignores, Others, Opening, Begins, Child, Children, moved}
 use Rattle.document.specs.declared.StartTag.{StartTag}
 use Rattle.document.specs.declared.Fill.{Fill}
-use Rattle.document.specs.declared.Answer.{Answer}
 use Rattle.document.specs.declared.Next.{Next}
+use Rattle.document.specs.declared.Refusal.{Refusal}
 use Rattle.document.proofs.Loops.{Sofar, loops, loop_less, child_bare, child_begins, child_other, among_not, name_inside, parts_and_docstring}
 use Rattle.document.proofs.Openings.{openings, opening_closes, opening_children}
 use Rattle.elements.proofs.Rows.{method_kind, signal_kind}
 use Rattle.members.specs.Kinds.{CallableKind}
 
 -- a child of an annotation leaves less of the document
-pub annotation_less : {doc rows w w' bytes : List ℕ} {at len i : ℕ} {f₀ f g m : Fill} {b₀ : Lent} {r : Next} {c : StartTag} {a : Answer} → Sofar doc [] false at len i f₀ b₀ f (lent rows w bytes) → Steps doc f.at at len r → r ≡ Next.Start c → Ignores doc c m w w' a → m ≡ moved f c.end → a ≡ Answer.Done g → length doc - g.at < length doc - f.at
+pub annotation_less : {doc rows w w' bytes : List ℕ} {at len i : ℕ} {f₀ f g m : Fill} {b₀ : Lent} {r : Result Next Refusal} {c : StartTag} {a : Result Fill Refusal} → Sofar doc [] false at len i f₀ b₀ f (lent rows w bytes) → Steps doc f.at at len r → r ≡ Ok (Next.Start c) → Ignores doc c m w w' a → m ≡ moved f c.end → a ≡ Ok g → length doc - g.at < length doc - f.at
 annotation_less s t q h y e = loop_less s t q (child_bare (rw y s.owner) h) y e
 
 pub ruleset annotation_loop = (annotation_less, child_bare, loops)
@@ -28,15 +29,15 @@ pub ruleset annotation_loop = (annotation_less, child_bare, loops)
 pub ruleset elements = (name_inside, openings)
 
 -- what holds of these kinds holds of the same by another name
-same_held : {doc hs hs' : List ℕ} {docs docs' : Bool} {at len i : ℕ} {f : Fill} {b b' : Lent} {r : Answer} → hs' ≡ hs → docs' ≡ docs → Children doc hs docs at len i f b b' r → Children doc hs' docs' at len i f b b' r
+same_held : {doc hs hs' : List ℕ} {docs docs' : Bool} {at len i : ℕ} {f : Fill} {b b' : Lent} {r : Result Fill Refusal} → hs' ≡ hs → docs' ≡ docs → Children doc hs docs at len i f b b' r → Children doc hs' docs' at len i f b b' r
 same_held e d h = rw (e, d) h
 
 -- a method or a signal
-module _ {doc : List ℕ} {k : ℕ} {c : StartTag} {p : ℕ} {f g : Fill} {rows rows' w bytes bytes' : List ℕ} {a : Answer} (m : CallableKind k) (o : Opening doc k c p f rows rows' bytes bytes' a) (e : a ≡ Answer.Done g) where
-  pub callable_closes : c.closes ≡ true → Begins doc k c p f (lent rows w bytes) (lent rows' w bytes') (Answer.Done g)
+module _ {doc : List ℕ} {k : ℕ} {c : StartTag} {p : ℕ} {f g : Fill} {rows rows' w bytes bytes' : List ℕ} {a : Result Fill Refusal} (m : CallableKind k) (o : Opening doc k c p f rows rows' bytes bytes' a) (e : a ≡ Ok g) where
+  pub callable_closes : c.closes ≡ true → Begins doc k c p f (lent rows w bytes) (lent rows' w bytes') (Ok g)
   callable_closes x = opening_closes o e m.plain x
 
-  pub callable_children : {b : Lent} {r : Answer} → c.closes ≡ false → Children doc kinds.in_callable true c.at c.len f.rows g (lent rows' w bytes') b r → Begins doc k c p f (lent rows w bytes) b r
+  pub callable_children : {b : Lent} {r : Result Fill Refusal} → c.closes ≡ false → Children doc kinds.in_callable true c.at c.len f.rows g (lent rows' w bytes') b r → Begins doc k c p f (lent rows w bytes) b r
   callable_children x l = opening_children o e m.plain x m.node (same_held m.held m.docs l)
 
 pub method_callable : CallableKind kinds.method
@@ -61,11 +62,11 @@ none_empty = record { is = refl }
 pub none_more : {k x : ℕ} {ks : List ℕ} → (k ≡ x → ⊥) → NoneOf k ks → NoneOf k (x ∷ ks)
 none_more {k} {x} {ks} n h = record { is = among_not k x ks n h.is }
 
-pub child_else : {doc hs rows rows' w w' bytes : List ℕ} {c : StartTag} {i : ℕ} {f : Fill} {r : Answer} → NoneOf c.kind hs → Others doc c i f rows rows' w w' r → Child doc hs true c i f (lent rows w bytes) (lent rows' w' bytes) r
+pub child_else : {doc hs rows rows' w w' bytes : List ℕ} {c : StartTag} {i : ℕ} {f : Fill} {r : Result Fill Refusal} → NoneOf c.kind hs → Others doc c i f rows rows' w w' r → Child doc hs true c i f (lent rows w bytes) (lent rows' w' bytes) r
 child_else n h = child_other n.is h
 
 -- the same where the answer is taken apart
-pub child_taken : {doc hs : List ℕ} {docs : Bool} {c : StartTag} {i : ℕ} {f : Fill} {b b' : Lent} {m : ℕ} {v r : Answer} → i < f.rows → c.kind ≡ m → among m hs ≡ true → among m parts_and_docstring ≡ false → Begins doc m c (i + 1) f b b' v → v ≡ r → Child doc hs docs c i f b b' r
+pub child_taken : {doc hs : List ℕ} {docs : Bool} {c : StartTag} {i : ℕ} {f : Fill} {b b' : Lent} {m : ℕ} {v r : Result Fill Refusal} → i < f.rows → c.kind ≡ m → among m hs ≡ true → among m parts_and_docstring ≡ false → Begins doc m c (i + 1) f b b' v → v ≡ r → Child doc hs docs c i f b b' r
 child_taken {hs = hs} {docs = docs} l k a x h e = rw e at (child_begins {hs = hs} {docs = docs} l k a x h)
 
 pub ruleset children = (child_taken, child_begins, none_empty, none_more, child_else, child_parent, rules)

@@ -2,19 +2,20 @@
 #![tactic(auto)]
 
 ghost use Rattle.std.specs.Prelude.{◌+◌, ◌≤◌, ◌<◌, [], true, false, length};
-ghost use Rattle.scan.specs.Classes.{Classes};
 ghost use Rattle.document.specs.Kinds as kinds;
 ghost use Rattle.document.specs.Outcome.{lent, Bounded, Ready, Begins, Child, Children};
 ghost use Rattle.members.specs.Kinds.{CallableKind};
 
-use document::{Answer, Excerpt, Fill, Next, Refusal, StartTag, kinds};
+use document::{Fill, Next, Refusal, StartTag, kinds};
+use scan::ClassTable;
 use skip::{docstring_or_skip, skip_unsupported};
 use tags::step;
 
 // The children of an annotation: nobody asked for any.
+#[tactic(auto, using(crate::proofs::Members::annotation_loop))]
 fn annotation_children(
     doc: &[u8],
-    classes: &[u8; 256],
+    classes: &ClassTable,
     rows: &mut [u32],
     warnings: &mut [u32],
     text: &mut [u8],
@@ -22,94 +23,65 @@ fn annotation_children(
     len: usize,
     i: usize,
     f: Fill,
-) -> Answer
-    requires fact_1 { Bounded doc.now f }
-    requires fact_2 { i < f.rows }
-    requires fact_3 { at + len ≤ length doc.now }
-    requires fact_4 { Classes classes.now }
+) -> Result<Fill, Refusal>
+    requires bounded { Bounded doc.now f }
+    requires owner { i < f.rows }
+    requires named { at + len ≤ length doc.now }
     ensures { Children doc.now ([]) false at len i f
         (lent rows.old warnings.old text.old)
         (lent rows.new warnings.new text.new) result }
 {
     let mut g = f;
     loop {
-        match step(doc, classes, g.at, at, len) {
-            Next::Fault(refusal) => {
-                return Answer::Fault(refusal);
-            }
-            Next::Close(_, end) => {
-                return Answer::Done(g.moved(end));
-            }
+        match step(doc, classes, g.at, at, len)? {
+            Next::Close(closing) => return Ok(g.moved(closing.end)),
             Next::Start(c) => {
                 let h = g.moved(c.end);
-                match skip_unsupported(doc, classes, warnings, c, h) {
-                    Answer::Fault(refusal) => {
-                        return Answer::Fault(Refusal {
-                            place: refusal.place,
-                            number: refusal.number,
-                            key: refusal.key,
-                            first: Excerpt {
-                                at: refusal.first.at,
-                                len: refusal.first.len,
-                            },
-                            second: Excerpt {
-                                at: refusal.second.at,
-                                len: refusal.second.len,
-                            },
-                        });
-                    }
-                    Answer::Done(k) => {
-                        g = k;
-                    }
-                }
+                g = skip_unsupported(doc, classes, warnings, c, h)?;
             }
         }
     }
 }
 
 // An annotation.
+#[tactic(auto, using(crate::proofs::Members::elements))]
 pub fn annotation(
     doc: &[u8],
-    classes: &[u8; 256],
+    classes: &ClassTable,
     rows: &mut [u32],
     warnings: &mut [u32],
     text: &mut [u8],
     c: StartTag,
     parent: usize,
     f: Fill,
-) -> Answer
-    requires fact_1 { Ready doc.now c f }
-    requires fact_2 { parent ≤ 1048576 }
-    requires fact_3 { Classes classes.now }
+) -> Result<Fill, Refusal>
+    requires ready { Ready doc.now c f }
+    requires parent_small { parent ≤ 1048576 }
     ensures { Begins doc.now kinds.annotation c parent f
         (lent rows.old warnings.old text.old)
         (lent rows.new warnings.new text.new) result }
 {
-    match elements::annotation_row(doc, rows, text, c, parent, f) {
-        Answer::Fault(refusal) => Answer::Fault(refusal),
-        Answer::Done(g) => {
-            if c.closes {
-                return Answer::Done(g);
-            }
-            annotation_children(doc, classes, rows, warnings, text, c.at, c.len, f.rows, g)
-        }
+    let g = elements::annotation_row(doc, rows, text, c, parent, f)?;
+    if c.closes {
+        return Ok(g);
     }
+    annotation_children(doc, classes, rows, warnings, text, c.at, c.len, f.rows, g)
 }
 
 // A child of a property or an arg with row i.
+#[tactic(auto, using(crate::proofs::Members::children))]
 fn value_child(
     doc: &[u8],
-    classes: &[u8; 256],
+    classes: &ClassTable,
     rows: &mut [u32],
     warnings: &mut [u32],
     text: &mut [u8],
     c: StartTag,
     i: usize,
     f: Fill,
-) -> Answer
-    requires fact_1 { Ready doc.now c f }
-    requires fact_2 { i < f.rows }
-    requires fact_3 { Classes classes.now }
+) -> Result<Fill, Refusal>
+    requires ready { Ready doc.now c f }
+    requires owner { i < f.rows }
     ensures { Child doc.now kinds.in_value true c i f
         (lent rows.old warnings.old text.old)
         (lent rows.new warnings.new text.new) result }
@@ -121,9 +93,10 @@ fn value_child(
 }
 
 // The children of a property or an arg with row i.
+#[tactic(auto, using(document::proofs::Loops::loops))]
 fn value_children(
     doc: &[u8],
-    classes: &[u8; 256],
+    classes: &ClassTable,
     rows: &mut [u32],
     warnings: &mut [u32],
     text: &mut [u8],
@@ -131,150 +104,97 @@ fn value_children(
     len: usize,
     i: usize,
     f: Fill,
-) -> Answer
-    requires fact_1 { Bounded doc.now f }
-    requires fact_2 { i < f.rows }
-    requires fact_3 { at + len ≤ length doc.now }
-    requires fact_4 { Classes classes.now }
+) -> Result<Fill, Refusal>
+    requires bounded { Bounded doc.now f }
+    requires owner { i < f.rows }
+    requires named { at + len ≤ length doc.now }
     ensures { Children doc.now kinds.in_value true at len i f
         (lent rows.old warnings.old text.old)
         (lent rows.new warnings.new text.new) result }
 {
     let mut g = f;
     loop {
-        match step(doc, classes, g.at, at, len) {
-            Next::Fault(refusal) => {
-                return Answer::Fault(refusal);
-            }
-            Next::Close(_, end) => {
-                return Answer::Done(g.moved(end));
-            }
+        match step(doc, classes, g.at, at, len)? {
+            Next::Close(closing) => return Ok(g.moved(closing.end)),
             Next::Start(c) => {
                 let h = g.moved(c.end);
-                match value_child(doc, classes, rows, warnings, text, c, i, h) {
-                    Answer::Fault(refusal) => {
-                        return Answer::Fault(Refusal {
-                            place: refusal.place,
-                            number: refusal.number,
-                            key: refusal.key,
-                            first: Excerpt {
-                                at: refusal.first.at,
-                                len: refusal.first.len,
-                            },
-                            second: Excerpt {
-                                at: refusal.second.at,
-                                len: refusal.second.len,
-                            },
-                        });
-                    }
-                    Answer::Done(k) => {
-                        g = k;
-                    }
-                }
+                g = value_child(doc, classes, rows, warnings, text, c, i, h)?;
             }
         }
     }
 }
 
 // An arg.
+#[tactic(auto, using(crate::proofs::Members::elements))]
 pub fn arg(
     doc: &[u8],
-    classes: &[u8; 256],
+    classes: &ClassTable,
     rows: &mut [u32],
     warnings: &mut [u32],
     text: &mut [u8],
     c: StartTag,
     parent: usize,
     f: Fill,
-) -> Answer
-    requires fact_1 { Ready doc.now c f }
-    requires fact_2 { parent ≤ 1048576 }
-    requires fact_3 { Classes classes.now }
+) -> Result<Fill, Refusal>
+    requires ready { Ready doc.now c f }
+    requires parent_small { parent ≤ 1048576 }
     ensures { Begins doc.now kinds.arg c parent f
         (lent rows.old warnings.old text.old)
         (lent rows.new warnings.new text.new) result }
 {
-    match elements::arg_row(doc, rows, text, c, parent, f) {
-        Answer::Fault(refusal) => Answer::Fault(refusal),
-        Answer::Done(g) => {
-            if c.closes {
-                return Answer::Done(g);
-            }
-            value_children(doc, classes, rows, warnings, text, c.at, c.len, f.rows, g)
-        }
+    let g = elements::arg_row(doc, rows, text, c, parent, f)?;
+    if c.closes {
+        return Ok(g);
     }
+    value_children(doc, classes, rows, warnings, text, c.at, c.len, f.rows, g)
 }
 
 // A property.
+#[tactic(auto, using(crate::proofs::Members::elements))]
 pub fn property(
     doc: &[u8],
-    classes: &[u8; 256],
+    classes: &ClassTable,
     rows: &mut [u32],
     warnings: &mut [u32],
     text: &mut [u8],
     c: StartTag,
     parent: usize,
     f: Fill,
-) -> Answer
-    requires fact_1 { Ready doc.now c f }
-    requires fact_2 { parent ≤ 1048576 }
-    requires fact_3 { Classes classes.now }
+) -> Result<Fill, Refusal>
+    requires ready { Ready doc.now c f }
+    requires parent_small { parent ≤ 1048576 }
     ensures { Begins doc.now kinds.property c parent f
         (lent rows.old warnings.old text.old)
         (lent rows.new warnings.new text.new) result }
 {
-    match elements::property_row(doc, rows, text, c, parent, f) {
-        Answer::Fault(refusal) => Answer::Fault(refusal),
-        Answer::Done(g) => {
-            if c.closes {
-                return Answer::Done(g);
-            }
-            value_children(doc, classes, rows, warnings, text, c.at, c.len, f.rows, g)
-        }
+    let g = elements::property_row(doc, rows, text, c, parent, f)?;
+    if c.closes {
+        return Ok(g);
     }
+    value_children(doc, classes, rows, warnings, text, c.at, c.len, f.rows, g)
 }
 
 // A child of a method or a signal with row i.
+#[tactic(auto, using(crate::proofs::Members::children))]
 fn callable_child(
     doc: &[u8],
-    classes: &[u8; 256],
+    classes: &ClassTable,
     rows: &mut [u32],
     warnings: &mut [u32],
     text: &mut [u8],
     c: StartTag,
     i: usize,
     f: Fill,
-) -> Answer
-    requires fact_1 { Ready doc.now c f }
-    requires fact_2 { i < f.rows }
-    requires fact_3 { Classes classes.now }
+) -> Result<Fill, Refusal>
+    requires ready { Ready doc.now c f }
+    requires owner { i < f.rows }
     ensures { Child doc.now kinds.in_callable true c i f
         (lent rows.old warnings.old text.old)
         (lent rows.new warnings.new text.new) result }
 {
     let kind = c.kind;
     if kind == kinds::ARG {
-        // by its parts: a copy of the whole answer is a delay for each
-        match arg(doc, classes, rows, warnings, text, c, i + 1, f) {
-            Answer::Fault(refusal) => {
-                return Answer::Fault(Refusal {
-                    place: refusal.place,
-                    number: refusal.number,
-                    key: refusal.key,
-                    first: Excerpt {
-                        at: refusal.first.at,
-                        len: refusal.first.len,
-                    },
-                    second: Excerpt {
-                        at: refusal.second.at,
-                        len: refusal.second.len,
-                    },
-                });
-            }
-            Answer::Done(g) => {
-                return Answer::Done(g);
-            }
-        }
+        return arg(doc, classes, rows, warnings, text, c, i + 1, f);
     }
     if kind == kinds::ANNOTATION {
         return annotation(doc, classes, rows, warnings, text, c, i + 1, f);
@@ -283,9 +203,10 @@ fn callable_child(
 }
 
 // The children of a method or a signal with row i.
+#[tactic(auto, using(document::proofs::Loops::loops))]
 fn callable_children(
     doc: &[u8],
-    classes: &[u8; 256],
+    classes: &ClassTable,
     rows: &mut [u32],
     warnings: &mut [u32],
     text: &mut [u8],
@@ -293,55 +214,31 @@ fn callable_children(
     len: usize,
     i: usize,
     f: Fill,
-) -> Answer
-    requires fact_1 { Bounded doc.now f }
-    requires fact_2 { i < f.rows }
-    requires fact_3 { at + len ≤ length doc.now }
-    requires fact_4 { Classes classes.now }
+) -> Result<Fill, Refusal>
+    requires bounded { Bounded doc.now f }
+    requires owner { i < f.rows }
+    requires named { at + len ≤ length doc.now }
     ensures { Children doc.now kinds.in_callable true at len i f
         (lent rows.old warnings.old text.old)
         (lent rows.new warnings.new text.new) result }
 {
     let mut g = f;
     loop {
-        match step(doc, classes, g.at, at, len) {
-            Next::Fault(refusal) => {
-                return Answer::Fault(refusal);
-            }
-            Next::Close(_, end) => {
-                return Answer::Done(g.moved(end));
-            }
+        match step(doc, classes, g.at, at, len)? {
+            Next::Close(closing) => return Ok(g.moved(closing.end)),
             Next::Start(c) => {
                 let h = g.moved(c.end);
-                match callable_child(doc, classes, rows, warnings, text, c, i, h) {
-                    Answer::Fault(refusal) => {
-                        return Answer::Fault(Refusal {
-                            place: refusal.place,
-                            number: refusal.number,
-                            key: refusal.key,
-                            first: Excerpt {
-                                at: refusal.first.at,
-                                len: refusal.first.len,
-                            },
-                            second: Excerpt {
-                                at: refusal.second.at,
-                                len: refusal.second.len,
-                            },
-                        });
-                    }
-                    Answer::Done(k) => {
-                        g = k;
-                    }
-                }
+                g = callable_child(doc, classes, rows, warnings, text, c, i, h)?;
             }
         }
     }
 }
 
 // A method or a signal.
+#[tactic(auto, using(crate::proofs::Members::callables))]
 pub fn callable(
     doc: &[u8],
-    classes: &[u8; 256],
+    classes: &ClassTable,
     rows: &mut [u32],
     warnings: &mut [u32],
     text: &mut [u8],
@@ -349,22 +246,17 @@ pub fn callable(
     kind: u32,
     parent: usize,
     f: Fill,
-) -> Answer
-    requires fact_1 { Ready doc.now c f }
-    requires fact_2 { parent ≤ 1048576 }
-    requires fact_3 { CallableKind kind }
-    requires fact_4 { Classes classes.now }
+) -> Result<Fill, Refusal>
+    requires ready { Ready doc.now c f }
+    requires parent_small { parent ≤ 1048576 }
+    requires of_kind { CallableKind kind }
     ensures { Begins doc.now kind c parent f
         (lent rows.old warnings.old text.old)
         (lent rows.new warnings.new text.new) result }
 {
-    match elements::callable_row(doc, rows, text, c, kind, parent, f) {
-        Answer::Fault(refusal) => Answer::Fault(refusal),
-        Answer::Done(g) => {
-            if c.closes {
-                return Answer::Done(g);
-            }
-            callable_children(doc, classes, rows, warnings, text, c.at, c.len, f.rows, g)
-        }
+    let g = elements::callable_row(doc, rows, text, c, kind, parent, f)?;
+    if c.closes {
+        return Ok(g);
     }
+    callable_children(doc, classes, rows, warnings, text, c.at, c.len, f.rows, g)
 }

@@ -1,7 +1,7 @@
 -- What the entries answer, and the bytes that they leave, on each of their ways.
 -- Assumes nothing.
 use Prim.Native.Nat.{ℕ, ◌≤◌, ◌<◌}
-use mathlib.Core.Path.{◌≡◌, refl}
+use mathlib.Core.Path.{◌≡◌, refl, sym}
 use mathlib.Core.List.{List}
 use mathlib.Core.Bool.{Bool, true, false, ◌&&◌}
 use borrow.Author.Rules.{rules}
@@ -9,10 +9,12 @@ use borrow.Author.Tests.{lt-ltb, le-ltb, ne_eqb}
 use native.Mathlib.Omega.{arith}
 use lib.Dec.{ltb}
 use lib.ListN.{length}
+use Rattle.std.specs.Prelude.{Result}
+use Rattle.faults.specs.declared.Fault.{Fault}
 use Rattle.answers.specs.Text.{wrong, Says}
-use Rattle.answers.specs.declared.TextAnswer.{TextAnswer}
 use Rattle.messages.specs.Message.{message_of, warned, warning_message_of}
 use Rattle.messages.specs.Steps.{Plainly, Turned, Warned}
+use Rattle.messages.specs.declared.Wide.{Wide}
 use Rattle.messages.specs.declared.Told.{Told}
 
 and-false : (a : Bool) → a && false ≡ false
@@ -22,7 +24,7 @@ and-false false = refl
 other_than : {m n : ℕ} → (m < n) → m ≡ n → ⊥
 other_than h e = omega arith
 
-module _ {u : List ℕ} {r : TextAnswer} where
+module _ {u : List ℕ} {r : Result ℕ Fault} where
   module _ (doc : List ℕ) (x : Told) (room : ℕ) where
     pub message_two : x.number ≡ 2 → Plainly x.number room u r → Says (message_of doc x room) room u r
     unfolding message_of
@@ -44,9 +46,9 @@ module _ {u : List ℕ} {r : TextAnswer} where
     unfolding warning_message_of
     warning_long l s = rw (lt-ltb 1048576 (length doc) l) s
 
-    pub warning_told : length doc ≤ 1048576 → Warned doc reason (record { source = 1; start = start; len = len }) room u r → Says (warning_message_of doc reason start len room) room u r
+    pub warning_told : {w : Wide} → w ≡ record { source = 1; start = start; len = len } → length doc ≤ 1048576 → Warned doc reason w room u r → Says (warning_message_of doc reason start len room) room u r
     unfolding warning_message_of
-    warning_told l s = rw (le-ltb 1048576 (length doc) l) (s.says (warned reason start len) refl)
+    warning_told e l s = rw (le-ltb 1048576 (length doc) l) (s.says (warned reason start len) (sym e))
 
 -- what answers every need of the entries
 pub ruleset entries = (message_two, message_long, message_told, warning_long, warning_told, rules)

@@ -12,7 +12,8 @@ use lib.ListN.{length, take, drop, length-drop}
 use lib.Seq.{length-take-le}
 use Rattle.slices.proofs.Runs.{and_both}
 use Rattle.utf8.specs.WellFormed.{ill_formed, well_formed}
-use Rattle.messages.specs.Message.{is_shown, excerpt}
+use Rattle.answers.specs.Text.{wrong}
+use Rattle.messages.specs.Message.{is_shown, excerpt, excerpt_of}
 use Rattle.messages.specs.Steps.{Excerpted}
 use Rattle.messages.specs.declared.Wide.{Wide}
 
@@ -52,14 +53,20 @@ module _ (doc : List ℕ) (t : Wide) where
   pub excerpt_fits : is_shown doc t ≡ true → length doc < 2 ^ 64 → t.start + t.len < 2 ^ 64
   excerpt_fits e h = omega (arith, excerpt_end e)
 
-  pub excerpt_is : is_shown doc t ≡ true → Excerpted doc t (take (t.start + t.len - t.start) (drop t.start doc))
-  excerpt_is e =
-      let n : t.start + t.len - t.start ≡ t.len = omega arith in
-      record { is = rw n; short = rw (n, excerpt_long (excerpt_end e)) (omega (arith, excerpt_end e)) }
-
   -- what a callee said of it
   pub callee_shows : {b : Bool} → b ≡ is_shown doc t → b ≡ true → is_shown doc t ≡ true
   callee_shows q e = sym q ∙ e
 
+  pub excerpt_some : {b : Bool} → b ≡ is_shown doc t → b ≡ true → Excerpted doc t (take (t.start + t.len - t.start) (drop t.start doc))
+  unfolding excerpt_of
+  excerpt_some q e =
+      let h : is_shown doc t ≡ true = sym q ∙ e in
+      let n : t.start + t.len - t.start ≡ t.len = omega arith in
+      record { is = rw (h, n); short = rw (n, excerpt_long (excerpt_end h)) (omega (arith, excerpt_end h)) }
+
+  pub excerpt_none : {b : Bool} → b ≡ is_shown doc t → b ≡ false → excerpt_of doc t ≡ wrong 19 0
+  unfolding excerpt_of
+  excerpt_none q e = rw (sym q ∙ e)
+
 -- what answers every need of `is_shown` and `excerpt`
-pub ruleset excerpts = (shown_other, shown_start, shown_len, shown_formed, excerpt_end, excerpt_fits, excerpt_is, rules)
+pub ruleset excerpts = (shown_other, shown_start, shown_len, shown_formed, excerpt_end, excerpt_fits, callee_shows, excerpt_some, excerpt_none, rules)

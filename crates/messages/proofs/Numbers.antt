@@ -1,22 +1,20 @@
 -- Which text a number, a key and a reason have.
 -- Assumes nothing.
-use Prim.Native.Nat.{ℕ, ◌-◌, ◌≤◌, ◌<◌}
+use Prim.Native.Nat.{ℕ, ◌<◌}
 use mathlib.Core.Path.{◌≡◌, refl, sym, ap, subst, ◌∙◌}
 use mathlib.Core.List.{List, [], ◌∷◌, ◌++◌, append-nil, append_assoc}
 use borrow.Author.Rules.{rules}
-use borrow.Author.Tests.{eq-eqb, ne_eqb}
-use native.Mathlib.Omega.{arith}
-use lib.ListN.{length, take, drop, length-drop}
-use lib.Seq.{length-take-le}
+use borrow.Author.Tests.{ne_eqb}
+use lib.ListN.{length}
+use Rattle.std.specs.Prelude.{Result}
+use Rattle.faults.specs.declared.Fault.{Fault}
 use Rattle.slices.specs.Bytes.{bytes}
 use Rattle.answers.specs.Text.{Text, text, wrong, roomy, Says}
-use Rattle.answers.specs.declared.TextAnswer.{TextAnswer}
-use Rattle.messages.specs.Texts.{Entry, pieces_of, refusals, warnings, key_name}
+use Rattle.messages.specs.Texts.{Entry, words, pieces_of, refusals, warnings, key_name}
 use Rattle.messages.specs.Message.{excerpt_of, present, joined, framed, message_by}
-use Rattle.messages.specs.Steps.{NoneOf, plain_texts, part_pieces, PlainAt, Plainly, Unexpected, Lacking, Turned, Warned}
+use Rattle.messages.specs.Steps.{NoneOf, PlainText, NoText, Plainly, Unexpected, Lacking, Turned, Warned}
 use Rattle.messages.specs.declared.Wide.{Wide}
 use Rattle.messages.specs.declared.Told.{Told}
-use Rattle.messages.specs.declared.Part.{Part}
 
 -- the numbers of a table, and one that is none of them
 abbrev numbers_of : List Entry → List ℕ
@@ -32,23 +30,20 @@ words_joined : (a b c : List ℕ) (t : Text) → joined (text a) (joined (text b
 words_joined a b c (text t) = sym (ap text (append_assoc a (b ++ c) t ∙ ap (◌++◌ a) (append_assoc b c t)))
 words_joined a b c (wrong n p) = refl
 
--- where the text of a number that shows nothing stands
-pub part_by : (k : ℕ) {number from to : ℕ} → number ≡ k → pieces_of refusals k ≡ part_pieces (record { from = from; to = to }) → from ≤ to → to ≤ 294 → PlainAt number (record { from = from; to = to })
-part_by k e q o i = record { is = λ h. rw e q; ordered = o; inside = i }
+-- the text of a number that shows nothing
+pub text_by : (k : ℕ) {number : ℕ} {s : List ℕ} → number ≡ k → pieces_of refusals k ≡ words s ∷ [] → length s < 1024 → PlainText number s
+text_by k e q l = record { is = λ h. rw e q; short = l }
 
-pub part_unknown : {number : ℕ} → (number ≡ 1 → ⊥) → (number ≡ 2 → ⊥) → (number ≡ 3 → ⊥) → (number ≡ 4 → ⊥) → (number ≡ 7 → ⊥) → (number ≡ 9 → ⊥) → (number ≡ 13 → ⊥) → (number ≡ 14 → ⊥) → (number ≡ 17 → ⊥) → (number ≡ 18 → ⊥) → (number ≡ 19 → ⊥) → (number ≡ 20 → ⊥) → (number ≡ 21 → ⊥) → (number ≡ 22 → ⊥) → (number ≡ 23 → ⊥) → (number ≡ 24 → ⊥) → (number ≡ 25 → ⊥) → (number ≡ 26 → ⊥) → (number ≡ 27 → ⊥) → (number ≡ 28 → ⊥) → (number ≡ 29 → ⊥) → (number ≡ 30 → ⊥) → PlainAt number (record { from = 0; to = 0 })
-part_unknown {number} p1 p2 p3 p4 p7 p9 p13 p14 p17 p18 p19 p20 p21 p22 p23 p24 p25 p26 p27 p28 p29 p30 = record { is = λ h. unknown refusals number (p1, (p2, (p3, (p4, (h.0, (h.1.0, (p7, (h.1.1.0, (p9, (h.1.1.1.0, (h.1.1.1.1.0, (h.1.1.1.1.1.0, (p13, (p14, (h.1.1.1.1.1.1.0, (h.1.1.1.1.1.1.1.0, (p17, (p18, (p19, (p20, (p21, (p22, (p23, (p24, (p25, (p26, (p27, (p28, (p29, (p30, tt)))))))))))))))))))))))))))))); ordered = omega arith; inside = omega arith }
+pub no_text : {number : ℕ} → (number ≡ 1 → ⊥) → (number ≡ 2 → ⊥) → (number ≡ 3 → ⊥) → (number ≡ 4 → ⊥) → (number ≡ 7 → ⊥) → (number ≡ 9 → ⊥) → (number ≡ 13 → ⊥) → (number ≡ 14 → ⊥) → (number ≡ 17 → ⊥) → (number ≡ 18 → ⊥) → (number ≡ 19 → ⊥) → (number ≡ 20 → ⊥) → (number ≡ 21 → ⊥) → (number ≡ 22 → ⊥) → (number ≡ 23 → ⊥) → (number ≡ 24 → ⊥) → (number ≡ 25 → ⊥) → (number ≡ 26 → ⊥) → (number ≡ 27 → ⊥) → (number ≡ 28 → ⊥) → (number ≡ 29 → ⊥) → (number ≡ 30 → ⊥) → NoText number
+no_text {number} p1 p2 p3 p4 p7 p9 p13 p14 p17 p18 p19 p20 p21 p22 p23 p24 p25 p26 p27 p28 p29 p30 = record { is = λ h. unknown refusals number (p1, (p2, (p3, (p4, (h.0, (h.1.0, (p7, (h.1.1.0, (p9, (h.1.1.1.0, (h.1.1.1.1.0, (h.1.1.1.1.1.0, (p13, (p14, (h.1.1.1.1.1.1.0, (h.1.1.1.1.1.1.1.0, (p17, (p18, (p19, (p20, (p21, (p22, (p23, (p24, (p25, (p26, (p27, (p28, (p29, (p30, tt)))))))))))))))))))))))))))))) }
 
-pub cut_short : (s : List ℕ) (from to : ℕ) → from ≤ to → to ≤ length s → length s < 1024 → length (take (to - from) (drop from s)) < 1024
-cut_short s from to o i l = rw (length-take-le (to - from) (drop from s) (rw length-drop (omega arith))) (omega arith)
-
-module _ {room : ℕ} {u : List ℕ} {r : TextAnswer} where
+module _ {room : ℕ} {u : List ℕ} {r : Result ℕ Fault} where
   -- numbers that show nothing
-  pub plain_part : {number : ℕ} {p : Part} → PlainAt number p → (p.from ≡ p.to → ⊥) → Says (roomy room (text (take (p.to - p.from) (drop p.from plain_texts)))) room u r → Plainly number room u r
-  plain_part {p = p} a d s = record { says = λ h doc x. rw (a.is h, ne_eqb p.from p.to d, append-nil (take (p.to - p.from) (drop p.from plain_texts))) s }
+  pub text_told : {number : ℕ} {s : List ℕ} → PlainText number s → Says (roomy room (text s)) room u r → Plainly number room u r
+  text_told {s = s} a k = record { says = λ h doc x. rw (a.is h, append-nil s) k }
 
-  pub plain_none : {number : ℕ} {p : Part} → PlainAt number p → p.from ≡ p.to → Says (wrong 19 0) room u r → Plainly number room u r
-  plain_none {p = p} a e s = record { says = λ h doc x. rw (a.is h, eq-eqb p.from p.to e) s }
+  pub text_none : {number : ℕ} → NoText number → Says (wrong 19 0) room u r → Plainly number room u r
+  text_none a k = record { says = λ h doc x. rw (a.is h) k }
 
   -- keys
   pub lacking_by : (k : ℕ) {doc : List ℕ} {name : Wide} {key : ℕ} → key ≡ k → present (key_name k) ≡ text (key_name k) → Says (roomy room (framed (bytes "missing attribute `" ++ (key_name k ++ bytes "` on `<")) (excerpt_of doc name) (bytes ">`"))) room u r → Lacking doc name key room u r
@@ -80,4 +75,4 @@ module _ {room : ℕ} {u : List ℕ} {r : TextAnswer} where
   pub warned_unknown : {doc : List ℕ} {name : Wide} {reason : ℕ} → Says (wrong 19 0) room u r → (reason ≡ 1 → ⊥) → (reason ≡ 2 → ⊥) → (reason ≡ 3 → ⊥) → (reason ≡ 4 → ⊥) → (reason ≡ 5 → ⊥) → (reason ≡ 6 → ⊥) → (reason ≡ 7 → ⊥) → (reason ≡ 8 → ⊥) → (reason ≡ 9 → ⊥) → Warned doc reason name room u r
   warned_unknown {reason = reason} s p1 p2 p3 p4 p5 p6 p7 p8 p9 = record { says = λ x f. rw (unknown warnings reason (p1, (p2, (p3, (p4, (p5, (p6, (p7, (p8, (p9, tt)))))))))) s }
 
-pub ruleset cutting = (cut_short, plain_part, plain_none, rules)
+pub ruleset cutting = (text_told, text_none, rules)

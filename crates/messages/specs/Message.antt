@@ -6,8 +6,13 @@ use Rattle.utf8.specs.WellFormed.{well_formed}
 use Rattle.answers.specs.Text.{Text, text, wrong, roomy}
 use Rattle.references.specs.Unescape.{unescape}
 use Rattle.messages.specs.Texts.{Piece, words, first, second, value, key, pieces_of, refusals, warnings, key_name}
+use Rattle.tables.specs.declared.Triple.{Triple}
 use Rattle.messages.specs.declared.Wide.{Wide}
 use Rattle.messages.specs.declared.Told.{Told}
+
+-- a triple of 32-bit words as one of whatever words
+abbrev pub widened : Triple → Wide
+widened t = record { source = t.source; start = t.start; len = t.len }
 
 abbrev pub unsound : Text
 unsound = wrong 19 0

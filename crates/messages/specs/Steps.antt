@@ -1,16 +1,15 @@
 -- What the steps of the entries say.
 -- Assumes nothing.
-use Rattle.std.specs.Prelude.{ℕ, ◌+◌, ◌-◌, ◌≤◌, ◌<◌, ◌≡◌, List, [], ◌∷◌, ◌++◌, eqb, length, take, drop}
-use Rattle.slices.specs.Bytes.{if, bytes}
+use Rattle.std.specs.Prelude.{ℕ, ◌+◌, ◌≤◌, ◌<◌, ◌≡◌, List, [], ◌∷◌, ◌++◌, length, Result}
+use Rattle.faults.specs.declared.Fault.{Fault}
+use Rattle.slices.specs.Bytes.{bytes}
 use Rattle.answers.specs.Text.{text, roomy, Says}
 use Rattle.answers.specs.Puts.{Puts}
 use Rattle.references.specs.Unescape.{unescape}
-use Rattle.answers.specs.declared.TextAnswer.{TextAnswer}
-use Rattle.messages.specs.Texts.{Piece, words, refusals, warnings, pieces_of}
-use Rattle.messages.specs.Message.{excerpt, excerpt_of, joined, message_by}
+use Rattle.messages.specs.Texts.{words, refusals, warnings, pieces_of}
+use Rattle.messages.specs.Message.{excerpt_of, joined, message_by}
 use Rattle.messages.specs.declared.Wide.{Wide}
 use Rattle.messages.specs.declared.Told.{Told}
-use Rattle.messages.specs.declared.Part.{Part}
 
 -- words of a message
 abbrev pub Short : List ℕ → List ℕ → Type 0
@@ -23,7 +22,7 @@ NoneOf n (k ∷ ks) = (n ≡ k → ⊥) × NoneOf n ks
 
 -- what a triple shows
 pub record Excerpted (doc : List ℕ) (t : Wide) (s : List ℕ) : Type 0 where
-  pub is : s ≡ excerpt doc t
+  pub is : excerpt_of doc t ≡ text s
   pub short : length s ≤ length doc
 
 -- bytes are put, with words before and after them
@@ -36,42 +35,37 @@ pub record Unescaped (before value after buf buf' : List ℕ) (r : ℕ) : Type 0
   pub puts : (t : List ℕ) → unescape value ≡ text t → Puts (before ++ (t ++ after)) 0 buf buf' r
 
 -- two texts with words before, between and after them
-pub record Parted (before a between b after : List ℕ) (room : ℕ) (out : List ℕ) (r : TextAnswer) : Type 0 where
+pub record Parted (before a between b after : List ℕ) (room : ℕ) (out : List ℕ) (r : Result ℕ Fault) : Type 0 where
   pub says : Says (roomy room (text (before ++ (a ++ (between ++ (b ++ after)))))) room out r
 
--- the texts of the numbers that show nothing, and the pieces that a part of them is: none if it is empty
-abbrev pub plain_texts : List ℕ
-plain_texts = bytes "not UTF-8over-longmissing root elementmalformed markupmaximum element nesting depth exceededunterminated entity referencebad namebad signaturetoo many attributesno room in a lent tableunsound rowsnot writableoutput shortodd number of byteslone surrogatecircular typesprofile breachtoo many rows"
+-- the text of a number that shows nothing, and that it has none
+pub record PlainText (number : ℕ) (s : List ℕ) : Type 0 where
+  pub is : NoneOf number (5 ∷ 6 ∷ 8 ∷ 10 ∷ 11 ∷ 12 ∷ 15 ∷ 16 ∷ []) → pieces_of refusals number ≡ words s ∷ []
+  pub short : length s < 1024
 
-abbrev pub part_pieces : Part → List Piece
-part_pieces p = if (eqb p.from p.to) [] (words (take (p.to - p.from) (drop p.from plain_texts)) ∷ [])
-
--- where the text of such a number stands
-pub record PlainAt (number : ℕ) (p : Part) : Type 0 where
-  pub is : NoneOf number (5 ∷ 6 ∷ 8 ∷ 10 ∷ 11 ∷ 12 ∷ 15 ∷ 16 ∷ []) → pieces_of refusals number ≡ part_pieces p
-  pub ordered : p.from ≤ p.to
-  pub inside : p.to ≤ 294
+pub record NoText (number : ℕ) : Type 0 where
+  pub is : NoneOf number (5 ∷ 6 ∷ 8 ∷ 10 ∷ 11 ∷ 12 ∷ 15 ∷ 16 ∷ []) → pieces_of refusals number ≡ []
 
 -- the message of a number that shows nothing, whatever is told with it
-pub record Plainly (number room : ℕ) (out : List ℕ) (r : TextAnswer) : Type 0 where
+pub record Plainly (number room : ℕ) (out : List ℕ) (r : Result ℕ Fault) : Type 0 where
   pub says : NoneOf number (5 ∷ 6 ∷ 8 ∷ 10 ∷ 11 ∷ 12 ∷ 15 ∷ 16 ∷ []) → (doc : List ℕ) (x : Told) → Says (roomy room (message_by doc x (pieces_of refusals number))) room out r
 
 -- the message of 6, where the closing tag's name is there
-pub record UnexpectedIn (doc closing : List ℕ) (element : Wide) (room : ℕ) (out : List ℕ) (r : TextAnswer) : Type 0 where
+pub record UnexpectedIn (doc closing : List ℕ) (element : Wide) (room : ℕ) (out : List ℕ) (r : Result ℕ Fault) : Type 0 where
   pub says : Says (roomy room (joined (text (bytes "unexpected `</")) (joined (text closing) (joined (text (bytes ">` while parsing `<")) (joined (excerpt_of doc element) (text (bytes ">`"))))))) room out r
 
 -- the message of 6, whatever else is told
-pub record Unexpected (doc : List ℕ) (closing element : Wide) (room : ℕ) (out : List ℕ) (r : TextAnswer) : Type 0 where
+pub record Unexpected (doc : List ℕ) (closing element : Wide) (room : ℕ) (out : List ℕ) (r : Result ℕ Fault) : Type 0 where
   pub says : (x : Told) → x.first ≡ closing → x.second ≡ element → Says (roomy room (message_by doc x (pieces_of refusals 6))) room out r
 
 -- the message of 12, whatever else is told
-pub record Lacking (doc : List ℕ) (name : Wide) (key room : ℕ) (out : List ℕ) (r : TextAnswer) : Type 0 where
+pub record Lacking (doc : List ℕ) (name : Wide) (key room : ℕ) (out : List ℕ) (r : Result ℕ Fault) : Type 0 where
   pub says : (x : Told) → x.first ≡ name → x.key ≡ key → Says (roomy room (message_by doc x (pieces_of refusals 12))) room out r
 
 -- the message of a refusal
-pub record Turned (doc : List ℕ) (x : Told) (room : ℕ) (out : List ℕ) (r : TextAnswer) : Type 0 where
+pub record Turned (doc : List ℕ) (x : Told) (room : ℕ) (out : List ℕ) (r : Result ℕ Fault) : Type 0 where
   pub says : Says (roomy room (message_by doc x (pieces_of refusals x.number))) room out r
 
 -- the message of a reason, whatever else is told
-pub record Warned (doc : List ℕ) (reason : ℕ) (name : Wide) (room : ℕ) (out : List ℕ) (r : TextAnswer) : Type 0 where
+pub record Warned (doc : List ℕ) (reason : ℕ) (name : Wide) (room : ℕ) (out : List ℕ) (r : Result ℕ Fault) : Type 0 where
   pub says : (x : Told) → x.first ≡ name → Says (roomy room (message_by doc x (pieces_of warnings reason))) room out r

@@ -1,11 +1,12 @@
 // Messages: a refusal or a warning, with its document, as the bytes that the Rust's `message()` gives.
 #![tactic(auto)]
 
-ghost use Rattle.std.specs.Prelude.{length};
+ghost use Rattle.std.specs.Prelude.{◌≡◌, length};
 ghost use Rattle.answers.specs.Text.{Says};
-ghost use Rattle.messages.specs.Message.{message_of, warning_message_of};
+ghost use Rattle.messages.specs.Message.{message_of, warning_message_of, widened};
 
 use answers::TextAnswer;
+use tables::Triple;
 
 mod shown;
 mod texts;
@@ -18,6 +19,18 @@ pub struct Wide {
     pub len: u64,
 }
 
+impl From<Triple> for Wide {
+    ghost from_gives = { λ t w. w ≡ widened t };
+
+    fn from(t: Triple) -> Wide {
+        Wide {
+            source: u64::from(t.source),
+            start: u64::from(t.start),
+            len: u64::from(t.len),
+        }
+    }
+}
+
 // A refusal as it was told: its number, the key, and two triples.
 #[derive(Clone, Copy)]
 pub struct Told {
@@ -25,13 +38,6 @@ pub struct Told {
     pub key: u64,
     pub first: Wide,
     pub second: Wide,
-}
-
-// A part of some bytes: where it begins and where it ends.
-#[derive(Clone, Copy)]
-pub struct Part {
-    pub from: usize,
-    pub to: usize,
 }
 
 // The message of a refusal. A document of more than 1,048,576 bytes is refused with 2, unless that is the number told; what has no message
@@ -51,6 +57,7 @@ pub fn message(document: &[u8], told: Told, out: &mut [u8]) -> TextAnswer
 }
 
 // The message of a warning: its reason, and where the element's name stands in the document. Refused as for `message`.
+#[tactic(auto, using(crate::proofs::Entries::entries))]
 pub fn warning_message(
     document: &[u8],
     reason: u32,
@@ -64,10 +71,10 @@ pub fn warning_message(
     if 1048576 < document.len() {
         return answers::refuse(out, 2, 1048576);
     }
-    let name = Wide {
+    let name = Wide::from(Triple {
         source: 1,
-        start: start as u64,
-        len: len as u64,
-    };
+        start,
+        len,
+    });
     texts::warned(document, reason, name, out)
 }

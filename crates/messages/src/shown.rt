@@ -1,27 +1,21 @@
 // What a message shows, and words around it.
-ghost use Rattle.std.specs.Prelude.{◌≡◌, true, ◌++◌, ◌+◌, ◌^◌, ◌≤◌, ◌<◌, length};
+ghost use Rattle.std.specs.Prelude.{◌≡◌, ◌++◌, ◌+◌, ◌^◌, ◌≤◌, ◌<◌, length, IfSome, IfNone};
 ghost use Rattle.answers.specs.Puts.{Puts};
-ghost use Rattle.answers.specs.Text.{Says, text, roomy};
+ghost use Rattle.answers.specs.Text.{Says, text, wrong, roomy};
 ghost use Rattle.messages.specs.Message.{is_shown, excerpt_of, or_unsound, unescaped_of, framed};
 ghost use Rattle.references.specs.Unescape.{unescape};
 ghost use Rattle.messages.specs.Steps.{Short, Excerpted, Around, Unescaped, Parted, UnexpectedIn, Unexpected};
 
 use crate::Wide;
 use answers::{TextAnswer, put};
-use references::Checked;
 
 // Whether a triple shows something: its source is 1, it is inside the document, and what it shows is UTF-8.
+#[tactic(auto, using(crate::proofs::Excerpts::excerpts))]
 fn is_shown(document: &[u8], t: Wide) -> bool
     ensures { result ≡ is_shown document.now t }
 {
-    if t.source != 1 {
-        return false;
-    }
     let most = document.len() as u64;
-    if most < t.start {
-        return false;
-    }
-    if most - t.start < t.len {
+    if t.source != 1 || most < t.start || most - t.start < t.len {
         return false;
     }
     let start = t.start as usize;
@@ -29,17 +23,22 @@ fn is_shown(document: &[u8], t: Wide) -> bool
     utf8::ill_formed(&document[start..end]) == end - start
 }
 
-// What a triple shows.
-fn excerpt<'a>(document: &'a [u8], t: Wide) -> &'a [u8]
-    requires { is_shown document.now t ≡ true }
-    ensures { Excerpted document.now t result.now }
+// What a triple shows, if it shows something.
+#[tactic(auto, using(crate::proofs::Excerpts::excerpts))]
+fn excerpt(document: &[u8], t: Wide) -> Option<&[u8]>
+    ensures some { IfSome result (λ s. Excerpted document.now t s.now) }
+    ensures none { IfNone result (excerpt_of document.now t ≡ wrong 19 0) }
 {
-    let start = t.start as usize;
-    let end = start + t.len as usize;
-    &document[start..end]
+    if is_shown(document, t) {
+        let start = t.start as usize;
+        let end = start + t.len as usize;
+        return Some(&document[start..end]);
+    }
+    None
 }
 
 // Words alone.
+#[tactic(auto, using(crate::proofs::Framed::framing))]
 pub fn plain(words: &[u8], out: &mut [u8]) -> TextAnswer
     requires { length words.now < 1024 }
     ensures { Says (roomy (length out.old) (text words.now)) (length out.old)
@@ -51,8 +50,8 @@ pub fn plain(words: &[u8], out: &mut [u8]) -> TextAnswer
 
 // Puts bytes at a count, with words after them.
 fn put_with(out: &mut [u8], n: usize, bytes: &[u8], after: &[u8]) -> usize
-    requires fact_1 { length after.now < 1024 }
-    requires fact_2 { n + length bytes.now + 1024 < 2 ^ 62 }
+    requires short { length after.now < 1024 }
+    requires counted { n + length bytes.now + 1024 < 2 ^ 62 }
     ensures { Puts (bytes.now ++ after.now) n out.old out.new result }
 {
     let shown = put::put_bytes(out, n, bytes);
@@ -61,8 +60,8 @@ fn put_with(out: &mut [u8], n: usize, bytes: &[u8], after: &[u8]) -> usize
 
 // Puts bytes at a count, with words before them and after them.
 fn put_around(out: &mut [u8], n: usize, before: &[u8], bytes: &[u8], after: &[u8]) -> usize
-    requires fact_1 { Short before.now after.now }
-    requires fact_2 { n + length bytes.now < 2 ^ 61 }
+    requires short { Short before.now after.now }
+    requires counted { n + length bytes.now < 2 ^ 61 }
     ensures { Around before.now bytes.now after.now n out.old
         out.new result }
 {
@@ -72,8 +71,8 @@ fn put_around(out: &mut [u8], n: usize, before: &[u8], bytes: &[u8], after: &[u8
 
 // Words before bytes and after them.
 fn wrapped(before: &[u8], bytes: &[u8], after: &[u8], out: &mut [u8]) -> TextAnswer
-    requires fact_1 { Short before.now after.now }
-    requires fact_2 { length bytes.now ≤ 1048576 }
+    requires short { Short before.now after.now }
+    requires small { length bytes.now ≤ 1048576 }
     ensures { Says
         (roomy (length out.old) (framed before.now (text bytes.now) after.now))
         (length out.old) out.new result }
@@ -84,22 +83,22 @@ fn wrapped(before: &[u8], bytes: &[u8], after: &[u8], out: &mut [u8]) -> TextAns
 
 // Words before what a triple shows and after it.
 pub fn named(document: &[u8], t: Wide, before: &[u8], after: &[u8], out: &mut [u8]) -> TextAnswer
-    requires fact_1 { Short before.now after.now }
-    requires fact_2 { length document.now ≤ 1048576 }
+    requires short { Short before.now after.now }
+    requires small { length document.now ≤ 1048576 }
     ensures { Says
         (roomy (length out.old) (framed before.now (excerpt_of document.now t) after.now))
         (length out.old) out.new result }
 {
-    if is_shown(document, t) {
-        return wrapped(before, excerpt(document, t), after, out);
+    match excerpt(document, t) {
+        Some(shown) => wrapped(before, shown, after, out),
+        None => answers::refuse(out, 19, 0),
     }
-    answers::refuse(out, 19, 0)
 }
 
 // Puts what a raw value shows, with words before it and after it.
 fn put_unescaped(value: &[u8], before: &[u8], after: &[u8], out: &mut [u8]) -> usize
-    requires fact_1 { Short before.now after.now }
-    requires fact_2 { length value.now ≤ 1048576 }
+    requires short { Short before.now after.now }
+    requires small { length value.now ≤ 1048576 }
     ensures { Unescaped before.now value.now after.now out.old
         out.new result }
 {
@@ -110,15 +109,15 @@ fn put_unescaped(value: &[u8], before: &[u8], after: &[u8], out: &mut [u8]) -> u
 
 // Words before what a raw value shows and after it.
 fn unescaped(value: &[u8], before: &[u8], after: &[u8], out: &mut [u8]) -> TextAnswer
-    requires fact_1 { Short before.now after.now }
-    requires fact_2 { length value.now ≤ 1048576 }
+    requires short { Short before.now after.now }
+    requires small { length value.now ≤ 1048576 }
     ensures { Says
         (roomy (length out.old) (framed before.now (or_unsound (unescape value.now)) after.now))
         (length out.old) out.new result }
 {
     match references::check(value) {
-        Checked::Fault(_, _) => answers::refuse(out, 19, 0),
-        Checked::Good => {
+        Err(_) => answers::refuse(out, 19, 0),
+        Ok(()) => {
             let n = put_unescaped(value, before, after, out);
             answers::finish(out, n, 21, n)
         }
@@ -127,16 +126,16 @@ fn unescaped(value: &[u8], before: &[u8], after: &[u8], out: &mut [u8]) -> TextA
 
 // Words before the raw value at a triple, unescaped, and after it.
 pub fn valued(document: &[u8], t: Wide, before: &[u8], after: &[u8], out: &mut [u8]) -> TextAnswer
-    requires fact_1 { Short before.now after.now }
-    requires fact_2 { length document.now ≤ 1048576 }
+    requires short { Short before.now after.now }
+    requires small { length document.now ≤ 1048576 }
     ensures { Says
         (roomy (length out.old) (framed before.now (unescaped_of (excerpt_of document.now t)) after.now))
         (length out.old) out.new result }
 {
-    if is_shown(document, t) {
-        return unescaped(excerpt(document, t), before, after, out);
+    match excerpt(document, t) {
+        Some(value) => unescaped(value, before, after, out),
+        None => answers::refuse(out, 19, 0),
     }
-    answers::refuse(out, 19, 0)
 }
 
 // Words before, between and after two texts.
@@ -148,10 +147,10 @@ fn parted(
     after: &[u8],
     out: &mut [u8],
 ) -> TextAnswer
-    requires fact_1 { Short before.now between.now }
-    requires fact_2 { length after.now < 1024 }
-    requires fact_3 { length a.now ≤ 1048576 }
-    requires fact_4 { length b.now ≤ 1048576 }
+    requires short { Short before.now between.now }
+    requires short_after { length after.now < 1024 }
+    requires small_first { length a.now ≤ 1048576 }
+    requires small_second { length b.now ≤ 1048576 }
     ensures { Parted before.now a.now between.now b.now
         after.now (length out.old) out.new result }
 {
@@ -162,32 +161,32 @@ fn parted(
 
 // 6, where the closing tag's name is there: that and the open element's name.
 fn unexpected_in(document: &[u8], closing: &[u8], element: Wide, out: &mut [u8]) -> TextAnswer
-    requires fact_1 { length document.now ≤ 1048576 }
-    requires fact_2 { length closing.now ≤ 1048576 }
+    requires small { length document.now ≤ 1048576 }
+    requires small_closing { length closing.now ≤ 1048576 }
     ensures { UnexpectedIn document.now closing.now element (length out.old)
         out.new result }
 {
-    if is_shown(document, element) {
-        let name = excerpt(document, element);
-        return parted(
+    match excerpt(document, element) {
+        Some(name) => parted(
             closing,
             name,
             b"unexpected `</",
             b">` while parsing `<",
             b">`",
             out,
-        );
+        ),
+        None => answers::refuse(out, 19, 0),
     }
-    answers::refuse(out, 19, 0)
 }
 
 // 6: the closing tag's name, and the open element's.
+#[tactic(auto, using(crate::proofs::Framed::framing))]
 pub fn unexpected(document: &[u8], closing: Wide, element: Wide, out: &mut [u8]) -> TextAnswer
     requires { length document.now ≤ 1048576 }
     ensures { Unexpected document.now closing element (length out.old) out.new result }
 {
-    if is_shown(document, closing) {
-        return unexpected_in(document, excerpt(document, closing), element, out);
+    match excerpt(document, closing) {
+        Some(name) => unexpected_in(document, name, element, out),
+        None => answers::refuse(out, 19, 0),
     }
-    answers::refuse(out, 19, 0)
 }

@@ -1,69 +1,53 @@
 // The texts of messages: which words stand around what is shown.
-ghost use Rattle.std.specs.Prelude.{◌-◌, ◌≤◌, ◌<◌, length, take, drop};
-ghost use Rattle.answers.specs.Text.{Says, text, roomy};
+ghost use Rattle.std.specs.Prelude.{◌≤◌, ◌<◌, length, IfSome, IfNone};
+ghost use Rattle.answers.specs.Text.{Says, roomy};
 ghost use Rattle.slices.specs.Bytes.{bytes};
 ghost use Rattle.messages.specs.Message.{excerpt_of, framed};
-ghost use Rattle.messages.specs.Steps.{PlainAt, Plainly, Lacking, Turned, Warned};
+ghost use Rattle.messages.specs.Steps.{PlainText, NoText, Plainly, Lacking, Turned, Warned};
 
-use crate::{Part, Told, Wide, shown};
+use crate::{Told, Wide, shown};
 use answers::TextAnswer;
 
-// Where the text of a number that shows nothing stands in the texts of all of them; an empty part if it has none.
-fn plain_at(number: u64) -> Part
-    ensures { PlainAt number result }
+// The text of a number that shows nothing, if it has one.
+fn plain_text(number: u64) -> Option<&'static [u8]>
+    ensures some { IfSome result (λ s. PlainText number s.now) }
+    ensures none { IfNone result (NoText number) }
 {
     match number {
-        1 => Part { from: 0, to: 9 },
-        2 => Part { from: 9, to: 18 },
-        3 => Part { from: 18, to: 38 },
-        4 => Part { from: 38, to: 54 },
-        7 => Part { from: 54, to: 92 },
-        9 => Part { from: 92, to: 121 },
-        13 => Part { from: 121, to: 129 },
-        14 => Part { from: 129, to: 142 },
-        17 => Part { from: 142, to: 161 },
-        18 => Part { from: 161, to: 184 },
-        19 => Part { from: 184, to: 196 },
-        20 => Part { from: 196, to: 208 },
-        21 => Part { from: 208, to: 220 },
-        22 => Part { from: 38, to: 54 },
-        23 => Part { from: 38, to: 54 },
-        24 => Part { from: 38, to: 54 },
-        25 => Part { from: 38, to: 54 },
-        26 => Part { from: 220, to: 239 },
-        27 => Part { from: 239, to: 253 },
-        28 => Part { from: 253, to: 267 },
-        29 => Part { from: 267, to: 281 },
-        30 => Part { from: 281, to: 294 },
-        _ => Part { from: 0, to: 0 },
+        1 => Some(b"not UTF-8"),
+        2 => Some(b"over-long"),
+        3 => Some(b"missing root element"),
+        4 => Some(b"malformed markup"),
+        7 => Some(b"maximum element nesting depth exceeded"),
+        9 => Some(b"unterminated entity reference"),
+        13 => Some(b"bad name"),
+        14 => Some(b"bad signature"),
+        17 => Some(b"too many attributes"),
+        18 => Some(b"no room in a lent table"),
+        19 => Some(b"unsound rows"),
+        20 => Some(b"not writable"),
+        21 => Some(b"output short"),
+        22 => Some(b"malformed markup"),
+        23 => Some(b"malformed markup"),
+        24 => Some(b"malformed markup"),
+        25 => Some(b"malformed markup"),
+        26 => Some(b"odd number of bytes"),
+        27 => Some(b"lone surrogate"),
+        28 => Some(b"circular types"),
+        29 => Some(b"profile breach"),
+        30 => Some(b"too many rows"),
+        _ => None,
     }
-}
-
-// A part of some texts.
-fn cut(texts: &[u8], from: usize, to: usize, out: &mut [u8]) -> TextAnswer
-    requires fact_1 { from ≤ to }
-    requires fact_2 { to ≤ length texts.now }
-    requires fact_3 { length texts.now < 1024 }
-    ensures { Says (roomy (length out.old) (text (take (to - from) (drop from texts.now))))
-        (length out.old) out.new result }
-{
-    shown::plain(&texts[from..to], out)
 }
 
 // Numbers that show nothing.
 pub fn plainly(number: u64, out: &mut [u8]) -> TextAnswer
     ensures { Plainly number (length out.old) out.new result }
 {
-    let part = plain_at(number);
-    if part.from == part.to {
-        return answers::refuse(out, 19, 0);
+    match plain_text(number) {
+        Some(text) => shown::plain(text, out),
+        None => answers::refuse(out, 19, 0),
     }
-    cut(
-        b"not UTF-8over-longmissing root elementmalformed markupmaximum element nesting depth exceededunterminated entity referencebad namebad signaturetoo many attributesno room in a lent tableunsound rowsnot writableoutput shortodd number of byteslone surrogatecircular typesprofile breachtoo many rows",
-        part.from,
-        part.to,
-        out,
-    )
 }
 
 // 12: the key that is missing, and the element's name.

@@ -9,12 +9,12 @@ use native.Mathlib.Omega.{arith}
 use lib.Dec.{eqb}
 use lib.ListN.{length, drop, get_or, length-drop, drop_of_length-le}
 use lib.Seq.{drop-cons, drop-drop}
+use Rattle.std.specs.Prelude.{Result, Ok, Err}
+use Rattle.faults.specs.declared.Fault.{Fault}
 use Rattle.slices.specs.Bytes.{other}
 use Rattle.slices.specs.Run.{Run}
 use Rattle.slices.proofs.Runs.{run_past}
 use Rattle.scan.specs.Ignorable.{Marks}
-use Rattle.scan.specs.declared.Scan.{Scan}
-use Rattle.scan.specs.declared.Scan.TheVariants.{Fault, At}
 use Rattle.scan.specs.declared.Markup.{Markup}
 use Rattle.scan.specs.declared.Markup.TheVariants.{Tag, Ignored}
 use Rattle.met.specs.Passed.{here, beyond, passed_from, passed_over}
@@ -37,21 +37,21 @@ module _ (s : List ℕ) (at : ℕ) where
   unfolding passed_over
   passed_end h = rw (drop_of_length-le s h)
 
-  module _ (h : at < length s) (t : get_or s at 0 ≡ 60) {m : Markup} (c : Marks s at m) where
+  module _ (h : at < length s) (t : get_or s at 0 ≡ 60) {m : Result Markup Fault} (c : Marks s at m) where
     -- what the `<` comes to
     at_mark : passed_over (drop at s) at ≡ beyond m (drop (suc at) s) at (λ p. passed_from (p - suc at) (drop (suc at) s) (suc at))
     unfolding passed_over
     at_mark = rw (drop-cons s at 0 h, t, c.is)
 
-    pub passed_tag : m ≡ Tag → passed_over (drop at s) at ≡ []
+    pub passed_tag : m ≡ Ok Tag → passed_over (drop at s) at ≡ []
     passed_tag e = at_mark ∙ rw e
 
-    pub passed_fault : {x : Scan} {n p : ℕ} → m ≡ Ignored x → x ≡ Fault n p → passed_over (drop at s) at ≡ []
-    passed_fault e f = at_mark ∙ rw (e, f)
+    pub passed_fault : {f : Fault} → m ≡ Err f → passed_over (drop at s) at ≡ []
+    passed_fault e = at_mark ∙ rw e
 
-    pub passed_more : {x : Scan} {p : ℕ} → m ≡ Ignored x → x ≡ At p → passed_over (drop at s) at ≡ here (drop (suc at) s) at (passed_over (drop p s) p)
+    pub passed_more : {p : ℕ} → m ≡ Ok (Ignored p) → passed_over (drop at s) at ≡ here (drop (suc at) s) at (passed_over (drop p s) p)
     unfolding passed_over
-    passed_more {x} {p} e f =
-        let d : Marks s at (Ignored (At p)) = rw f at (rw e at c) in
+    passed_more {p} e =
+        let d : Marks s at (Ok (Ignored p)) = rw e at c in
         let q : suc at + (p - suc at) ≡ p = omega (arith, d.onward) in
-        at_mark ∙ rw (e, f, taken (p - suc at) (drop (suc at) s) (suc at) (rw length-drop (omega (arith, d.onward))), drop-drop (p - suc at) (suc at) s, q)
+        at_mark ∙ rw (e, taken (p - suc at) (drop (suc at) s) (suc at) (rw length-drop (omega (arith, d.onward))), drop-drop (p - suc at) (suc at) s, q)

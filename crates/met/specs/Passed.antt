@@ -1,9 +1,9 @@
 -- The comments that are passed over on the way to the next tag: by the same recursion as what is ignorable.
 -- Assumes nothing.
-use Rattle.std.specs.Prelude.{ℕ, zero, suc, ◌-◌, List, [], ◌∷◌, eqb}
+use Rattle.std.specs.Prelude.{ℕ, zero, suc, ◌-◌, List, [], ◌∷◌, eqb, Result, Ok, Err}
+use Rattle.faults.specs.declared.Fault.{Fault}
 use Rattle.slices.specs.Bytes.{if, bytes, starts}
 use Rattle.scan.specs.Ignorable.{markup}
-use Rattle.scan.specs.declared.Scan.TheVariants.{Fault, At}
 use Rattle.scan.specs.declared.Markup.{Markup}
 use Rattle.scan.specs.declared.Markup.TheVariants.{Tag, Ignored}
 
@@ -12,10 +12,10 @@ abbrev pub here : List ℕ → ℕ → List ℕ → List ℕ
 here l at cs = if (starts (bytes "!--") l) (at ∷ cs) cs
 
 -- of what begins at a `<`: a tag ends what is ignorable; what does not close ends reading
-abbrev pub beyond : Markup → List ℕ → ℕ → (ℕ → List ℕ) → List ℕ
-beyond Tag l at f = []
-beyond (Ignored (Fault n p)) l at f = []
-beyond (Ignored (At p)) l at f = here l at (f p)
+abbrev pub beyond : Result Markup Fault → List ℕ → ℕ → (ℕ → List ℕ) → List ℕ
+beyond (Ok Tag) l at f = []
+beyond (Err x) l at f = []
+beyond (Ok (Ignored p)) l at f = here l at (f p)
 
 -- when so many bytes are taken already
 abbrev pub passed_from : ℕ → List ℕ → ℕ → List ℕ

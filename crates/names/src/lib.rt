@@ -3,60 +3,22 @@
 #![tactic(auto)]
 
 ghost use Rattle.std.specs.Prelude.{◌≡◌, ◌≤◌, length};
-ghost use Rattle.slices.specs.Run.{Run};
 ghost use Rattle.names.specs.Names.{digit, element_byte, interface_name, member_name, property_name};
 ghost use Rattle.names.specs.Signature.{basic_code, basic_signature, signature};
 ghost use Rattle.names.specs.Checks.{Element, Typed, Fielded, Entered};
-
-// What checking a type comes to: no type, or the place where it ends.
-#[derive(Clone, Copy)]
-pub enum End {
-    Bad,
-    At(usize),
-}
 
 // A digit.
 fn is_digit(b: u8) -> bool
     ensures { result ≡ digit b }
 {
-    if b < 48 {
-        return false;
-    }
-    b <= 57
+    matches!(b, b'0'..=b'9')
 }
 
 // A letter, a digit or `_`.
 fn is_element_byte(b: u8) -> bool
     ensures { result ≡ element_byte b }
 {
-    if b < 65 {
-        return is_digit(b);
-    }
-    if b <= 90 {
-        return true;
-    }
-    if b == 95 {
-        return true;
-    }
-    if b < 97 {
-        return false;
-    }
-    b <= 122
-}
-
-// The end of the run of bytes of an element that begins at a place.
-fn run_end(s: &[u8], from: usize) -> usize
-    requires { from ≤ length s.now }
-    ensures { Run element_byte s.now from result }
-{
-    let mut at = from;
-    while at < s.len() {
-        if !is_element_byte(s[at]) {
-            return at;
-        }
-        at += 1;
-    }
-    at
+    matches!(b, b'A'..=b'Z' | b'a'..=b'z' | b'0'..=b'9' | b'_')
 }
 
 // The end of the element of a name at a place; the place itself where there is none.
@@ -64,30 +26,23 @@ fn element(s: &[u8], from: usize) -> usize
     requires { from ≤ length s.now }
     ensures { Element s.now from result }
 {
-    if s.len() <= from {
+    if s.len() <= from || is_digit(s[from]) {
         return from;
     }
-    if is_digit(s[from]) {
-        return from;
-    }
-    run_end(s, from)
+    slices::run_end(s, from, |b| is_element_byte(b))
 }
 
 // One element.
+#[tactic(auto, using(crate::proofs::Names::members))]
 pub fn member_name(s: &[u8]) -> bool
     ensures { result ≡ member_name s.now }
 {
     let n = s.len();
-    if n == 0 {
-        return false;
-    }
-    if 255 < n {
-        return false;
-    }
-    element(s, 0) == n
+    n != 0 && n <= 255 && element(s, 0) == n
 }
 
 // Two or more elements, which dots separate.
+#[tactic(auto, using(crate::proofs::Names::name_loops))]
 pub fn interface_name(s: &[u8]) -> bool
     ensures { result ≡ interface_name s.now }
 {
@@ -117,108 +72,85 @@ pub fn interface_name(s: &[u8]) -> bool
 pub fn property_name(s: &[u8]) -> bool
     ensures { result ≡ property_name s.now }
 {
-    if s.len() == 0 {
-        return false;
-    }
-    s.len() <= 255
+    matches!(s.len(), 1..=255)
 }
 
 // The code of a basic type.
 fn basic(b: u8) -> bool
     ensures { result ≡ basic_code b }
 {
-    match b {
-        b'y' => true,
-        b'b' => true,
-        b'n' => true,
-        b'q' => true,
-        b'i' => true,
-        b'u' => true,
-        b'x' => true,
-        b't' => true,
-        b'd' => true,
-        b'h' => true,
-        b's' => true,
-        b'o' => true,
-        b'g' => true,
-        _ => false,
-    }
+    matches!(
+        b,
+        b'y' | b'b' | b'n' | b'q' | b'i' | b'u' | b'x' | b't' | b'd' | b'h' | b's' | b'o' | b'g'
+    )
 }
 
 // The end of the dict entry whose key stands at a place.
 #[cycle(complete_entry_fields)]
-fn entry(s: &[u8], key: usize, arrays: u32, parens: u32) -> End
+#[tactic(auto, using(crate::proofs::Checks::entries))]
+fn entry(s: &[u8], key: usize, arrays: u32, parens: u32) -> Option<usize>
     ensures { Entered s.now key arrays parens result }
 {
     if s.len() <= key {
-        return End::Bad;
+        return None;
     }
     if !basic(s[key]) {
-        return End::Bad;
+        return None;
     }
-    match complete(s, key + 1, arrays, parens) {
-        End::Bad => End::Bad,
-        End::At(e) => {
-            if s.len() <= e {
-                return End::Bad;
-            }
-            if s[e] != b'}' {
-                return End::Bad;
-            }
-            End::At(e + 1)
-        }
+    let e = complete(s, key + 1, arrays, parens)?;
+    if s.len() <= e {
+        return None;
     }
+    if s[e] != b'}' {
+        return None;
+    }
+    Some(e + 1)
 }
 
 // The end of a struct's fields, past the `)`: one field or more.
 #[cycle(complete_entry_fields)]
-fn fields(s: &[u8], from: usize, arrays: u32, parens: u32) -> End
+#[tactic(auto, using(crate::proofs::Checks::field_lists))]
+fn fields(s: &[u8], from: usize, arrays: u32, parens: u32) -> Option<usize>
     ensures { Fielded s.now from arrays parens result }
 {
-    match complete(s, from, arrays, parens) {
-        End::Bad => End::Bad, // no field
-        End::At(e) => {
-            if s.len() <= e {
-                return End::Bad;
-            }
-            if s[e] == b')' {
-                return End::At(e + 1);
-            }
-            fields(s, e, arrays, parens)
-        }
+    let e = complete(s, from, arrays, parens)?; // no field
+    if s.len() <= e {
+        return None;
     }
+    if s[e] == b')' {
+        return Some(e + 1);
+    }
+    fields(s, e, arrays, parens)
 }
 
 // The end of the complete type at a place, with so many arrays and parentheses open.
 #[cycle(complete_entry_fields)]
-fn complete(s: &[u8], at: usize, arrays: u32, parens: u32) -> End
+#[tactic(auto, using(crate::proofs::Checks::types))]
+fn complete(s: &[u8], at: usize, arrays: u32, parens: u32) -> Option<usize>
     ensures { Typed s.now at arrays parens result }
 {
     if s.len() <= at {
-        return End::Bad;
+        return None;
     }
     let b = s[at];
-    if basic(b) {
-        return End::At(at + 1);
-    }
-    if b == b'v' {
-        return End::At(at + 1);
+    if basic(b) || b == b'v' {
+        return Some(at + 1);
     }
     if b == b'(' {
         if 32 <= parens {
-            return End::Bad;
+            return None;
         }
         return fields(s, at + 1, arrays, parens + 1);
     }
     if b != b'a' {
-        return End::Bad;
+        return None;
     }
     if 32 <= arrays {
-        return End::Bad;
+        return None;
     }
     let next = at + 1;
     if s.len() <= next {
-        return End::Bad;
+        return None;
     }
     if s[next] == b'{' {
         return entry(s, next + 1, arrays + 1, parens);
@@ -227,6 +159,7 @@ fn complete(s: &[u8], at: usize, arrays: u32, parens: u32) -> End
 }
 
 // Complete types one after another; at most 255 bytes.
+#[tactic(auto, using(crate::proofs::Checks::signatures))]
 pub fn signature(s: &[u8]) -> bool
     ensures { result ≡ signature s.now }
 {
@@ -234,21 +167,13 @@ pub fn signature(s: &[u8]) -> bool
         return false;
     }
     if s.len() == 1 {
-        let b = s[0];
-        if b == b'v' {
-            return true;
-        }
-        return basic(b);
+        return s[0] == b'v' || basic(s[0]);
     }
     let mut at = 0;
     while at < s.len() {
         match complete(s, at, 0, 0) {
-            End::Bad => {
-                return false;
-            }
-            End::At(e) => {
-                at = e;
-            }
+            None => return false,
+            Some(e) => at = e,
         }
     }
     true
@@ -258,8 +183,5 @@ pub fn signature(s: &[u8]) -> bool
 pub fn basic_signature(s: &[u8]) -> bool
     ensures { result ≡ basic_signature s.now }
 {
-    if s.len() != 1 {
-        return false;
-    }
-    basic(s[0])
+    s.len() == 1 && basic(s[0])
 }

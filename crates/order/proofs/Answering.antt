@@ -1,6 +1,6 @@
 -- Laws of the answer: what is left in the words lent, and which refusal it is.
 -- Assumes nothing.
-use Prim.Native.Nat.{ℕ, ◌-◌, ◌≤◌, ◌<◌}
+use Prim.Native.Nat.{ℕ, ◌≤◌, ◌<◌}
 use mathlib.Core.Path.{◌≡◌, refl, sym, ap, ◌∙◌}
 use mathlib.Core.List.{List}
 use borrow.Author.Rules.{rules}
@@ -8,29 +8,28 @@ use borrow.Author.Tests.{lt-ltb, le-ltb}
 use native.Mathlib.Nat.{mul-one}
 use native.Mathlib.Omega.{arith}
 use lib.ListN.{length, replicate}
-use Rattle.utf8.proofs.Sequences.{below}
 use Rattle.tables.specs.Table.{Wiped}
 use Rattle.tables.proofs.Tables.{clear_all, clear_rest}
 use Rattle.items.specs.Words.{rows_shown}
 use Rattle.items.specs.Content.{Row}
-use Rattle.items.specs.Sound.{sound}
 use Rattle.items.proofs.Rows.{sound_claimed, sound_held}
 use Rattle.soundness.specs.Outcome.{Judges}
-use Rattle.soundness.specs.declared.Soundness.{Soundness}
 use Rattle.soundness.proofs.Rows.{judged_sound, judged_unsound}
 use Rattle.order.specs.Relation.{order, Chain}
 use Rattle.order.specs.Types.{definitions, uses}
 use Rattle.order.specs.Ordering.{wrong, ordering, Says}
 use Rattle.order.specs.Statement.{Sound}
-use Rattle.order.specs.declared.Order.{Order}
-use Rattle.order.specs.declared.Order.TheVariants.{Refused, Ordered}
+use Rattle.std.specs.Prelude.{Result, Ok, Err, Option as Maybe, None, Some}
+use Rattle.faults.specs.Fault.{fault}
+use Rattle.faults.specs.declared.Fault.{Fault}
+use Rattle.order.specs.declared.Ordered.{Ordered}
 use Rattle.order.specs.Steps.{Held, GivenOut, Clear, CircleFound, CountsUndefined, CountsDefinitions, Finishes, OrdersSound, Answers, Orders}
 use Rattle.order.proofs.Lists.{clash}
 use Rattle.order.proofs.Taking.{order_orders}
 use Rattle.order.proofs.Tables.{definitions_ascend, used_listed}
 use Rattle.order.proofs.Theorems.{sound_ordering, at_circle, no_circle, stops, none_on_circle}
 
-pub refused : {t t' : List ℕ} {n p : ℕ} → Wiped 0 t t' → Says (wrong n p) (length t) t' (Refused n p)
+pub refused : {t t' : List ℕ} {n p : ℕ} → Wiped 0 t t' → Says (wrong n p) (length t) t' (Err (fault n p))
 refused {t} z = record { answer = refl; left = z.is ∙ clear_all t }
 
 pub ruleset refusals = (refused, rules)
@@ -49,14 +48,14 @@ module _ {t : List Row} {marks out : List ℕ} {c : ℕ} (g : GivenOut t marks o
   given_clear = record { none = λ k f q. clash (g.marked k f) (none_on_circle t k q) }
 
 module _ {t : List Row} {marks out out' : List ℕ} {c : ℕ} where
-  pub finish_short : {r : Order} → length out < c → Says (wrong 18 c) (length out) out' r → Finishes t marks out c out' r
+  pub finish_short : {r : Result Ordered Fault} → length out < c → Says (wrong 18 c) (length out) out' r → Finishes t marks out c out' r
   finish_short {r} h s = record {
     says = λ g free.
         let e = given_all g free in
         rw (no_circle (length out) t free, ← e, lt-ltb (length out) c h) s;
   }
 
-  pub finish_fits : {u : ℕ} → c ≤ length out → CountsUndefined t u → Wiped c out out' → Finishes t marks out c out' (Ordered c u)
+  pub finish_fits : {u : ℕ} → c ≤ length out → CountsUndefined t u → Wiped c out out' → Finishes t marks out c out' (Ok (record { definitions = c; unnamed = u }))
   finish_fits {u} h v z = record {
     says = λ g free.
         let e = given_all g free in
@@ -71,20 +70,19 @@ pub ruleset finishing = (finish_short, finish_fits, rules)
 
 -- ---- a circle, or none
 
-module _ {t : List Row} {marks out out' : List ℕ} {c m : ℕ} {r : Order} (g : GivenOut t marks out c) (k : CountsDefinitions t m) where
-  pub conclude_circle : {n p : ℕ} → c < m → CircleFound t n p → Says (wrong 28 p) (length out) out' r → OrdersSound t (length out) out' r
-  conclude_circle {n} {p} h f s =
-      let q = (stops t).0 (omega (arith, h, given_count g, k.is)) in
-      below p n
-      (λ l. record { says = rw ((at_circle (length out) t p).1 (f.some l)) s })
-      (λ l. absurd (f.none l q.0 q.1))
+module _ {t : List Row} {marks out out' : List ℕ} {c m : ℕ} {r : Result Ordered Fault} (g : GivenOut t marks out c) (k : CountsDefinitions t m) where
+  pub conclude_circle : {a : Maybe ℕ} {p : ℕ} → CircleFound t a → a ≡ Some p → Says (wrong 28 p) (length out) out' r → OrdersSound t (length out) out' r
+  conclude_circle {p = p} f e s = record { says = rw ((at_circle (length out) t p).1 (f.some p e)) s }
+
+  pub conclude_none : {a : Maybe ℕ} → CircleFound t a → a ≡ None → Finishes t marks out c out' r → OrdersSound t (length out) out' r
+  conclude_none f e h = record { says = h.says g (f.none e) }
 
   pub conclude_free : m ≤ c → Finishes t marks out c out' r → OrdersSound t (length out) out' r
   conclude_free h f = record { says = f.says g (λ i q. omega (arith, h, given_count g, k.is, (stops t).1 (i, q))) }
 
-pub ruleset concluding = (given_clear, conclude_circle, conclude_free, rules)
+pub ruleset concluding = (given_clear, conclude_circle, conclude_none, conclude_free, rules)
 
-pub as_long : {t : List Row} {room c : ℕ} {marks out out₁ : List ℕ} {r : Order} → GivenOut t marks out₁ c → OrdersSound t (length out₁) out r → length out₁ ≡ room → OrdersSound t room out r
+pub as_long : {t : List Row} {room c : ℕ} {marks out out₁ : List ℕ} {r : Result Ordered Fault} → GivenOut t marks out₁ c → OrdersSound t (length out₁) out r → length out₁ ≡ room → OrdersSound t room out r
 as_long g s e = rw e at s
 
 pub given_long : {t : List Row} {ws marks out : List ℕ} {n c : ℕ} → GivenOut t marks out c → Held ws n → n ≤ length marks
@@ -94,7 +92,7 @@ pub ruleset sounds = (as_long, given_long, rules)
 
 -- ---- any table
 
-module _ {d x ws out : List ℕ} {n room : ℕ} {r : Order} where
+module _ {d x ws out : List ℕ} {n room : ℕ} {r : Result Ordered Fault} where
   pub long_document : 1048576 < length d → Says (wrong 2 1048576) room out r → Answers d x ws n room out r
   unfolding ordering
   long_document h s = record { says = rw (lt-ltb 1048576 (length d) h) s }
@@ -104,24 +102,24 @@ module _ {d x ws out : List ℕ} {n room : ℕ} {r : Order} where
     unfolding ordering
     long_text k s = record { says = rw (le-ltb 1048576 (length d) h, lt-ltb 1048576 (length x) k) s }
 
-    module _ (k : length x ≤ 1048576) {z : Soundness} (g : Judges d x ws n z) where
-      pub not_sound : {p : ℕ} → z ≡ Soundness.Unsound p → Says (wrong 19 p) room out r → Answers d x ws n room out r
+    module _ (k : length x ≤ 1048576) {z : Result (Unit {0}) ℕ} (g : Judges d x ws n z) where
+      pub not_sound : {p : ℕ} → z ≡ Err p → Says (wrong 19 p) room out r → Answers d x ws n room out r
       unfolding ordering
       not_sound e s = record { says = rw (le-ltb 1048576 (length d) h, le-ltb 1048576 (length x) k, judged_unsound g e) s }
 
-      pub is_sound : z ≡ Soundness.Sound → OrdersSound (rows_shown d x ws n) room out r → Answers d x ws n room out r
+      pub is_sound : {u : Unit {0}} → z ≡ Ok u → OrdersSound (rows_shown d x ws n) room out r → Answers d x ws n room out r
       is_sound e s =
           let q : Sound d x ws n = record { short = h; brief = k; sound = judged_sound g e } in
           record { says = rw (sound_ordering d x ws n room q) s.says }
 
-pub admits : {d x ws : List ℕ} {n : ℕ} {z : Soundness} → Judges d x ws n z → z ≡ Soundness.Sound → Held ws n
+pub admits : {u : Unit {0}} → {d x ws : List ℕ} {n : ℕ} {z : Result (Unit {0}) ℕ} → Judges d x ws n z → z ≡ Ok u → Held ws n
 admits {d} {x} {ws} {n} g e = record { few = sound_claimed d x ws n (judged_sound g e); held = sound_held d x ws n (judged_sound g e) }
 
 pub ruleset entry = (long_document, long_text, not_sound, is_sound, admits, rules)
 
 -- ---- the entry
 
-pub orders_all : {d x ws out work used work' : List ℕ} {n room : ℕ} {r : Order} → Answers d x ws n room out r → Wiped 0 used work' → length used ≡ length work → Orders d x ws n room work out work' r
+pub orders_all : {d x ws out work used work' : List ℕ} {n room : ℕ} {r : Result Ordered Fault} → Answers d x ws n room out r → Wiped 0 used work' → length used ≡ length work → Orders d x ws n room work out work' r
 orders_all {used = used} a z e = record { says = a.says; idle = z.is ∙ clear_all used ∙ ap (λ (k : ℕ). replicate k 0) e }
 
 pub ruleset whole = (orders_all, rules)

@@ -3,27 +3,27 @@
 use Prim.Native.Nat.{ℕ, zero, suc, ◌+◌, ◌-◌, ◌≤◌, ◌<◌}
 use mathlib.Core.Path.{◌≡◌, refl, sym, ap, ◌∙◌}
 use mathlib.Core.List.{List, [], ◌∷◌, ◌++◌}
-use mathlib.Core.Option.{Option, none, some}
+use mathlib.Core.Option.{Option, some}
 use mathlib.Core.Bool.{Bool, true, false, not}
 use borrow.Author.Rules.{rules}
-use borrow.Author.Tests.{ne_eqb, eqb-true, eqb-false, ltb-true, lt-leb, le-leb, not-true, not-false}
+use borrow.Author.Tests.{ne_eqb, eqb-true, eqb-false, ltb-true, not-true, not-false}
 use native.Mathlib.Omega.{arith}
 use lib.Dec.{eqb, ltb}
 use lib.ListN.{drop, get_or}
+use Rattle.std.specs.Prelude.{Option as Maybe, None, Some}
 use Rattle.slices.specs.Bytes.{if}
 use Rattle.utf8.proofs.Sequences.{below}
 use Rattle.document.specs.Kinds as kinds
 use Rattle.document.specs.Elements.{among}
-use Rattle.tables.specs.declared.Triple.{Triple}
-use Rattle.items.specs.Words.{Word, TripleIs, absent, rows_shown}
+use Rattle.items.specs.Words.{Word, rows_shown}
 use Rattle.items.specs.Content.{Row}
 use Rattle.items.proofs.Words.{word_in}
 use Rattle.order.specs.Relation.{Chain, one}
-use Rattle.order.specs.Types.{definitions, member_in, uses, is_undefined}
+use Rattle.order.specs.Types.{definitions, member_in, uses}
 use Rattle.order.specs.Lookup.{listed, referred_by, targets_in, targets}
-use Rattle.order.specs.Steps.{shown_at, Defines, MemberIn, target, Target, IsUndefined}
-use Rattle.order.specs.Certificate.{Wide, Got, member_of, MemberOf, Falls, EdgeFalls, Late, Tells, RowFalls, Members, Follows, IsCircle, run_of, RunIs, Runs, Above, IsNoted, Placed, IsNext, PlacedBefore, IsAscending, Stands, IsPlaced, ArePlaced, IsOrder}
-use Rattle.order.proofs.Lists.{clash, or_else, first_true, second_true, both}
+use Rattle.order.specs.Steps.{Held, Adds, shown_at, Defines, MemberIn, target, Target, IsUndefined}
+use Rattle.order.specs.Certificate.{Wide, Got, member_of, MemberOf, Falls, EdgeFalls, Late, RowFalls, Members, Follows, IsCircle, run_of, RunIs, Runs, Above, IsNoted, Placed, IsNext, PlacedBefore, IsAscending, Stands, IsPlaced, ArePlaced, IsOrder}
+use Rattle.order.proofs.Lists.{clash, apart, or_else, first_true, second_true, both}
 use Rattle.order.proofs.Circles.{chained}
 use Rattle.order.proofs.Lookups.{among_append, listed_is, is_listed, uses_targets}
 use Rattle.order.proofs.Finding.{shown_at_lem, shown_past}
@@ -123,33 +123,17 @@ module _ {work : List ℕ} {n p i e j : ℕ} where
 
 pub ruleset edges = (edge_never, edge_none, edge_circle, edge_past, edge_other, edge_noted, rules)
 
--- the tp type of a member bears a name of some row, or of none
-module _ {d x ws : List ℕ} {n m : ℕ} where
-  told_few : {r : ℕ} → Tells d x ws n m r → r ≤ 2
-  told_few {r} k = go (is_undefined (rows_shown d x ws n) (shown_at d x ws m)) k.is
-    where
-      go : (b : Bool) → r ≡ 1 + if b 1 0 → r ≤ 2
-      go true e = omega arith
-      go false e = omega arith
-
-  pub told_found : IsUndefined d x ws n m false → Tells d x ws n m 1
-  told_found k = record { is = rw (sym k.is) }
-
-  pub told_undefined : IsUndefined d x ws n m true → Tells d x ws n m 2
-  told_undefined k = record { is = rw (sym k.is) }
-
 module _ {d x ws work : List ℕ} {n p m : ℕ} where
-  pub row_never : RowFalls d x ws n work p m 0
-  row_never = record { falls = λ z. absurd (omega arith); noted = λ z. absurd (omega arith); count = λ z. absurd (omega arith); few = omega arith }
+  pub row_never : RowFalls d x ws n work p m None
+  row_never = record { falls = λ b e. apart e; noted = λ b e. apart e; unnamed = λ b e. apart e }
 
-  pub row_other : {k : ℕ} → Word ws m 0 k → (k ≡ kinds.member → ⊥) → RowFalls d x ws n work p m 1
+  pub row_other : {k : ℕ} → Word ws m 0 k → (k ≡ kinds.member → ⊥) → RowFalls d x ws n work p m (Some false)
   row_other {k} w h =
       let o : eqb (shown_at d x ws m).kind kinds.member ≡ false = rw (← word_in w) (ne_eqb k kinds.member h) in
       record {
-        falls = λ z i j a. clash a (rw o);
-        noted = λ z y i a. clash a (rw o);
-        count = λ z. rw o;
-        few = omega arith;
+        falls = λ b e i j a. clash a (rw o);
+        noted = λ b e y i a. clash a (rw o);
+        unnamed = λ b e. let z : false ≡ b = cc in sym z ∙ rw o;
       }
 
   module _ {q u e f : ℕ} {b c : Bool} (w : Word ws m 1 q) (v : Wide q u) (l : m < n) (s : Target d x ws n false m e) (t : Target d x ws n true m f) (y : EdgeFalls n work p (u - 1) (m + m + 1) e b) (yb : not b ≡ false) (z : EdgeFalls n work p (u - 1) (m + m + 2) f c) (zc : not c ≡ false) where
@@ -187,15 +171,8 @@ module _ {d x ws work : List ℕ} {n p m : ℕ} where
         let n = x q in
         late i f true a (t.finds.some n.0) n.1)
 
-    pub row_told : {r : ℕ} → Tells d x ws n m r → RowFalls d x ws n work p m r
-    row_told k = record { falls = λ z. row_falls; noted = λ z. row_noted; count = λ z. k.is; few = told_few k }
-
-module _ {d x ws : List ℕ} {n m k r s : ℕ} {b : Bool} {p : Triple} (a : Word ws m 0 k) (e : k ≡ kinds.member) (t : TripleIs ws m 8 p) (f : b ≡ absent p) (q : b ≡ false) (w : Target d x ws n false m r) (l : n ≤ r) (v : Target d x ws n true m s) where
-  pub less_found : s < n → IsUndefined d x ws n m false
-  less_found o = record { is = sym (lt-leb n s o) ∙ (undefined_less a e t f q w l v).is }
-
-  pub less_none : n ≤ s → IsUndefined d x ws n m true
-  less_none o = record { is = sym (le-leb n s o) ∙ (undefined_less a e t f q w l v).is }
+    pub row_told : {r : Bool} → IsUndefined d x ws n m r → RowFalls d x ws n work p m (Some r)
+    row_told {r} k = record { falls = λ b e. row_falls; noted = λ b e. row_noted; unnamed = λ b e. let z : r ≡ b = cc in sym z ∙ k.is }
 
 pub up_below : {u n : ℕ} → (u ≡ 0 → ⊥) → u ≤ n → u - 1 < n
 up_below h l = omega arith
@@ -205,7 +182,7 @@ target_within f = f.finds.within
 
 pub ruleset row_falling = (row_never, row_other, row_told, up_below, target_within, row_held, held_few, rules)
 
-pub ruleset tellings = (told_found, told_undefined, undefined_other, undefined_absent, undefined_whole, less_found, less_none, rules)
+pub ruleset tellings = (undefined_other, undefined_absent, undefined_whole, undefined_less, rules)
 
 pub record Fallen (d x ws : List ℕ) (n : ℕ) (work : List ℕ) (p k c : ℕ) : Type 0 where
   pub falls : (m : ℕ) → m < k → (i j : ℕ) → member_in i (shown_at d x ws m) ≡ true → among j (referred_by (rows_shown d x ws n) (shown_at d x ws m).tp) ≡ true → Falls n work p i j
@@ -215,31 +192,28 @@ pub record Fallen (d x ws : List ℕ) (n : ℕ) (work : List ℕ) (p k c : ℕ) 
 pub fallen_begins : {d x ws work : List ℕ} {n p : ℕ} → Fallen d x ws n work p 0 0
 fallen_begins = record { falls = λ m l. absurd (omega arith); noted = λ h m l. absurd (omega arith); counted = missing_begins }
 
-pub fallen_never : {d x ws work : List ℕ} {n p : ℕ} → Members d x ws n work p (n + 1)
-fallen_never = record { falls = λ l. absurd (omega arith); noted = λ l. absurd (omega arith); count = λ l. absurd (omega arith) }
+pub fallen_never : {d x ws work : List ℕ} {n p : ℕ} → Members d x ws n work p None
+fallen_never = record { falls = λ u e. apart e; noted = λ u e. apart e; count = λ u e. apart e }
 
 module _ {d x ws work : List ℕ} {n p k c : ℕ} (g : Fallen d x ws n work p k c) where
-  pub fallen_ends : n ≤ k → Members d x ws n work p c
+  pub fallen_ends : n ≤ k → Members d x ws n work p (Some c)
   fallen_ends h = record {
-    falls = λ l i j u. used_by d x ws n i j u (λ m o. g.falls m (omega arith) i j);
-    noted = λ l q i o a e. g.noted q (member_of (get_or work (n + n + i) 0)) (omega arith) i a e refl;
-    count = λ l. (missing_ends g.counted h).is;
+    falls = λ v l i j u. used_by d x ws n i j u (λ m o. g.falls m (omega arith) i j);
+    noted = λ v l q i o a e. g.noted q (member_of (get_or work (n + n + i) 0)) (omega arith) i a e refl;
+    count = λ v l. let z : c ≡ v = cc in sym z ∙ (missing_ends g.counted h).is;
   }
 
-  pub fallen_more : {r : ℕ} → k < n → RowFalls d x ws n work p k r → (r ≡ 0 → ⊥) → Fallen d x ws n work p (k + 1) (c + r - 1)
-  fallen_more {r} l f h =
-      let z : 0 < r = omega arith in
-      let y : c + r - 1 ≡ c + if (is_undefined (rows_shown d x ws n) (shown_at d x ws k)) 1 0 = omega (arith, f.count z) in
-      record {
-        falls = λ m o. below m k (g.falls m) (λ q. let e : k ≡ m = omega arith in rw e at (f.falls z));
-        noted = λ q m o. below m k (g.noted q m) (λ w. let e : k ≡ m = omega arith in rw e at (f.noted z q));
-        counted = missing_more g.counted l record { is = refl } record { is = y };
-      }
+  pub fallen_more : {r : Maybe Bool} {b : Bool} {c' : ℕ} → k < n → RowFalls d x ws n work p k r → r ≡ Some b → Adds c b c' → Fallen d x ws n work p (k + 1) c'
+  fallen_more {r} {b} l f h a = record {
+    falls = λ m o. below m k (g.falls m) (λ q. let e : k ≡ m = omega arith in rw e at (f.falls b h));
+    noted = λ q m o. below m k (g.noted q m) (λ w. let e : k ≡ m = omega arith in rw e at (f.noted b h q));
+    counted = missing_more g.counted l record { is = f.unnamed b h } a;
+  }
 
-pub fallen_few : {d x ws work : List ℕ} {n p k c : ℕ} → Fallen d x ws n work p k c → c ≤ k
-fallen_few g = g.counted.most
+  pub fallen_some : Held ws n → k < n → c ≤ 262144
+  fallen_some h l = omega (arith, g.counted.most, h.few)
 
-pub ruleset fallings = (fallen_begins, fallen_never, fallen_ends, fallen_more, fallen_few, row_held, rules)
+pub ruleset fallings = (fallen_begins, fallen_never, fallen_ends, fallen_more, fallen_some, row_held, rules)
 
 -- ---- a circle
 

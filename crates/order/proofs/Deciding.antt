@@ -3,9 +3,9 @@
 use Prim.Native.Nat.{ℕ, ◌≤◌, ◌<◌}
 use mathlib.Core.Path.{◌≡◌, refl, sym}
 use mathlib.Core.List.{List}
-use mathlib.Core.Bool.{Bool, true, false, not}
+use mathlib.Core.Bool.{Bool, true, false}
 use borrow.Author.Rules.{rules}
-use borrow.Author.Tests.{lt-ltb, not-false}
+use borrow.Author.Tests.{lt-ltb}
 use native.Mathlib.Omega.{arith}
 use lib.ListN.{length, get_or, take, length-take, replicate}
 use lib.Seq.{get_or-take}
@@ -15,10 +15,11 @@ use Rattle.items.specs.Content.{Row}
 use Rattle.order.specs.Relation.{order, Chain}
 use Rattle.order.specs.Types.{definitions, uses}
 use Rattle.order.specs.Ordering.{wrong, Says}
-use Rattle.order.specs.declared.Order.{Order}
-use Rattle.order.specs.declared.Order.TheVariants.{Ordered}
+use Rattle.std.specs.Prelude.{Result, Ok, Option, None, Some}
+use Rattle.faults.specs.declared.Fault.{Fault}
+use Rattle.order.specs.declared.Ordered.{Ordered}
 use Rattle.order.specs.Steps.{GivenOut, CountsUndefined, CountsDefinitions, OrdersSound}
-use Rattle.order.specs.Certificate.{number, run_of, Late, Members, IsCircle, IsFirst, IsNoted, IsOrder, IsCertain}
+use Rattle.order.specs.Certificate.{number, run_of, Late, Members, IsCircle, IsFirst, IsNoted, IsOrder, Certain, IsCertain}
 use Rattle.utf8.proofs.Sequences.{below}
 use Rattle.order.proofs.Lists.{clash}
 use Rattle.order.proofs.Keeping.{run_some}
@@ -36,20 +37,24 @@ pub first_never : {t : List Row} {p : ℕ} → IsFirst t p false
 first_never = record { is = λ e. clash e refl }
 
 -- a row on a circle is p or greater
-past : {d x ws work : List ℕ} {n p r : ℕ} → Members d x ws n work p r → r ≤ n → (q : ℕ) → Chain (uses (rows_shown d x ws n)) q q → p ≤ q
-past {d} {x} {ws} {work} {n} {p} m e = circle_past (uses (rows_shown d x ws n)) (number n work) p (λ i j u. (m.falls e i j u).most) (λ i j u. (m.falls e i j u).less)
+past : {d x ws work : List ℕ} {n p u : ℕ} {r : Option ℕ} → Members d x ws n work p r → r ≡ Some u → (q : ℕ) → Chain (uses (rows_shown d x ws n)) q q → p ≤ q
+past {d} {x} {ws} {work} {n} {p} {u} m e = circle_past (uses (rows_shown d x ws n)) (number n work) p (λ i j v. (m.falls u e i j v).most) (λ i j v. (m.falls u e i j v).less)
 
-pub first-is : {d x ws work : List ℕ} {n p r : ℕ} {c : Bool} → Members d x ws n work p r → r ≤ n → IsCircle (rows_shown d x ws n) p c → IsFirst (rows_shown d x ws n) p c
+pub first-is : {d x ws work : List ℕ} {n p u : ℕ} {r : Option ℕ} {c : Bool} → Members d x ws n work p r → r ≡ Some u → IsCircle (rows_shown d x ws n) p c → IsFirst (rows_shown d x ws n) p c
 first-is m h f = record { is = λ e. record { circle = f.is e; first = past m h } }
 
 pub ruleset firsts = (first_never, first-is, rules)
 
 -- ---- an order, or no room for it
 
-pub certain_never : {t : List Row} {out : List ℕ} {count u : ℕ} → IsCertain t out count u false
-certain_never = record { is = λ e. clash e refl }
+pub certain_never : {t : List Row} {out : List ℕ} {count : ℕ} → IsCertain t out count None
+certain_never = record { is = λ u e. let z : ◌≡◌ {A = ℕ} 0 1 = cc in absurd (omega arith) }
 
-module _ {d x ws work : List ℕ} {n u : ℕ} (m : Members d x ws n work n u) (h : u ≤ n) where
+-- a number that is sure
+certain : {t : List Row} {out : List ℕ} {count u : ℕ} → Certain t out count u → IsCertain t out count (Some u)
+certain {t} {out} {count} {u} f = record { is = λ v e. let z : u ≡ v = cc in rw z at f }
+
+module _ {d x ws work : List ℕ} {n u : ℕ} {r : Option ℕ} (m : Members d x ws n work n r) (h : r ≡ Some u) where
   uncircled : (i : ℕ) → Chain (uses (rows_shown d x ws n)) i i → ⊥
   uncircled i f =
       omega (arith, past m h i f, defined_below d x ws n i (chain_listed (uses (rows_shown d x ws n)) (definitions (rows_shown d x ws n)) (used_listed (rows_shown d x ws n)) f))
@@ -63,14 +68,14 @@ module _ {d x ws work : List ℕ} {n u : ℕ} (m : Members d x ws n work n u) (h
         ready : (r : ℕ) → IsNoted d x ws n work r (run_of n work r) true → Late (rows_shown d x ws n) n work r
         ready r q i f =
             below 0 (run_of n work r)
-            (λ l. m.noted h (omega arith) r (q.within refl l) (q.member refl l) (run_some work n r l) i f)
+            (λ l. m.noted u h (omega arith) r (q.within refl l) (q.member refl l) (run_some work n r l) i f)
             (λ l. omega arith)
 
     order_taken : order (uses (rows_shown d x ws n)) (definitions (rows_shown d x ws n)) ≡ take count out
     order_taken =
         places_order (uses (rows_shown d x ws n)) (definitions (rows_shown d x ws n)) (used_listed (rows_shown d x ws n))
         (number n work) (λ k. run_of n work (get_or out k 0)) out count l
-        (λ i j a u. (m.falls h i j u).less (defined_below d x ws n i a))
+        (λ i j a v. (m.falls u h i j v).less (defined_below d x ws n i a))
         certified
         (λ r a. let s = o.stands e r a in (s.below, s.is))
         (definitions_ascend (rows_shown d x ws n))
@@ -83,33 +88,33 @@ module _ {d x ws work : List ℕ} {n u : ℕ} (m : Members d x ws n work n u) (h
           holds = λ k g q. sym (get_or-take count out k 0 (omega (arith, y)));
         }
 
-module _ {d x ws work out : List ℕ} {n count u : ℕ} (m : Members d x ws n work n u) (h : u ≤ n) where
-  pub certain_short : length out < count → IsCertain (rows_shown d x ws n) out count u true
-  certain_short l = record { is = λ e. record { free = uncircled m h; order = λ k. absurd (omega arith); undefined = m.count h } }
+module _ {d x ws work out : List ℕ} {n count u : ℕ} {r : Option ℕ} (m : Members d x ws n work n r) (h : r ≡ Some u) where
+  pub certain_short : length out < count → IsCertain (rows_shown d x ws n) out count (Some u)
+  certain_short l = certain record { free = uncircled m h; order = λ k. absurd (omega arith); undefined = m.count u h }
 
-  pub certain_order : {c : Bool} → count ≤ length out → IsOrder d x ws n work out count c → IsCertain (rows_shown d x ws n) out count u c
-  certain_order l o = record { is = λ e. record { free = uncircled m h; order = order_stands m h o e; undefined = m.count h } }
+  pub certain_order : {c : Bool} → count ≤ length out → IsOrder d x ws n work out count c → c ≡ true → IsCertain (rows_shown d x ws n) out count (Some u)
+  certain_order l o e = certain record { free = uncircled m h; order = order_stands m h o e; undefined = m.count u h }
 
 pub ruleset certainties = (certain_never, certain_short, certain_order, rules)
 
 -- ---- the answer
 
-module _ {t : List Row} {out out' : List ℕ} {c u : ℕ} {b : Bool} (k : CountsDefinitions t c) (f : IsCertain t out c u b) (e : not b ≡ false) where
-  pub finish_none : {r : Order} → length out < c → Says (wrong 18 c) (length out) out' r → OrdersSound t (length out) out' r
-  finish_none h s = record { says = rw (no_circle (length out) t (f.is (not-false b e)).free, ← k.is, lt-ltb (length out) c h) s }
+module _ {t : List Row} {out out' : List ℕ} {c u : ℕ} {a : Option ℕ} (k : CountsDefinitions t c) (f : IsCertain t out c a) (e : a ≡ Some u) where
+  pub finish_none : {r : Result Ordered Fault} → length out < c → Says (wrong 18 c) (length out) out' r → OrdersSound t (length out) out' r
+  finish_none h s = record { says = rw (no_circle (length out) t (f.is u e).free, ← k.is, lt-ltb (length out) c h) s }
 
-  pub finish_all : c ≤ length out → Wiped c out out' → OrdersSound t (length out) out' (Ordered c u)
+  pub finish_all : c ≤ length out → Wiped c out out' → OrdersSound t (length out) out' (Ok (record { definitions = c; unnamed = u }))
   finish_all h z =
-      let v : CountsUndefined t u = record { is = (f.is (not-false b e)).undefined } in
-      let g : GivenOut t (replicate 262144 0) out c = record { stands = (f.is (not-false b e)).order h; marked = λ i q. absurd (q (blank_zeros.zeros i)); long = blank_zeros.long } in
-      record { says = (finish_fits h v z).says g (f.is (not-false b e)).free }
+      let v : CountsUndefined t u = record { is = (f.is u e).undefined } in
+      let g : GivenOut t (replicate 262144 0) out c = record { stands = (f.is u e).order h; marked = λ i q. absurd (q (blank_zeros.zeros i)); long = blank_zeros.long } in
+      record { says = (finish_fits h v z).says g (f.is u e).free }
 
 pub ruleset certain_finish = (finish_none, finish_all, rules)
 
-pub circled_answer : {t : List Row} {out : List ℕ} {p room : ℕ} {b : Bool} {r : Order} → IsFirst t p b → b ≡ true → Says (wrong 28 p) room out r → OrdersSound t room out r
+pub circled_answer : {t : List Row} {out : List ℕ} {p room : ℕ} {b : Bool} {r : Result Ordered Fault} → IsFirst t p b → b ≡ true → Says (wrong 28 p) room out r → OrdersSound t room out r
 circled_answer {t} {p = p} {room = room} f e s = record { says = rw ((at_circle room t p).1 (f.is e)) s }
 
-pub kept_room : {t : List Row} {room room' : ℕ} {out : List ℕ} {r : Order} → OrdersSound t room' out r → room' ≡ room → OrdersSound t room out r
+pub kept_room : {t : List Row} {room room' : ℕ} {out : List ℕ} {r : Result Ordered Fault} → OrdersSound t room' out r → room' ≡ room → OrdersSound t room out r
 kept_room s e = rw e at s
 
 pub ruleset decides = (circled_answer, kept_room, rules)

@@ -10,6 +10,7 @@ use native.Mathlib.Omega.{arith}
 use lib.Dec.{eqb}
 use lib.ListN.{length, get_or, set, length-set}
 use lib.Seq.{get_or-set_same, get_or-set_other}
+use Rattle.std.specs.Prelude.{Option as Maybe, None, Some}
 use Rattle.slices.specs.Bytes.{if}
 use Rattle.tables.specs.Table.{Rep, Put}
 use Rattle.tables.proofs.Tables.{empty_stands, one_room, one_full}
@@ -58,58 +59,55 @@ module _ (t : List Row) (marks : List ℕ) where
 
 -- ---- the loop: xs are given out, and the rest of the order is taken from the rows left
 
-pub record Giving (d x ws : List ℕ) (n room : ℕ) (marks out : List ℕ) (c i : ℕ) : Type 0 where
+pub record Giving (d x ws : List ℕ) (n room : ℕ) (marks out : List ℕ) (c : ℕ) : Type 0 where
   pub xs : List ℕ
   pub stands : Rep 1 out c xs
   pub is : order (uses (rows_shown d x ws n)) (definitions (rows_shown d x ws n)) ≡ xs ++ taken_from (uses (rows_shown d x ws n)) (length (left_in (rows_shown d x ws n) marks)) (left_in (rows_shown d x ws n) marks)
   pub count : c + length (left_in (rows_shown d x ws n) marks) ≡ length (definitions (rows_shown d x ws n))
   pub marked : (k : ℕ) → (get_or marks k 0 ≡ 0 → ⊥) → among k xs ≡ true
-  pub next : NextReady (rows_shown d x ws n) n marks i
   pub long : length marks ≡ 262144
   pub same : length out ≡ room
 
-pub giving_begins : {d x ws : List ℕ} {n : ℕ} {marks out : List ℕ} {i : ℕ} → Blank marks → NextReady (rows_shown d x ws n) n marks i → Giving d x ws n (length out) marks out 0 i
+pub giving_begins : {d x ws : List ℕ} {n : ℕ} {marks out : List ℕ} → Blank marks → Giving d x ws n (length out) marks out 0
 unfolding order
-giving_begins {d} {x} {ws} {n} {marks} {out} b r = record {
+giving_begins {d} {x} {ws} {n} {marks} {out} b = record {
   xs = [];
   stands = empty_stands 1 out;
   is = rw (left_all (rows_shown d x ws n) marks b.zeros);
   count = omega (arith, ap length (left_all (rows_shown d x ws n) marks b.zeros));
   marked = λ k f. absurd (f (b.zeros k));
-  next = r;
   long = b.long;
   same = refl;
 }
 
-module _ {d x ws : List ℕ} {n room : ℕ} {marks out : List ℕ} {c i : ℕ} (g : Giving d x ws n room marks out c i) where
-  pub giving_ends : n ≤ i → GivenOut (rows_shown d x ws n) marks out c
-  giving_ends h =
+module _ {d x ws : List ℕ} {n room : ℕ} {marks out : List ℕ} {c : ℕ} (g : Giving d x ws n room marks out c) where
+  pub giving_ends : {r : Maybe ℕ} → NextReady (rows_shown d x ws n) n marks r → r ≡ None → GivenOut (rows_shown d x ws n) marks out c
+  giving_ends q h =
       let e : order (uses (rows_shown d x ws n)) (definitions (rows_shown d x ws n)) ≡ g.xs =
       g.is
-      ∙ ap (λ (r : List ℕ). g.xs ++ r) (taken_stop (uses (rows_shown d x ws n)) (length (left_in (rows_shown d x ws n) marks)) (left_in (rows_shown d x ws n) marks) (g.next.none h))
+      ∙ ap (λ (r : List ℕ). g.xs ++ r) (taken_stop (uses (rows_shown d x ws n)) (length (left_in (rows_shown d x ws n) marks)) (left_in (rows_shown d x ws n) marks) (q.none h))
       ∙ append-nil g.xs in
       record { stands = rw e g.stands; marked = λ k f. rw e (g.marked k f); long = g.long }
 
-  module _ (l : i < n) where
+  module _ {i : ℕ} {r : Maybe ℕ} (q : NextReady (rows_shown d x ws n) n marks r) (l : r ≡ Some i) where
     one_less : suc (length (without i (left_in (rows_shown d x ws n) marks))) ≡ length (left_in (rows_shown d x ws n) marks)
-    one_less = without_count i (left_in (rows_shown d x ws n) marks) (left_ascends (rows_shown d x ws n) marks) (g.next.some l).listed
+    one_less = without_count i (left_in (rows_shown d x ws n) marks) (left_ascends (rows_shown d x ws n) marks) (q.some i l).listed
 
     falls : i < length marks → length (left_in (rows_shown d x ws n) (set marks i 1)) < length (left_in (rows_shown d x ws n) marks)
     falls h = omega (arith, one_less, ap length (left_marked (rows_shown d x ws n) marks i h))
 
-    gives : {out' : List ℕ} {r j : ℕ} → i < length marks → Put 1 (i ∷ []) c out out' r → NextReady (rows_shown d x ws n) n (set marks i 1) j → length out' ≡ length out → Giving d x ws n room (set marks i 1) out' r j
-    gives {out'} {r} {j} h p q o = record {
+    gives : {out' : List ℕ} {c' : ℕ} → i < length marks → Put 1 (i ∷ []) c out out' c' → length out' ≡ length out → Giving d x ws n room (set marks i 1) out' c'
+    gives {out'} {c'} h p o = record {
       xs = g.xs ++ (i ∷ []);
       stands = p.stands g.xs g.stands;
       is =
           g.is
           ∙ ap (λ (m : ℕ). g.xs ++ taken_from (uses (rows_shown d x ws n)) m (left_in (rows_shown d x ws n) marks)) (sym one_less)
-          ∙ ap (λ (r : List ℕ). g.xs ++ r) (taken_next (uses (rows_shown d x ws n)) (length (without i (left_in (rows_shown d x ws n) marks))) (left_in (rows_shown d x ws n) marks) (left_ascends (rows_shown d x ws n) marks) i (g.next.some l))
+          ∙ ap (λ (r : List ℕ). g.xs ++ r) (taken_next (uses (rows_shown d x ws n)) (length (without i (left_in (rows_shown d x ws n) marks))) (left_in (rows_shown d x ws n) marks) (left_ascends (rows_shown d x ws n) marks) i (q.some i l))
           ∙ sym (append_assoc g.xs (i ∷ []) (taken_from (uses (rows_shown d x ws n)) (length (without i (left_in (rows_shown d x ws n) marks))) (without i (left_in (rows_shown d x ws n) marks))))
           ∙ ap (λ (r : List ℕ). (g.xs ++ (i ∷ [])) ++ taken_from (uses (rows_shown d x ws n)) (length r) r) (sym (left_marked (rows_shown d x ws n) marks i h));
       count = omega (arith, p.counts, g.count, one_less, ap length (left_marked (rows_shown d x ws n) marks i h));
       marked = λ k f. rw (among_append k g.xs (i ∷ [])) (go k (eqb k i) refl f);
-      next = q;
       long = length-set marks i 1 ∙ g.long;
       same = o ∙ g.same;
     }
@@ -123,22 +121,25 @@ module _ {d x ws : List ℕ} {n room : ℕ} {marks out : List ℕ} {c i : ℕ} (
         go k false b f = rw (g.marked k (λ e. f (get_or-set_other marks i k 1 0 (eqb-false k i b) ∙ e)))
 
     -- what the loop asks for
+    pub giving_row : Held ws n → i ≤ 262144
+    giving_row h = omega (arith, q.within i l, h.few)
+
     module _ (h : Held ws n) where
       pub giving_count : c ≤ 262144
       giving_count = omega (arith, g.count, definitions_few d x ws n, h.few)
 
       pub giving_place : i < length marks
-      giving_place = omega (arith, g.long, h.few)
+      giving_place = omega (arith, q.within i l, g.long, h.few)
 
       module _ {marks' : List ℕ} (m : Marks i marks marks') where
-        pub giving_kept : n ≤ length marks'
-        giving_kept = rw (m.is, length-set) (omega (arith, g.long, h.few))
-
         pub giving_falls : length (left_in (rows_shown d x ws n) marks') < length (left_in (rows_shown d x ws n) marks)
         giving_falls = rw m.is (falls giving_place)
 
-        pub giving_more : {out' : List ℕ} {r j : ℕ} → NextReady (rows_shown d x ws n) n marks' j → Put 1 (i ∷ []) c out out' r → length out' ≡ length out → Giving d x ws n room marks' out' r j
-        giving_more q p o = rw m.is (gives giving_place p (rw m.is at q) o)
+        pub giving_more : {out' : List ℕ} {c' : ℕ} → Put 1 (i ∷ []) c out out' c' → length out' ≡ length out → Giving d x ws n room marks' out' c'
+        giving_more p o = rw m.is (gives giving_place p o)
+
+pub giving_room : {d x ws marks out : List ℕ} {n room c : ℕ} → Giving d x ws n room marks out c → Held ws n → n ≤ length marks
+giving_room g h = omega (arith, g.long, h.few)
 
 pub marks_one : {i : ℕ} {marks : List ℕ} → Marks i marks (set marks i 1)
 marks_one = record { is = refl }
@@ -146,6 +147,6 @@ marks_one = record { is = refl }
 pub blank_long : {ws marks : List ℕ} {n : ℕ} → Blank marks → Held ws n → n ≤ length marks
 blank_long b h = omega (arith, b.long, h.few)
 
-pub ruleset giving = (giving_begins, giving_ends, giving_falls, giving_more, giving_count, giving_place, giving_kept, blank_long, rules)
+pub ruleset giving = (giving_begins, giving_ends, giving_falls, giving_more, giving_count, giving_place, giving_row, giving_room, blank_long, rules)
 
 pub ruleset puts = (one_room, one_full, marks_one, rules)

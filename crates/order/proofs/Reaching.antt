@@ -1,9 +1,9 @@
 -- Laws of the search for a circle: marks, what they say of chains, and the first row on one.
 -- Assumes nothing.
-use Prim.Native.Nat.{ℕ, zero, suc, ◌+◌, ◌-◌, ◌≤◌, ◌<◌}
+use Prim.Native.Nat.{ℕ, zero, suc, ◌+◌, ◌≤◌, ◌<◌}
 use mathlib.Core.Path.{◌≡◌, refl, sym, ◌∙◌}
 use mathlib.Core.List.{List, [], ◌∷◌, ◌++◌}
-use mathlib.Core.Option.{Option, none, some}
+use mathlib.Core.Option.{Option}
 use mathlib.Core.Bool.{Bool, true, false, not}
 use borrow.Author.Rules.{rules}
 use borrow.Author.Tests.{eq-eqb, ne_eqb, eqb-true, eqb-false, not-true}
@@ -12,16 +12,17 @@ use native.Mathlib.Omega.{arith}
 use lib.Dec.{eqb}
 use lib.ListN.{length, get_or, set, drop, replicate, length-replicate, length-set}
 use lib.Seq.{get_or-set_same, get_or-set_other}
+use Rattle.std.specs.Prelude.{Option as Maybe, None, Some}
 use Rattle.slices.specs.Bytes.{if}
 use Rattle.utf8.proofs.Sequences.{below}
 use Rattle.document.specs.Elements.{among}
 use Rattle.items.specs.Words.{rows_shown}
 use Rattle.items.specs.Content.{Row}
-use Rattle.order.specs.Relation.{Chain, one, more}
+use Rattle.order.specs.Relation.{Chain, one, more, FirstOnCircle}
 use Rattle.order.specs.Types.{member_in, definitions, uses}
 use Rattle.order.specs.Lookup.{listed, referred_by, targets_in, targets}
-use Rattle.order.specs.Steps.{Held, shown_at, Defines, MemberIn, Finds, Target, Blank, reached, todo, Marked, Reached, MemberReached, ReachedIn, TargetsReached, NextReached, OnCircle, Searching, SearchMoves, Clear, CircleFound}
-use Rattle.order.proofs.Lists.{clash, case}
+use Rattle.order.specs.Steps.{Held, shown_at, Defines, MemberIn, Finds, Target, Blank, reached, todo, Marked, Reached, MemberReached, ReachedIn, TargetsReached, NextReached, OnCircle, Searching, Clear, CircleFound}
+use Rattle.order.proofs.Lists.{clash, apart, same_some, case}
 use Rattle.order.proofs.Circles.{chain_listed}
 use Rattle.order.proofs.Tables.{used_listed}
 use Rattle.order.proofs.Lookups.{among_append, uses_targets}
@@ -154,11 +155,15 @@ pub scan_begins : {t : List ℕ} → Scanned t 0
 scan_begins = record { none = λ j h. absurd (omega arith) }
 
 module _ {t : List ℕ} {k : ℕ} (g : Scanned t k) where
-  pub scan_ends : {n : ℕ} → n ≤ k → NextReached t n n
-  scan_ends h = record { some = λ l. absurd (omega arith); none = λ l j m. g.none j (omega arith) }
+  pub scan_ends : {n : ℕ} → n ≤ k → NextReached t n None
+  scan_ends h = record { some = λ i e. apart e; within = λ i e. apart e; none = λ e j l m. g.none j (omega arith) m }
 
-  pub scan_found : {n : ℕ} → k < n → get_or t k 0 ≡ 1 → NextReached t n k
-  scan_found l e = record { some = λ h. e; none = λ h. absurd (omega arith) }
+  pub scan_found : {n : ℕ} → k < n → get_or t k 0 ≡ 1 → NextReached t n (Some k)
+  scan_found l f = record {
+    some = λ i e. rw (same_some e) at f;
+    within = λ i e. omega (arith, same_some e);
+    none = λ e. apart (sym e);
+  }
 
   pub scan_more : (get_or t k 0 ≡ 1 → ⊥) → Scanned t (k + 1)
   scan_more f = record { none = λ j h. below j k (λ l. g.none j l) (λ l. let z : j ≡ k = omega arith in rw z f) }
@@ -213,39 +218,38 @@ module _ {js t u : List ℕ} (p : Marked js t u) (k : ℕ) where
 
 -- ---- the search
 
-pub search_begins : {d x ws t u : List ℕ} {n p k : ℕ} → NextReached u n k → TargetsReached (rows_shown d x ws n) p t u → Blank t → length u ≡ length t → Searching d x ws n p u k
-search_begins {d} {x} {ws} {t} {u} {n} {p} q r b l = record {
+pub search_begins : {d x ws t u : List ℕ} {n p : ℕ} → TargetsReached (rows_shown d x ws n) p t u → Blank t → length u ≡ length t → Searching d x ws n p u
+search_begins {d} {x} {ws} {t} {u} {n} {p} r b l = record {
   sound = λ j f. marked_cases r.is j f (λ m. one (uses_targets (rows_shown d x ws n) p j ∙ m)) (λ g. absurd (g (b.zeros j)));
   from = λ j e. marked_new r.is j (sym (uses_targets (rows_shown d x ws n) p j) ∙ e);
   closed = λ i e. absurd (omega (arith, marked_two r.is i e, b.zeros i));
   small = λ i. marked_small r.is i (omega (arith, b.zeros i));
-  next = q;
   long = l ∙ b.long;
 }
 
-module _ {d x ws t : List ℕ} {n p k : ℕ} (g : Searching d x ws n p t k) where
+module _ {d x ws t : List ℕ} {n p : ℕ} (g : Searching d x ws n p t) where
   marked_below : (j : ℕ) → (get_or t j 0 ≡ 0 → ⊥) → j < n
   marked_below j f = defined_below d x ws n j (chain_listed (uses (rows_shown d x ws n)) (definitions (rows_shown d x ws n)) (used_listed (rows_shown d x ws n)) (g.sound j f))
 
   -- where no mark is 1, all that a chain leads to has a mark
-  chain_marked : n ≤ k → {i j : ℕ} → ((m : ℕ) → uses (rows_shown d x ws n) i m ≡ true → get_or t m 0 ≡ 0 → ⊥) → Chain (uses (rows_shown d x ws n)) i j → get_or t j 0 ≡ 0 → ⊥
+  chain_marked : ((j : ℕ) → j < n → get_or t j 0 ≡ 1 → ⊥) → {i j : ℕ} → ((m : ℕ) → uses (rows_shown d x ws n) i m ≡ true → get_or t m 0 ≡ 0 → ⊥) → Chain (uses (rows_shown d x ws n)) i j → get_or t j 0 ≡ 0 → ⊥
   chain_marked h f (one e) = f _ e
   chain_marked h f (more {j = m} e c) =
-      let two : get_or t m 0 ≡ 2 = omega (arith, g.small m, f m e, g.next.none h m (marked_below m (f m e))) in
+      let two : get_or t m 0 ≡ 2 = omega (arith, g.small m, f m e, h m (marked_below m (f m e))) in
       chain_marked h (g.closed m two) c
 
-  pub search_ends : n ≤ k → OnCircle (rows_shown d x ws n) p (not (eqb (get_or t p 0) 0))
-  search_ends h = record {
+  pub search_ends : {r : Maybe ℕ} → NextReached t n r → r ≡ None → OnCircle (rows_shown d x ws n) p (not (eqb (get_or t p 0) 0))
+  search_ends s q = record {
     is = λ e. g.sound p (λ z. clash e (rw (eq-eqb (get_or t p 0) 0 z)));
-    exact = λ c. rw (ne_eqb (get_or t p 0) 0 (chain_marked h g.from c));
+    exact = λ c. rw (ne_eqb (get_or t p 0) 0 (chain_marked (s.none q) g.from c));
   }
 
-  module _ (l : k < n) where
+  module _ {k : ℕ} (l : k < n) (o : get_or t k 0 ≡ 1) where
     search_falls : {u : List ℕ} → TargetsReached (rows_shown d x ws n) k (set t k 2) u → k < length t → todo u < todo t
-    search_falls r h = omega (arith, r.is.less, todo_set t k 2 h (omega (arith, g.next.some l)) (omega arith))
+    search_falls r h = omega (arith, r.is.less, todo_set t k 2 h (omega (arith, o)) (omega arith))
 
-    search_goes : {u : List ℕ} {j : ℕ} → NextReached u n j → TargetsReached (rows_shown d x ws n) k (set t k 2) u → k < length t → length u ≡ length (set t k 2) → Searching d x ws n p u j
-    search_goes {u} {j} q r h s = record {
+    search_goes : {u : List ℕ} → TargetsReached (rows_shown d x ws n) k (set t k 2) u → k < length t → length u ≡ length (set t k 2) → Searching d x ws n p u
+    search_goes {u} r h s = record {
       sound = λ i f. marked_cases r.is i f (λ m. chain_end here (uses_targets (rows_shown d x ws n) k i ∙ m)) (λ e. case (eqb i k)
           (λ b. rw (eqb-true i k b) here)
           (λ b. g.sound i (λ z. e (get_or-set_other t k i 2 0 (eqb-false i k b) ∙ z))));
@@ -256,12 +260,11 @@ module _ {d x ws t : List ℕ} {n p k : ℕ} (g : Searching d x ws n p t k) wher
       small = λ i. marked_small r.is i (case (eqb i k)
           (λ b. rw (eqb-true i k b) (omega (arith, get_or-set_same t k 2 0 h)))
           (λ b. omega (arith, get_or-set_other t k i 2 0 (eqb-false i k b), g.small i)));
-      next = q;
       long = s ∙ length-set t k 2 ∙ g.long;
     }
       where
         here : Chain (uses (rows_shown d x ws n)) p k
-        here = g.sound k (λ z. omega (arith, z, g.next.some l))
+        here = g.sound k (λ z. omega (arith, z, o))
 
         -- what had a mark has one
         kept : (i : ℕ) → (get_or t i 0 ≡ 0 → ⊥) → get_or u i 0 ≡ 0 → ⊥
@@ -269,34 +272,27 @@ module _ {d x ws t : List ℕ} {n p k : ℕ} (g : Searching d x ws n p t k) wher
             (λ b. omega (arith, get_or-set_same t k 2 0 h, rw (eqb-true i k b) at z))
             (λ b. f (sym (get_or-set_other t k i 2 0 (eqb-false i k b)) ∙ z)))
 
-  pub search_more : {u : List ℕ} {j : ℕ} → NextReached u n j → TargetsReached (rows_shown d x ws n) k (set t k 2) u → length u ≡ length (set t k 2) → k < n → Held ws n → SearchMoves d x ws n p t u j
-  search_more q r e l h =
-      let m : k < length t = omega (arith, g.long, h.few) in
-      record { searches = search_goes l q r m e; falls = search_falls l r m }
-
-  pub search_place : Held ws n → k < n → k < length t
-  search_place h l = omega (arith, g.long, h.few)
-
   pub search_row : Held ws n → p < n → p < length t
   search_row h l = omega (arith, g.long, h.few)
 
-  pub search_set : Held ws n → n ≤ length (set t k 2)
-  search_set h = rw length-set (omega (arith, g.long, h.few))
+  pub search_room : Held ws n → n ≤ length t
+  search_room h = omega (arith, g.long, h.few)
 
-  pub search_long : {u : List ℕ} → TargetsReached (rows_shown d x ws n) k (set t k 2) u → Held ws n → length u ≡ length (set t k 2) → n ≤ length u
-  search_long r h e = omega (arith, g.long, h.few, e, length-set t k 2)
+  module _ {k : ℕ} {r : Maybe ℕ} (s : NextReached t n r) (q : r ≡ Some k) (h : Held ws n) where
+    pub search_place : k < length t
+    search_place = omega (arith, s.within k q, g.long, h.few)
 
-  pub search_same : {u : List ℕ} → TargetsReached (rows_shown d x ws n) k (set t k 2) u → length u ≡ length (set t k 2) → length u ≡ length t
-  search_same r e = e ∙ length-set t k 2
+    pub search_set : n ≤ length (set t k 2)
+    search_set = rw length-set (omega (arith, g.long, h.few))
 
-pub search_first : {t₀ : List Row} {ws t u : List ℕ} {n p : ℕ} → TargetsReached t₀ p t u → Blank t → Held ws n → length u ≡ length t → n ≤ length u
-search_first r b h e = omega (arith, b.long, h.few, e)
+    module _ {u : List ℕ} (f : TargetsReached (rows_shown d x ws n) k (set t k 2) u) where
+      pub search_more : length u ≡ length (set t k 2) → Searching d x ws n p u
+      search_more e = search_goes (s.within k q) (s.some k q) f search_place e
 
-pub ruleset beginning = (search_begins, search_first, blank_long, rules)
+      pub search_less : todo u < todo t
+      search_less = search_falls (s.within k q) (s.some k q) f search_place
 
-pub ruleset moving = (search_more, search_place, search_set, search_long, search_same, rules)
-
-pub ruleset searching = (search_ends, search_row, rules)
+pub ruleset searching = (search_begins, search_ends, search_more, search_less, search_place, search_set, search_row, search_room, blank_long, rules)
 
 pub blank_zeros : Blank (replicate 262144 0)
 blank_zeros = record { long = length-replicate {A = ℕ} 262144 0; zeros = λ k. zero_at 262144 k }
@@ -327,18 +323,17 @@ pub uncircled_begins : {d x ws : List ℕ} {n : ℕ} → Uncircled d x ws n 0
 uncircled_begins = record { none = λ j h. absurd (omega arith) }
 
 module _ {d x ws : List ℕ} {n p : ℕ} (g : Uncircled d x ws n p) where
-  pub uncircled_ends : n ≤ p → CircleFound (rows_shown d x ws n) n n
+  pub uncircled_ends : n ≤ p → CircleFound (rows_shown d x ws n) None
   uncircled_ends h = record {
-    some = λ l. absurd (omega arith);
-    none = λ l i c. g.none i (omega (arith, defined_below d x ws n i (chain_listed (uses (rows_shown d x ws n)) (definitions (rows_shown d x ws n)) (used_listed (rows_shown d x ws n)) c))) c;
+    some = λ i e. apart e;
+    none = λ e i c. g.none i (omega (arith, defined_below d x ws n i (chain_listed (uses (rows_shown d x ws n)) (definitions (rows_shown d x ws n)) (used_listed (rows_shown d x ws n)) c))) c;
   }
 
   module _ {b : Bool} (a : OnCircle (rows_shown d x ws n) p b) where
-    pub uncircled_found : p < n → b ≡ true → CircleFound (rows_shown d x ws n) n p
-    uncircled_found l e = record {
-      some = λ h. record { circle = a.is e; first = λ q c. below q p (λ o. absurd (g.none q o c)) (λ o. o) };
-      none = λ h. absurd (omega arith);
-    }
+    pub uncircled_found : b ≡ true → CircleFound (rows_shown d x ws n) (Some p)
+    uncircled_found e =
+        let f : FirstOnCircle (uses (rows_shown d x ws n)) p = record { circle = a.is e; first = λ q c. below q p (λ o. absurd (g.none q o c)) (λ o. o) } in
+        record { some = λ i h. rw (same_some h) at f; none = λ h. apart (sym h) }
 
     pub uncircled_more : b ≡ false → Uncircled d x ws n (p + 1)
     uncircled_more e = record {

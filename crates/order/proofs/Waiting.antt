@@ -12,6 +12,7 @@ use native.Mathlib.Numerals.{add-one}
 use native.Mathlib.Omega.{arith}
 use lib.Dec.{eqb}
 use lib.ListN.{length, drop, get_or}
+use Rattle.std.specs.Prelude.{None, Some}
 use Rattle.slices.specs.Bytes.{if}
 use Rattle.utf8.proofs.Sequences.{below}
 use Rattle.document.specs.Elements.{among}
@@ -21,7 +22,7 @@ use Rattle.order.specs.Relation.{uses_any, ready}
 use Rattle.order.specs.Types.{member_in, defines, definitions_from, definitions, first_named, uses}
 use Rattle.order.specs.Lookup.{of_array, element, listed, referred, referred_by, targets_in, targets}
 use Rattle.order.specs.Steps.{Held, shown_at, Defines, MemberIn, Finds, target, Target, unmarked, left_in, any_among, IsLeft, MemberWaits, WaitsIn, Waits, IsReady, First, NextReady}
-use Rattle.order.proofs.Lists.{clash, case, refuted, or_else, first_true, second_true, among_here, among_there, among_cases}
+use Rattle.order.proofs.Lists.{clash, apart, same_some, case, refuted, or_else, first_true, second_true, among_here, among_there, among_cases}
 use Rattle.order.proofs.Taking.{uses_none}
 use Rattle.order.proofs.Tables.{from_below, named_listed}
 use Rattle.order.proofs.Lookups.{alike, row_is, uses_targets}
@@ -262,18 +263,18 @@ passed_here left p k n g e = go (among k left) refl e
     go true c f = record { listed = c; holds = f; least = λ j m q. below j k (λ o. clash q (g j o m)) (λ o. o) }
 
 module _ {d x ws marks : List ℕ} {n k : ℕ} (g : Passed d x ws n marks k) where
-  pub passed_ends : n ≤ k → NextReady (rows_shown d x ws n) n marks n
+  pub passed_ends : n ≤ k → NextReady (rows_shown d x ws n) n marks None
   passed_ends h = record {
-    some = λ l. absurd (omega arith);
-    none = λ l j m. g.none j (omega (arith, defined_below d x ws n j (left_listed (rows_shown d x ws n) marks j m))) m;
+    some = λ i e. apart e;
+    within = λ i e. apart e;
+    none = λ e j m. g.none j (omega (arith, defined_below d x ws n j (left_listed (rows_shown d x ws n) marks j m))) m;
   }
 
   module _ {b : Bool} (l : k < n) (a : IsReady d x ws n marks k b) where
-    pub passed_found : b ≡ true → NextReady (rows_shown d x ws n) n marks k
-    passed_found e = record {
-      some = λ h. passed_here (left_in (rows_shown d x ws n) marks) (ready (uses (rows_shown d x ws n)) (left_in (rows_shown d x ws n) marks)) k n g.none (sym a.is ∙ e);
-      none = λ h. absurd (omega arith);
-    }
+    pub passed_found : b ≡ true → NextReady (rows_shown d x ws n) n marks (Some k)
+    passed_found e =
+        let f : First (ready (uses (rows_shown d x ws n)) (left_in (rows_shown d x ws n) marks)) (left_in (rows_shown d x ws n) marks) k = passed_here (left_in (rows_shown d x ws n) marks) (ready (uses (rows_shown d x ws n)) (left_in (rows_shown d x ws n) marks)) k n g.none (sym a.is ∙ e) in
+        record { some = λ i h. rw (same_some h) at f; within = λ i h. omega (arith, same_some h); none = λ h. apart (sym h) }
 
     pub passed_more : b ≡ false → Passed d x ws n marks (k + 1)
     passed_more e = record {

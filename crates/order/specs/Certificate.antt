@@ -1,6 +1,6 @@
 -- What the functions say that check a candidate for the order: numbers that fall along uses, a circle by edges, an order by places.
 -- Assumes nothing.
-use Rattle.std.specs.Prelude.{ℕ, ◌+◌, ◌-◌, ◌/◌, ◌%◌, ◌≤◌, ◌<◌, ◌≡◌, List, Bool, true, eqb, length, get_or}
+use Rattle.std.specs.Prelude.{ℕ, ◌+◌, ◌-◌, ◌/◌, ◌%◌, ◌≤◌, ◌<◌, ◌≡◌, List, Bool, true, eqb, length, get_or, Option, Some}
 use Rattle.slices.specs.Bytes.{if}
 use Rattle.tables.specs.Table.{Rep}
 use Rattle.document.specs.Elements.{among}
@@ -64,41 +64,39 @@ pub record EdgeFalls (n : ℕ) (work : List ℕ) (p i e j : ℕ) (b : Bool) : Ty
 abbrev pub Late : List Row → ℕ → List ℕ → ℕ → Type 0
 Late t n work i = (k : ℕ) → ((j : ℕ) → uses t i j ≡ true → number n work j < k) → run_of n work i ≤ k
 
--- r is one more than the number of tp types of row m, if it is a member, that bear names of no row
-pub record Tells (d x ws : List ℕ) (n m r : ℕ) : Type 0 where
-  pub is : r ≡ 1 + if (is_undefined (rows_shown d x ws n) (shown_at d x ws m)) 1 0
-
--- of both edges of row m, if it is a member; r is 0 if not so, else one more than the number of its tp types that bear names of no row
-pub record RowFalls (d x ws : List ℕ) (n : ℕ) (work : List ℕ) (p m r : ℕ) : Type 0 where
+-- of both edges of row m, if it is a member; r is whether it is one whose tp type bears the name of no row, or none if the edges are not so
+pub record RowFalls (d x ws : List ℕ) (n : ℕ) (work : List ℕ) (p m : ℕ) (r : Option Bool) : Type 0 where
   pub falls :
-      0 < r →
+      (b : Bool) →
+      r ≡ Some b →
       (i j : ℕ) →
       member_in i (shown_at d x ws m) ≡ true →
       among j (referred_by (rows_shown d x ws n) (shown_at d x ws m).tp) ≡ true →
       Falls n work p i j
   pub noted :
-      0 < r →
+      (b : Bool) →
+      r ≡ Some b →
       n ≤ p →
       (i : ℕ) →
       member_in i (shown_at d x ws m) ≡ true →
       0 < get_or work (n + n + i) 0 →
       member_of (get_or work (n + n + i) 0) ≡ m →
       Late (rows_shown d x ws n) n work i
-  pub few : r ≤ 2
-  pub count : 0 < r → r ≡ 1 + if (is_undefined (rows_shown d x ws n) (shown_at d x ws m)) 1 0
+  pub unnamed : (b : Bool) → r ≡ Some b → b ≡ is_undefined (rows_shown d x ws n) (shown_at d x ws m)
 
--- of all members; r is the number of tp types that bear names of no row, or greater than n if not so
-pub record Members (d x ws : List ℕ) (n : ℕ) (work : List ℕ) (p r : ℕ) : Type 0 where
-  pub falls : r ≤ n → (i j : ℕ) → uses (rows_shown d x ws n) i j ≡ true → Falls n work p i j
+-- of all members; r is the number of those whose tp type bears the name of no row, or none if their edges are not so
+pub record Members (d x ws : List ℕ) (n : ℕ) (work : List ℕ) (p : ℕ) (r : Option ℕ) : Type 0 where
+  pub falls : (u : ℕ) → r ≡ Some u → (i j : ℕ) → uses (rows_shown d x ws n) i j ≡ true → Falls n work p i j
   pub noted :
-      r ≤ n →
+      (u : ℕ) →
+      r ≡ Some u →
       n ≤ p →
       (i : ℕ) →
       member_of (get_or work (n + n + i) 0) < n →
       member_in i (shown_at d x ws (member_of (get_or work (n + n + i) 0))) ≡ true →
       0 < get_or work (n + n + i) 0 →
       Late (rows_shown d x ws n) n work i
-  pub count : r ≤ n → r ≡ undefined (rows_shown d x ws n)
+  pub count : (u : ℕ) → r ≡ Some u → u ≡ undefined (rows_shown d x ws n)
 
 -- ---- a circle
 
@@ -165,5 +163,6 @@ pub record Certain (t : List Row) (out : List ℕ) (count u : ℕ) : Type 0 wher
   pub order : count ≤ length out → Rep 1 out count (order (uses t) (definitions t))
   pub undefined : u ≡ undefined t
 
-pub record IsCertain (t : List Row) (out : List ℕ) (count u : ℕ) (b : Bool) : Type 0 where
-  pub is : b ≡ true → Certain t out count u
+-- u is that number, if this is certain
+pub record IsCertain (t : List Row) (out : List ℕ) (count : ℕ) (r : Option ℕ) : Type 0 where
+  pub is : (u : ℕ) → r ≡ Some u → Certain t out count u

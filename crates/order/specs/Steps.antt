@@ -1,10 +1,9 @@
 -- What the functions that look names up and give rows out say.
 -- Assumes nothing.
-use Rattle.std.specs.Prelude.{ℕ, ◌+◌, ◌*◌, ◌-◌, ◌≤◌, ◌<◌, ◌≡◌, List, [], ◌∷◌, Bool, true, false, ◌&&◌, eqb, length, get_or, set, drop, replicate}
+use Rattle.std.specs.Prelude.{ℕ, ◌+◌, ◌*◌, ◌-◌, ◌≤◌, ◌<◌, ◌≡◌, List, [], ◌∷◌, Bool, true, false, ◌&&◌, eqb, length, get_or, set, drop, replicate, Result, Option as Maybe, Some, None}
 use Rattle.std.proofs.Math.Option.{Option, none, some}
 use Rattle.slices.specs.Bytes.{if, same}
 use Rattle.tables.specs.Table.{Rep}
-use Rattle.document.specs.Kinds as kinds
 use Rattle.document.specs.Elements.{among}
 use Rattle.items.specs.Words.{row_of, viewed, rows_shown}
 use Rattle.items.specs.Content.{Row, present}
@@ -12,7 +11,8 @@ use Rattle.order.specs.Relation.{order, ready, Chain, FirstOnCircle}
 use Rattle.order.specs.Types.{defines, definitions, first_named, member_in, uses, is_undefined, undefined}
 use Rattle.order.specs.Lookup.{of_array, element, referred_by, targets}
 use Rattle.order.specs.Ordering.{types_ordered, ordering, Says}
-use Rattle.order.specs.declared.Order.{Order}
+use Rattle.faults.specs.declared.Fault.{Fault}
+use Rattle.order.specs.declared.Ordered.{Ordered}
 
 -- n rows are held
 pub record Held (ws : List ℕ) (n : ℕ) : Type 0 where
@@ -119,10 +119,11 @@ pub record First (p : ℕ → Bool) (l : List ℕ) (i : ℕ) : Type 0 where
   pub holds : p i ≡ true
   pub least : (k : ℕ) → among k l ≡ true → p k ≡ true → i ≤ k
 
--- row i is the first of the rows left that is ready; or it is n, and none is
-pub record NextReady (t : List Row) (n : ℕ) (marks : List ℕ) (i : ℕ) : Type 0 where
-  pub some : i < n → First (ready (uses t) (left_in t marks)) (left_in t marks) i
-  pub none : n ≤ i → (k : ℕ) → among k (left_in t marks) ≡ true → ready (uses t) (left_in t marks) k ≡ false
+-- r is the first of the rows left that is ready; or none is
+pub record NextReady (t : List Row) (n : ℕ) (marks : List ℕ) (r : Maybe ℕ) : Type 0 where
+  pub some : (i : ℕ) → r ≡ Some i → First (ready (uses t) (left_in t marks)) (left_in t marks) i
+  pub within : (i : ℕ) → r ≡ Some i → i < n
+  pub none : r ≡ None → (k : ℕ) → among k (left_in t marks) ≡ true → ready (uses t) (left_in t marks) k ≡ false
 
 -- no row is marked
 pub record Blank (marks : List ℕ) : Type 0 where
@@ -185,23 +186,19 @@ pub record ReachedIn (d x ws : List ℕ) (n i m : ℕ) (before after : List ℕ)
 pub record TargetsReached (t : List Row) (i : ℕ) (before after : List ℕ) : Type 0 where
   pub is : Marked (targets t i) before after
 
--- k is the first row with mark 1, or n
-pub record NextReached (marks : List ℕ) (n k : ℕ) : Type 0 where
-  pub some : k < n → get_or marks k 0 ≡ 1
-  pub none : n ≤ k → (j : ℕ) → j < n → get_or marks j 0 ≡ 1 → ⊥
+-- r is the first of n rows with mark 1, or none has it
+pub record NextReached (marks : List ℕ) (n : ℕ) (r : Maybe ℕ) : Type 0 where
+  pub some : (k : ℕ) → r ≡ Some k → get_or marks k 0 ≡ 1
+  pub within : (k : ℕ) → r ≡ Some k → k < n
+  pub none : r ≡ None → (j : ℕ) → j < n → get_or marks j 0 ≡ 1 → ⊥
 
--- a search from row p: a chain leads from it to each row with a mark, to the targets of p and to those of rows with mark 2; k is next
-pub record Searching (d x ws : List ℕ) (n p : ℕ) (t : List ℕ) (k : ℕ) : Type 0 where
+-- a search from row p: a chain leads from it to each row with a mark, to the targets of p and to those of rows with mark 2
+pub record Searching (d x ws : List ℕ) (n p : ℕ) (t : List ℕ) : Type 0 where
   pub sound : (j : ℕ) → (get_or t j 0 ≡ 0 → ⊥) → Chain (uses (rows_shown d x ws n)) p j
   pub from : (j : ℕ) → uses (rows_shown d x ws n) p j ≡ true → get_or t j 0 ≡ 0 → ⊥
   pub closed : (i : ℕ) → get_or t i 0 ≡ 2 → (j : ℕ) → uses (rows_shown d x ws n) i j ≡ true → get_or t j 0 ≡ 0 → ⊥
   pub small : (i : ℕ) → get_or t i 0 ≤ 2
-  pub next : NextReached t n k
   pub long : length t ≡ 262144
-
-pub record SearchMoves (d x ws : List ℕ) (n p : ℕ) (t u : List ℕ) (k : ℕ) : Type 0 where
-  pub searches : Searching d x ws n p u k
-  pub falls : todo u < todo t
 
 -- whether a chain leads from row p to itself
 pub record OnCircle (t : List Row) (p : ℕ) (r : Bool) : Type 0 where
@@ -212,26 +209,26 @@ pub record OnCircle (t : List Row) (p : ℕ) (r : Bool) : Type 0 where
 pub record Clear (t : List Row) (marks : List ℕ) : Type 0 where
   pub none : (k : ℕ) → (get_or marks k 0 ≡ 0 → ⊥) → Chain (uses t) k k → ⊥
 
--- r is the first row on a circle; or it is n, and there is none
-pub record CircleFound (t : List Row) (n r : ℕ) : Type 0 where
-  pub some : r < n → FirstOnCircle (uses t) r
-  pub none : n ≤ r → (i : ℕ) → Chain (uses t) i i → ⊥
+-- r is the first row on a circle, or there is none
+pub record CircleFound (t : List Row) (r : Maybe ℕ) : Type 0 where
+  pub some : (p : ℕ) → r ≡ Some p → FirstOnCircle (uses t) p
+  pub none : r ≡ None → (i : ℕ) → Chain (uses t) i i → ⊥
 
 -- ---- the answer
 
 -- what is answered and left where c rows were given out, and no row is on a circle
-pub record Finishes (t : List Row) (marks out : List ℕ) (c : ℕ) (out' : List ℕ) (r : Order) : Type 0 where
+pub record Finishes (t : List Row) (marks out : List ℕ) (c : ℕ) (out' : List ℕ) (r : Result Ordered Fault) : Type 0 where
   pub says : GivenOut t marks out c → ((i : ℕ) → Chain (uses t) i i → ⊥) → Says (types_ordered (length out) t) (length out) out' r
 
 -- what is answered and left for a table whose rows are sound
-pub record OrdersSound (t : List Row) (room : ℕ) (out : List ℕ) (r : Order) : Type 0 where
+pub record OrdersSound (t : List Row) (room : ℕ) (out : List ℕ) (r : Result Ordered Fault) : Type 0 where
   pub says : Says (types_ordered room t) room out r
 
 -- for any table
-pub record Answers (d x ws : List ℕ) (n room : ℕ) (out : List ℕ) (r : Order) : Type 0 where
+pub record Answers (d x ws : List ℕ) (n room : ℕ) (out : List ℕ) (r : Result Ordered Fault) : Type 0 where
   pub says : Says (ordering d x ws n room) room out r
 
 -- what the entry answers and leaves; the words lent for work are zeros, and the answer does not depend on them
-pub record Orders (d x ws : List ℕ) (n room : ℕ) (work out work' : List ℕ) (r : Order) : Type 0 where
+pub record Orders (d x ws : List ℕ) (n room : ℕ) (work out work' : List ℕ) (r : Result Ordered Fault) : Type 0 where
   pub says : Says (ordering d x ws n room) room out r
   pub idle : work' ≡ replicate (length work) 0

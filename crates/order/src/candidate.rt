@@ -4,10 +4,13 @@
 // number, work[2n + r] the edges that it waits for and then the last of them; of a member, work[n + r] and work[2n + r] are the edges that
 // come after its own in the lists that these are in, and then work[n + r] is where the row's run begins.
 ghost use Rattle.std.specs.Prelude.{◌≡◌, ◌+◌, ◌*◌, ◌≤◌, ◌<◌, length};
-ghost use Rattle.order.specs.Steps.{Held};
+ghost use Rattle.order.specs.Table.{over};
 ghost use Rattle.order.specs.Certificate.{Kept};
 ghost use Rattle.order.specs.Index.{Indexed};
 
+use super::index::Index;
+use super::table::Table;
+use super::words::Word;
 use super::{certificate, definitions, index, words};
 use document::kinds;
 
@@ -28,28 +31,19 @@ fn mark(ready: &mut [u64; 4161], r: usize) {
 fn lowest(x: u64) -> usize
     ensures { result < 64 }
 {
-    let z = words::wide(u64::trailing_zeros(x));
-    if z < 64 {
-        return z;
-    }
-    0
+    u64::trailing_zeros(x) as usize % 64
 }
 
 // All but the lowest bit.
 fn dropped(x: u64) -> u64 {
-    if x == 0 {
-        return 0;
-    }
-    x & (x - 1)
+    x & std::num::wrapping_sub_u64(x, 1)
 }
 
-// The first row that is marked, which then is not; or 262144.
-fn take(ready: &mut [u64; 4161]) -> usize
-    ensures { result ≤ 262144 }
-{
+// The first row that is marked, which then is not.
+fn take(ready: &mut [u64; 4161]) -> Option<usize> {
     let top = ready[4160];
     if top == 0 {
-        return 262144;
+        return None;
     }
     let high = lowest(top);
     let middle = ready[4096 + high];
@@ -63,7 +57,7 @@ fn take(ready: &mut [u64; 4161]) -> usize
             ready[4160] = dropped(top);
         }
     }
-    row
+    Some(row)
 }
 
 // ---- edges
@@ -75,172 +69,121 @@ fn link(work: &mut [u32], n: usize, i: usize, j: usize, e: usize)
     if n <= j {
         return;
     }
-    let head = words::get(work, words::second(n, j));
+    let head = words::get_at(work, n, Word::Second, j);
     words::put_after(work, n, e, head);
-    words::put_second(work, n, j, e);
-    let waits = words::get(work, words::third(n, i));
-    words::put_third(work, n, i, words::more(waits));
+    words::put_at(work, n, Word::Second, j, e);
+    let waits = words::get_at(work, n, Word::Third, i);
+    words::put_at(work, n, Word::Third, i, words::more(waits));
 }
 
 // Adds the edges of row m, if it is a member.
-fn link_member<'a>(
-    document: &'a [u8],
-    text: &'a [u8],
-    rows: &[u32],
-    n: usize,
-    heads: &[u32],
-    work: &mut [u32],
-    m: usize,
-)
-    requires fact_1 { Held rows.now n }
-    requires fact_2 { m < n }
-    requires fact_3 { Indexed document.now text.now rows.now n heads.now work.old }
-    ensures { Kept n work.old work.new }
+fn link_member(table: &Table, heads: &[u32], work: &mut [u32], m: usize)
+    requires member { m < table.now.n }
+    requires indexed { over Indexed table.now heads.now work.old }
+    ensures { Kept table.now.n work.old work.new }
 {
-    if items::word(rows, m, 0) != kinds::MEMBER {
+    if items::word(table.rows, m, 0) != kinds::MEMBER {
         return;
     }
-    let i = words::parent(rows, n, m);
-    if n <= i {
+    let i = words::parent(table, m);
+    if table.n <= i {
         return;
     }
-    let whole = index::find_target(document, text, rows, n, heads, work, false, m);
-    let less = index::find_target(document, text, rows, n, heads, work, true, m);
-    link(work, n, i, whole, m + m + 1);
-    link(work, n, i, less, m + m + 2);
+    let by_name = Index {
+        table: &*table,
+        heads: &*heads,
+        work: &*work,
+    };
+    let whole = index::find_target(&by_name, false, m);
+    let less = index::find_target(&by_name, true, m);
+    link(work, table.n, i, whole, m + m + 1);
+    link(work, table.n, i, less, m + m + 2);
 }
 
 // Adds the edges of all members.
-fn link_all<'a>(
-    document: &'a [u8],
-    text: &'a [u8],
-    rows: &[u32],
-    n: usize,
-    heads: &[u32],
-    work: &mut [u32],
-)
-    requires fact_1 { Held rows.now n }
-    requires fact_2 { Indexed document.now text.now rows.now n heads.now work.old }
+fn link_all(table: &Table, heads: &[u32], work: &mut [u32])
+    requires { over Indexed table.now heads.now work.old }
 {
-    let mut m = 0;
-    while m < n {
-        link_member(document, text, rows, n, heads, work, m);
-        m += 1;
+    for m in 0..table.n {
+        link_member(table, heads, work, m);
     }
 }
 
 // ---- giving out
 
 // Row r is not given out; marks it if it is a definition that waits for nothing.
-fn start_row<'a>(
-    document: &'a [u8],
-    text: &'a [u8],
-    rows: &[u32],
-    n: usize,
-    work: &mut [u32],
-    ready: &mut [u64; 4161],
-    r: usize,
-)
-    requires { (Held rows.now n) × (r < n) }
+fn start_row(table: &Table, work: &mut [u32], ready: &mut [u64; 4161], r: usize)
+    requires { r < table.now.n }
 {
-    if !definitions::is_definition(document, text, rows, r) {
-        words::put(work, r, words::parent(rows, n, r));
+    if !definitions::is_definition(table, r) {
+        words::put(work, r, words::parent(table, r));
         return;
     }
     words::put(work, r, 0);
-    if words::get(work, words::third(n, r)) == 0 {
+    if words::get_at(work, table.n, Word::Third, r) == 0 {
         mark(ready, r);
     }
 }
 
 // The same for all rows.
-fn start<'a>(
-    document: &'a [u8],
-    text: &'a [u8],
-    rows: &[u32],
-    n: usize,
-    work: &mut [u32],
-    ready: &mut [u64; 4161],
-)
-    requires { Held rows.now n }
-{
-    let mut r = 0;
-    while r < n {
-        start_row(document, text, rows, n, work, ready, r);
-        r += 1;
+fn start(table: &Table, work: &mut [u32], ready: &mut [u64; 4161]) {
+    for r in 0..table.n {
+        start_row(table, work, ready, r);
     }
 }
 
 // What row u waits for with edge e is given out.
 fn release(work: &mut [u32], n: usize, ready: &mut [u64; 4161], u: usize, e: usize) {
-    let waits = words::get(work, words::third(n, u));
+    let waits = words::get_at(work, n, Word::Third, u);
     if waits == 1 {
-        words::put_third(work, n, u, e);
+        words::put_at(work, n, Word::Third, u, e);
         mark(ready, u);
         return;
     }
     if 1 < waits {
-        words::put_third(work, n, u, waits - 1);
+        words::put_at(work, n, Word::Third, u, waits - 1);
     }
 }
 
 // The same for each edge of a list.
-fn release_all(rows: &[u32], n: usize, work: &mut [u32], ready: &mut [u64; 4161], first: usize)
-    requires { Held rows.now n }
-{
+fn release_all(table: &Table, work: &mut [u32], ready: &mut [u64; 4161], first: usize) {
     let mut e = first;
-    let mut steps = n + n;
-    while 0 < steps {
+    for _ in 0..2 * table.n {
         if e == 0 {
             return;
         }
         let u = words::get(work, words::member(e));
-        let next = words::after(work, n, e);
-        release(work, n, ready, u, e);
+        let next = words::after(work, table.n, e);
+        release(work, table.n, ready, u, e);
         e = next;
-        steps -= 1;
     }
 }
 
 // Gives out row r as the k-th.
 fn give(
-    rows: &[u32],
-    n: usize,
+    table: &Table,
     work: &mut [u32],
     ready: &mut [u64; 4161],
     out: &mut [u32],
     k: usize,
     r: usize,
-)
-    requires { Held rows.now n }
-{
-    let first = words::get(work, words::second(n, r));
+) {
+    let first = words::get_at(work, table.n, Word::Second, r);
     words::put(work, r, 1);
-    words::put_second(work, n, r, k);
+    words::put_at(work, table.n, Word::Second, r, k);
     words::put(out, k, r);
-    release_all(rows, n, work, ready, first);
+    release_all(table, work, ready, first);
 }
 
 // Gives out rows while some are ready, always the first, and says how many.
-fn give_out(
-    rows: &[u32],
-    n: usize,
-    work: &mut [u32],
-    ready: &mut [u64; 4161],
-    out: &mut [u32],
-) -> usize
-    requires { Held rows.now n }
-{
-    let mut k = 0;
-    while k < n {
-        let r = take(ready);
-        if n <= r {
-            return k;
+fn give_out(table: &Table, work: &mut [u32], ready: &mut [u64; 4161], out: &mut [u32]) -> usize {
+    for k in 0..table.n {
+        match take(ready) {
+            Some(r) if r < table.n => give(table, work, ready, out, k, r),
+            _ => return k,
         }
-        give(rows, n, work, ready, out, k, r);
-        k += 1;
     }
-    k
+    table.n
 }
 
 // ---- runs of smaller rows
@@ -269,47 +212,36 @@ fn note_run(work: &mut [u32], n: usize, out: &[u32], k: usize)
     requires { n ≤ 262144 }
 {
     let r = words::get(out, k);
-    let e = words::get(work, words::third(n, r));
+    let e = words::get_at(work, n, Word::Third, r);
     if e == 0 {
         return;
     }
     let from = run_before(work, n, out, k, r);
-    words::put_second(work, n, words::member(e), from);
+    words::put_at(work, n, Word::Second, words::member(e), from);
 }
 
 // The same for each place.
 fn note_runs(work: &mut [u32], n: usize, out: &[u32], count: usize)
     requires { n ≤ 262144 }
 {
-    let mut k = 0;
-    while k < count {
+    for k in 0..count {
         note_run(work, n, out, k);
-        k += 1;
     }
 }
 
 // ---- the candidate
 
 // Gives out the rows that come to be ready, and says how many.
-pub fn order<'a>(
-    document: &'a [u8],
-    text: &'a [u8],
-    rows: &[u32],
-    n: usize,
-    heads: &[u32],
-    work: &mut [u32],
-    out: &mut [u32],
-) -> usize
-    requires fact_1 { Held rows.now n }
-    requires fact_2 { Indexed document.now text.now rows.now n heads.now work.old }
+pub fn order(table: &Table, heads: &[u32], work: &mut [u32], out: &mut [u32]) -> usize
+    requires { over Indexed table.now heads.now work.old }
 {
     let mut ready: [u64; 4161] = [0; 4161];
-    tables::clear_words(work, n);
-    link_all(document, text, rows, n, heads, work);
-    start(document, text, rows, n, work, &mut ready);
-    let count = give_out(rows, n, work, &mut ready, out);
+    tables::clear_words(work, table.n);
+    link_all(table, heads, work);
+    start(table, work, &mut ready);
+    let count = give_out(table, work, &mut ready, out);
     if count <= out.len() {
-        note_runs(work, n, out, count);
+        note_runs(work, table.n, out, count);
     }
     count
 }

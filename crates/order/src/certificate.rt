@@ -3,12 +3,13 @@
 // order the one that the row waited for last, 0 for none; then work[n + m] of that edge's member m is where the run of smaller rows begins
 // that stands before row r.
 ghost use Rattle.std.specs.Prelude.{◌+◌, ◌*◌, ◌≤◌, ◌<◌, true, false, length};
-ghost use Rattle.items.specs.Words.{rows_shown};
-ghost use Rattle.order.specs.Steps.{Held, Target};
-ghost use Rattle.order.specs.Index.{Indexed};
-ghost use Rattle.order.specs.Certificate.{EdgeFalls, Tells, RowFalls, Members, Follows, IsCircle, RunIs, Runs, Above, IsNoted, IsNext, PlacedBefore, IsAscending, IsPlaced, ArePlaced, IsOrder};
+ghost use Rattle.order.specs.Table.{of, over, shown_rows};
+ghost use Rattle.order.specs.Steps.{Target, IsUndefined};
+ghost use Rattle.order.specs.Certificate.{EdgeFalls, RowFalls, Members, Follows, IsCircle, RunIs, Runs, Above, IsNoted, IsNext, PlacedBefore, IsAscending, IsPlaced, ArePlaced, IsOrder};
 
-use super::{definitions, index, words};
+use super::index::Index;
+use super::table::Table;
+use super::{counts, definitions, index, words};
 use document::kinds;
 
 // ---- numbers
@@ -16,9 +17,9 @@ use document::kinds;
 // Whether edge e of row i, which leads to row j or to n for none, leads to a smaller number, or to an equal one where i is p or greater. Where p
 // is n, the edge that is noted for row i also has to lead to a row no place before the run of row i.
 fn edge_falls(n: usize, work: &[u32], p: usize, i: usize, e: usize, j: usize) -> bool
-    requires fact_1 { n ≤ 262144 }
-    requires fact_2 { i < n }
-    requires fact_3 { j ≤ n }
+    requires few { n ≤ 262144 }
+    requires row { i < n }
+    requires target { j ≤ n }
     ensures { EdgeFalls n work.now p i e j result }
 {
     let noted = words::get(work, n + n + i);
@@ -45,156 +46,100 @@ fn edge_falls(n: usize, work: &[u32], p: usize, i: usize, e: usize, j: usize) ->
     false
 }
 
-// 2 if row m is a member whose tp type bears the name of no row, which is told by the rows that it refers to; else 1.
-fn told<'a>(
-    document: &'a [u8],
-    text: &'a [u8],
-    rows: &[u32],
-    n: usize,
-    m: usize,
-    whole: usize,
-    less: usize,
-) -> usize
-    requires fact_1 { m * 16 + 16 ≤ length rows.now }
-    requires fact_2 { Target document.now text.now rows.now n false m whole }
-    requires fact_3 { Target document.now text.now rows.now n true m less }
-    ensures { Tells document.now text.now rows.now n m result }
+// Whether row m is a member whose tp type bears the name of no row, which is told by the rows that it refers to.
+#[tactic(auto, using(crate::proofs::Checking::tellings))]
+fn told(table: &Table, m: usize, whole: usize, less: usize) -> bool
+    requires held { m * 16 + 16 ≤ length table.now.rows.now }
+    requires whole { over Target table.now false m whole }
+    requires less { over Target table.now true m less }
+    ensures { over IsUndefined table.now m result }
 {
-    if items::word(rows, m, 0) != kinds::MEMBER {
-        return 1;
+    if items::word(table.rows, m, 0) != kinds::MEMBER {
+        return false;
     }
-    if items::is_absent(items::triple(rows, m, 8)) {
-        return 1;
+    if items::is_absent(items::triple(table.rows, m, 8)) {
+        return false;
     }
-    if whole < n {
-        return 1;
+    if whole < table.n {
+        return false;
     }
-    if less < n {
-        return 1;
-    }
-    2
+    table.n <= less
 }
 
-// Whether both edges of row m, if it is a member, lead so: 0 if not, else 1, or 2 where its tp type bears the name of no row.
-fn row_falls<'a>(
-    document: &'a [u8],
-    text: &'a [u8],
-    rows: &[u32],
-    n: usize,
-    heads: &[u32],
-    work: &[u32],
-    p: usize,
-    m: usize,
-) -> usize
-    requires fact_1 { Held rows.now n }
-    requires fact_2 { Indexed document.now text.now rows.now n heads.now work.now }
-    requires fact_3 { m < n }
-    ensures { RowFalls document.now text.now rows.now n work.now p m result }
+// If both edges of row m, if it is a member, lead so: whether its tp type bears the name of no row.
+#[tactic(auto, using(crate::proofs::Checking::row_falling))]
+fn row_falls(by_name: &Index, p: usize, m: usize) -> Option<bool>
+    requires { m < by_name.now.table.now.n }
+    ensures { over RowFalls by_name.now.table.now by_name.now.work.now p m result }
 {
     let first = m + m + 1;
     let second = m + m + 2;
-    if items::word(rows, m, 0) != kinds::MEMBER {
-        return 1;
+    if items::word(by_name.table.rows, m, 0) != kinds::MEMBER {
+        return Some(false);
     }
-    let up = words::wide(items::word(rows, m, 1));
+    let up = words::wide(items::word(by_name.table.rows, m, 1));
     if up == 0 {
-        return 0;
+        return None;
     }
-    if n < up {
-        return 0;
+    if by_name.table.n < up {
+        return None;
     }
-    let whole = index::find_target(document, text, rows, n, heads, work, false, m);
-    let less = index::find_target(document, text, rows, n, heads, work, true, m);
-    if !edge_falls(n, work, p, up - 1, first, whole) {
-        return 0;
+    let whole = index::find_target(by_name, false, m);
+    let less = index::find_target(by_name, true, m);
+    if !edge_falls(by_name.table.n, by_name.work, p, up - 1, first, whole) {
+        return None;
     }
-    if !edge_falls(n, work, p, up - 1, second, less) {
-        return 0;
+    if !edge_falls(by_name.table.n, by_name.work, p, up - 1, second, less) {
+        return None;
     }
-    told(document, text, rows, n, m, whole, less)
+    Some(told(by_name.table, m, whole, less))
 }
 
-// The number of members whose tp type bears the name of no row, if the numbers are as said; else n + 1.
-pub fn check_members<'a>(
-    document: &'a [u8],
-    text: &'a [u8],
-    rows: &[u32],
-    n: usize,
-    heads: &[u32],
-    work: &[u32],
-    p: usize,
-) -> usize
-    requires fact_1 { Held rows.now n }
-    requires fact_2 { Indexed document.now text.now rows.now n heads.now work.now }
-    ensures { Members document.now text.now rows.now n work.now p result }
+// The number of members whose tp type bears the name of no row, if the numbers are as said.
+#[tactic(auto, using(crate::proofs::Checking::fallings))]
+pub fn check_members(by_name: &Index, p: usize) -> Option<usize>
+    ensures { over Members by_name.now.table.now by_name.now.work.now p result }
 {
     let mut count = 0;
-    let mut m = 0;
-    while m < n {
-        let r = row_falls(document, text, rows, n, heads, work, p, m);
-        if r == 0 {
-            return n + 1;
-        }
-        count = count + r - 1;
-        m += 1;
+    for m in 0..by_name.table.n {
+        let unnamed = row_falls(by_name, p, m)?;
+        count = counts::add(count, unnamed);
     }
-    count
+    Some(count)
 }
 
 // ---- a circle
 
 // The row to which the edge of row r leads, or n.
-fn follow<'a>(
-    document: &'a [u8],
-    text: &'a [u8],
-    rows: &[u32],
-    n: usize,
-    heads: &[u32],
-    work: &[u32],
-    r: usize,
-) -> usize
-    requires fact_1 { Held rows.now n }
-    requires fact_2 { Indexed document.now text.now rows.now n heads.now work.now }
-    requires fact_3 { r < n }
-    ensures { Follows (rows_shown document.now text.now rows.now n) n r result }
+fn follow(by_name: &Index, r: usize) -> usize
+    requires { r < by_name.now.table.now.n }
+    ensures { Follows (shown_rows by_name.now.table.now) by_name.now.table.now.n r result }
 {
-    let e = words::get(work, n + n + r);
+    let e = words::get(by_name.work, by_name.table.n + by_name.table.n + r);
     let m = words::member(e);
-    if n <= m {
-        return n;
+    if by_name.table.n <= m {
+        return by_name.table.n;
     }
-    if !definitions::is_member(document, text, rows, r, m) {
-        return n;
+    if !definitions::is_member(by_name.table, r, m) {
+        return by_name.table.n;
     }
-    index::find_target(document, text, rows, n, heads, work, words::is_less(e), m)
+    index::find_target(by_name, words::is_less(e), m)
 }
 
 // Whether the edges lead from row p to itself.
-pub fn is_circle<'a>(
-    document: &'a [u8],
-    text: &'a [u8],
-    rows: &[u32],
-    n: usize,
-    heads: &[u32],
-    work: &[u32],
-    p: usize,
-) -> bool
-    requires fact_1 { Held rows.now n }
-    requires fact_2 { Indexed document.now text.now rows.now n heads.now work.now }
-    requires fact_3 { p < n }
-    ensures { IsCircle (rows_shown document.now text.now rows.now n) p result }
+pub fn is_circle(by_name: &Index, p: usize) -> bool
+    requires { p < by_name.now.table.now.n }
+    ensures { IsCircle (shown_rows by_name.now.table.now) p result }
 {
     let mut r = p;
-    let mut k = 0;
-    while k < n {
-        r = follow(document, text, rows, n, heads, work, r);
-        if n <= r {
+    for _ in 0..by_name.table.n {
+        r = follow(by_name, r);
+        if by_name.table.n <= r {
             return false;
         }
         if r == p {
             return true;
         }
-        k += 1;
     }
     false
 }
@@ -202,9 +147,10 @@ pub fn is_circle<'a>(
 // ---- an order
 
 // Where the run of smaller rows before row r begins, as it is noted.
+#[tactic(auto, using(crate::proofs::Keeping::runs))]
 pub fn run(work: &[u32], n: usize, r: usize) -> usize
-    requires fact_1 { n ≤ 262144 }
-    requires fact_2 { r ≤ 4294967295 }
+    requires few { n ≤ 262144 }
+    requires word { r ≤ 4294967295 }
     ensures { RunIs n work.now r result }
 {
     let e = words::get(work, n + n + r);
@@ -216,8 +162,8 @@ pub fn run(work: &[u32], n: usize, r: usize) -> usize
 
 // Whether the rows from a place on to place k are smaller than row r.
 fn is_above(work: &[u32], n: usize, out: &[u32], k: usize, r: usize, from: usize) -> bool
-    requires fact_1 { n ≤ 262144 }
-    requires fact_2 { Runs n work.now out.now k }
+    requires few { n ≤ 262144 }
+    requires runs { Runs n work.now out.now k }
     ensures { Above out.now k r from result }
 {
     let mut j = k;
@@ -236,102 +182,63 @@ fn is_above(work: &[u32], n: usize, out: &[u32], k: usize, r: usize, from: usize
 }
 
 // Whether the edge that is noted for row r is one of its own, if its run does not begin at the first place.
-fn is_noted<'a>(
-    document: &'a [u8],
-    text: &'a [u8],
-    rows: &[u32],
-    n: usize,
-    work: &[u32],
-    r: usize,
-    from: usize,
-) -> bool
-    requires fact_1 { Held rows.now n }
-    requires fact_2 { r < n }
-    ensures { IsNoted document.now text.now rows.now n work.now r from result }
+fn is_noted(table: &Table, work: &[u32], r: usize, from: usize) -> bool
+    requires { r < table.now.n }
+    ensures { over IsNoted table.now work.now r from result }
 {
     if from == 0 {
         return true;
     }
-    let m = words::member(words::get(work, n + n + r));
-    if n <= m {
+    let m = words::member(words::get(work, table.n + table.n + r));
+    if table.n <= m {
         return false;
     }
-    definitions::is_member(document, text, rows, r, m)
+    definitions::is_member(table, r, m)
 }
 
 // Whether the row at place k is a definition, has that number, and could not be given out before a greater one.
-fn is_next<'a>(
-    document: &'a [u8],
-    text: &'a [u8],
-    rows: &[u32],
-    n: usize,
-    work: &[u32],
-    out: &[u32],
-    k: usize,
-) -> bool
-    requires fact_1 { Held rows.now n }
-    requires fact_2 { PlacedBefore document.now text.now rows.now n work.now out.now k }
-    ensures { IsNext document.now text.now rows.now n work.now out.now k result }
+fn is_next(table: &Table, work: &[u32], out: &[u32], k: usize) -> bool
+    requires { over PlacedBefore table.now work.now out.now k }
+    ensures { over IsNext table.now work.now out.now k result }
 {
     let r = words::get(out, k);
-    if n <= r {
+    if table.n <= r {
         return false;
     }
-    if !definitions::is_definition(document, text, rows, r) {
+    if !definitions::is_definition(table, r) {
         return false;
     }
-    if words::get(work, n + r) != k {
+    if words::get(work, table.n + r) != k {
         return false;
     }
-    let from = run(work, n, r);
-    if !is_noted(document, text, rows, n, work, r, from) {
+    let from = run(work, table.n, r);
+    if !is_noted(table, work, r, from) {
         return false;
     }
-    is_above(work, n, out, k, r, from)
+    is_above(work, table.n, out, k, r, from)
 }
 
 // The same for all places.
-fn is_ascending<'a>(
-    document: &'a [u8],
-    text: &'a [u8],
-    rows: &[u32],
-    n: usize,
-    work: &[u32],
-    out: &[u32],
-    count: usize,
-) -> bool
-    requires { Held rows.now n }
-    ensures { IsAscending document.now text.now rows.now n work.now out.now count result }
+fn is_ascending(table: &Table, work: &[u32], out: &[u32], count: usize) -> bool
+    ensures { over IsAscending table.now work.now out.now count result }
 {
-    let mut k = 0;
-    while k < count {
-        if !is_next(document, text, rows, n, work, out, k) {
+    for k in 0..count {
+        if !is_next(table, work, out, k) {
             return false;
         }
-        k += 1;
     }
     true
 }
 
 // Whether row r stands at the place of its number, if it is a definition.
-fn is_placed<'a>(
-    document: &'a [u8],
-    text: &'a [u8],
-    rows: &[u32],
-    n: usize,
-    work: &[u32],
-    out: &[u32],
-    count: usize,
-    r: usize,
-) -> bool
-    requires fact_1 { Held rows.now n }
-    requires fact_2 { r < n }
-    ensures { IsPlaced (rows_shown document.now text.now rows.now n) n work.now out.now count r result }
+fn is_placed(table: &Table, work: &[u32], out: &[u32], count: usize, r: usize) -> bool
+    requires { r < table.now.n }
+    ensures { IsPlaced (shown_rows table.now) table.now.n work.now out.now count r result }
 {
-    if !definitions::is_definition(document, text, rows, r) {
+    if !definitions::is_definition(table, r) {
         return true;
     }
-    let k = words::get(work, n + r);
+    let k = words::get(work, table.n + r);
     if count <= k {
         return false;
     }
@@ -339,43 +246,24 @@ fn is_placed<'a>(
 }
 
 // The same for all rows.
-fn are_placed<'a>(
-    document: &'a [u8],
-    text: &'a [u8],
-    rows: &[u32],
-    n: usize,
-    work: &[u32],
-    out: &[u32],
-    count: usize,
-) -> bool
-    requires { Held rows.now n }
-    ensures { ArePlaced (rows_shown document.now text.now rows.now n) n work.now out.now count result }
+#[tactic(auto, using(crate::proofs::Checking::placings))]
+fn are_placed(table: &Table, work: &[u32], out: &[u32], count: usize) -> bool
+    ensures { ArePlaced (shown_rows table.now) table.now.n work.now out.now count result }
 {
-    let mut r = 0;
-    while r < n {
-        if !is_placed(document, text, rows, n, work, out, count, r) {
+    for r in 0..table.n {
+        if !is_placed(table, work, out, count, r) {
             return false;
         }
-        r += 1;
     }
     true
 }
 
 // Whether the rows at the first places are the order.
-pub fn is_order<'a>(
-    document: &'a [u8],
-    text: &'a [u8],
-    rows: &[u32],
-    n: usize,
-    work: &[u32],
-    out: &[u32],
-    count: usize,
-) -> bool
-    requires { Held rows.now n }
-    ensures { IsOrder document.now text.now rows.now n work.now out.now count result }
+pub fn is_order(table: &Table, work: &[u32], out: &[u32], count: usize) -> bool
+    ensures { over IsOrder table.now work.now out.now count result }
 {
-    if !are_placed(document, text, rows, n, work, out, count) {
+    if !are_placed(table, work, out, count) {
         return false;
     }
-    is_ascending(document, text, rows, n, work, out, count)
+    is_ascending(table, work, out, count)
 }

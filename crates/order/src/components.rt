@@ -5,9 +5,11 @@
 // component's number; work[2n + r] is twice the edge by which the search came to the row, and one more where the row leads back; and then the
 // next row of the stack. work[m] of that edge's member m is the row that it leads to.
 ghost use Rattle.std.specs.Prelude.{◌≡◌, ◌+◌, ◌*◌, ◌≤◌, ◌<◌, length};
-ghost use Rattle.order.specs.Steps.{Held};
 
+use super::table::Table;
+use super::words::Word;
 use super::{definitions, words};
+use std::ops::ControlFlow;
 
 // Where the search is: a row, the next edge to look at, the next index, the next number, the top of the stack plus one.
 #[derive(Clone, Copy)]
@@ -19,24 +21,16 @@ struct Walk {
     top: usize,
 }
 
-// Whether the search goes on.
-#[derive(Clone, Copy)]
-struct Step {
-    walk: Walk,
-    more: bool,
-}
-
 // Comes to row u by edge e from the row where the search is; from none if e is 0 (and then word 0 is written, which no definition has).
 fn enter(work: &mut [u32], n: usize, w: Walk, u: usize, e: usize) -> Walk {
     words::put(work, u, w.index);
-    words::put_third(work, n, u, words::double(e));
+    words::put_at(work, n, Word::Third, u, words::double(e));
     words::put(work, words::member(e), words::more(w.row));
     Walk {
         row: u,
-        edge: words::get(work, words::second(n, u)),
+        edge: words::get_at(work, n, Word::Second, u),
         index: words::more(w.index),
-        number: w.number,
-        top: w.top,
+        ..w
     }
 }
 
@@ -45,30 +39,24 @@ fn lead(work: &mut [u32], n: usize, r: usize, u: usize) {
     let a = words::get(work, u);
     if a < words::get(work, r) {
         words::put(work, r, a);
-        let c = words::get(work, words::third(n, r));
+        let c = words::get_at(work, n, Word::Third, r);
         if c % 2 == 0 {
-            words::put_third(work, n, r, words::more(c));
+            words::put_at(work, n, Word::Third, r, words::more(c));
         }
     }
 }
 
 // Looks at an edge.
-fn look(rows: &[u32], n: usize, work: &mut [u32], w: Walk) -> Walk
-    requires { Held rows.now n }
-{
+fn look(table: &Table, work: &mut [u32], w: Walk) -> Walk {
     let e = w.edge;
-    let u = words::parent(rows, n, words::member(e));
+    let u = words::parent(table, words::member(e));
     if words::get(work, u) == 0 {
-        return enter(work, n, w, u, e);
+        return enter(work, table.n, w, u, e);
     }
-    let r = w.row;
-    lead(work, n, r, u);
+    lead(work, table.n, w.row, u);
     Walk {
-        row: r,
-        edge: words::after(work, n, e),
-        index: w.index,
-        number: w.number,
-        top: w.top,
+        edge: words::after(work, table.n, e),
+        ..w
     }
 }
 
@@ -76,18 +64,13 @@ fn look(rows: &[u32], n: usize, work: &mut [u32], w: Walk) -> Walk
 fn pop(work: &mut [u32], n: usize, r: usize, number: usize, stack: usize) -> usize {
     let own = words::get(work, r);
     let mut top = stack;
-    let mut steps = n;
-    while 0 < steps {
-        if top == 0 {
+    for _ in 0..n {
+        if top == 0 || words::get(work, top - 1) < own {
             return top;
         }
-        if words::get(work, top - 1) < own {
-            return top;
-        }
-        let next = words::get(work, words::third(n, top - 1));
+        let next = words::get_at(work, n, Word::Third, top - 1);
         words::put(work, top - 1, number);
         top = next;
-        steps -= 1;
     }
     top
 }
@@ -95,232 +78,149 @@ fn pop(work: &mut [u32], n: usize, r: usize, number: usize, stack: usize) -> usi
 // All edges of the row are looked at: its component is complete, or it goes on the stack.
 fn close(work: &mut [u32], n: usize, w: Walk) -> Walk {
     let r = w.row;
-    if words::get(work, words::third(n, r)) % 2 == 0 {
+    if words::get_at(work, n, Word::Third, r) % 2 == 0 {
         let top = pop(work, n, r, w.number, w.top);
         words::put(work, r, w.number);
-        let mut number = 0;
-        if 0 < w.number {
-            number = w.number - 1;
-        }
         return Walk {
-            row: r,
             edge: 0,
-            index: w.index,
-            number: number,
-            top: top,
+            number: w.number.saturating_sub(1),
+            top,
+            ..w
         };
     }
-    words::put_third(work, n, r, w.top);
+    words::put_at(work, n, Word::Third, r, w.top);
     Walk {
-        row: r,
         edge: 0,
-        index: w.index,
-        number: w.number,
         top: words::more(r),
+        ..w
     }
 }
 
-// Goes back to the row from which the search came to this one.
-fn leave(work: &mut [u32], n: usize, w: Walk) -> Step {
-    let r = w.row;
-    let e = words::get(work, words::third(n, r)) / 2;
+// Goes back to the row from which the search came to this one; if it came from none, that was the last step.
+fn leave(work: &mut [u32], n: usize, w: Walk) -> ControlFlow<Walk, Walk> {
+    let e = words::get_at(work, n, Word::Third, w.row) / 2;
     let done = close(work, n, w);
     let from = words::get(work, words::member(e));
-    if e == 0 {
-        return Step {
-            walk: done,
-            more: false,
-        };
+    if e == 0 || from == 0 {
+        return ControlFlow::Break(done);
     }
-    if from == 0 {
-        return Step {
-            walk: done,
-            more: false,
-        };
-    }
-    lead(work, n, from - 1, r);
-    Step {
-        walk: Walk {
-            row: from - 1,
-            edge: words::after(work, n, e),
-            index: done.index,
-            number: done.number,
-            top: done.top,
-        },
-        more: true,
-    }
+    lead(work, n, from - 1, w.row);
+    ControlFlow::Continue(Walk {
+        row: from - 1,
+        edge: words::after(work, n, e),
+        ..done
+    })
 }
 
 // One step of the search.
-fn advance(rows: &[u32], n: usize, work: &mut [u32], w: Walk) -> Step
-    requires { Held rows.now n }
-{
+fn advance(table: &Table, work: &mut [u32], w: Walk) -> ControlFlow<Walk, Walk> {
     if w.edge == 0 {
-        return leave(work, n, w);
+        return leave(work, table.n, w);
     }
-    Step {
-        walk: look(rows, n, work, w),
-        more: true,
-    }
+    ControlFlow::Continue(look(table, work, w))
 }
 
 // Searches from row r.
-fn search(rows: &[u32], n: usize, work: &mut [u32], w: Walk, r: usize) -> Walk
-    requires { Held rows.now n }
-{
-    let mut s = Step {
-        walk: enter(work, n, w, r, 0),
-        more: true,
-    };
-    let mut steps = 4 * n + 4;
-    while 0 < steps {
-        if !s.more {
-            return s.walk;
+fn search(table: &Table, work: &mut [u32], start: Walk, r: usize) -> Walk {
+    let mut w = enter(work, table.n, start, r, 0);
+    for _ in 0..4 * table.n + 4 {
+        match advance(table, work, w) {
+            ControlFlow::Continue(next) => w = next,
+            ControlFlow::Break(last) => return last,
         }
-        s = advance(rows, n, work, s.walk);
-        steps -= 1;
     }
-    s.walk
+    w
 }
 
 // Searches from row r, if it is a definition that is not numbered.
-fn search_row<'a>(
-    document: &'a [u8],
-    text: &'a [u8],
-    rows: &[u32],
-    n: usize,
-    work: &mut [u32],
-    w: Walk,
-    r: usize,
-) -> Walk
-    requires { (Held rows.now n) × (r < n) }
+fn search_row(table: &Table, work: &mut [u32], w: Walk, r: usize) -> Walk
+    requires { r < table.now.n }
 {
-    if !definitions::is_definition(document, text, rows, r) {
+    if !definitions::is_definition(table, r) || words::get(work, r) != 0 {
         return w;
     }
-    if words::get(work, r) != 0 {
-        return w;
-    }
-    search(rows, n, work, w, r)
+    search(table, work, w, r)
 }
 
 // The same for all rows.
-fn search_all<'a>(document: &'a [u8], text: &'a [u8], rows: &[u32], n: usize, work: &mut [u32])
-    requires { Held rows.now n }
-{
+fn search_all(table: &Table, work: &mut [u32]) {
     let mut w = Walk {
         row: 0,
         edge: 0,
         index: 2,
-        number: 2 * n + 2,
+        number: 2 * table.n + 2,
         top: 0,
     };
-    let mut r = 0;
-    while r < n {
-        w = search_row(document, text, rows, n, work, w, r);
-        r += 1;
+    for r in 0..table.n {
+        w = search_row(table, work, w, r);
     }
 }
 
 // ---- the first row on a circle
 
 // Whether a row of row r's own component uses it.
-fn is_used(rows: &[u32], n: usize, work: &[u32], r: usize) -> bool
-    requires { Held rows.now n }
-{
+fn is_used(table: &Table, work: &[u32], r: usize) -> bool {
     let own = words::get(work, r);
-    let mut e = words::get(work, words::second(n, r));
-    let mut steps = n + n;
-    while 0 < steps {
+    let mut e = words::get_at(work, table.n, Word::Second, r);
+    for _ in 0..2 * table.n {
         if e == 0 {
             return false;
         }
-        if words::get(work, words::parent(rows, n, words::member(e))) == own {
+        if words::get(work, words::parent(table, words::member(e))) == own {
             return true;
         }
-        e = words::after(work, n, e);
-        steps -= 1;
+        e = words::after(work, table.n, e);
     }
     false
 }
 
 // Whether row r is on a circle.
-fn is_on_circle<'a>(
-    document: &'a [u8],
-    text: &'a [u8],
-    rows: &[u32],
-    n: usize,
-    work: &[u32],
-    r: usize,
-) -> bool
-    requires { (Held rows.now n) × (r < n) }
+fn is_on_circle(table: &Table, work: &[u32], r: usize) -> bool
+    requires { r < table.now.n }
 {
-    if !definitions::is_definition(document, text, rows, r) {
-        return false;
-    }
-    if words::get(work, r) == 1 {
-        return false;
-    }
-    is_used(rows, n, work, r)
+    definitions::is_definition(table, r) && words::get(work, r) != 1 && is_used(table, work, r)
 }
 
-// The first such row, or n.
-fn first_on_circle<'a>(
-    document: &'a [u8],
-    text: &'a [u8],
-    rows: &[u32],
-    n: usize,
-    work: &[u32],
-) -> usize
-    requires { Held rows.now n }
-{
-    let mut r = 0;
-    while r < n {
-        if is_on_circle(document, text, rows, n, work, r) {
-            return r;
+// The first such row.
+fn first_on_circle(table: &Table, work: &[u32]) -> Option<usize> {
+    for r in 0..table.n {
+        if is_on_circle(table, work, r) {
+            return Some(r);
         }
-        r += 1;
     }
-    n
+    None
 }
 
 // ---- a circle through it
 
 // Comes to row u by edge e, and says what the top of the stack is.
 fn reach(work: &mut [u32], n: usize, own: usize, u: usize, e: usize, top: usize) -> usize {
-    if words::get(work, u) != own {
+    if words::get(work, u) != own || words::get_at(work, n, Word::Third, u) != 0 {
         return top;
     }
-    if words::get(work, words::third(n, u)) != 0 {
-        return top;
-    }
-    words::put_third(work, n, u, e);
+    words::put_at(work, n, Word::Third, u, e);
     words::put(work, words::member(e), top);
     words::more(u)
 }
 
 // The same for each edge that leads to row x.
-fn reach_all(rows: &[u32], n: usize, work: &mut [u32], own: usize, x: usize, stack: usize) -> usize
-    requires { Held rows.now n }
-{
+fn reach_all(table: &Table, work: &mut [u32], own: usize, x: usize, stack: usize) -> usize {
     let mut top = stack;
-    let mut e = words::get(work, words::second(n, x));
-    let mut steps = n + n;
-    while 0 < steps {
+    let mut e = words::get_at(work, table.n, Word::Second, x);
+    for _ in 0..2 * table.n {
         if e == 0 {
             return top;
         }
-        let u = words::parent(rows, n, words::member(e));
-        top = reach(work, n, own, u, e, top);
-        e = words::after(work, n, e);
-        steps -= 1;
+        let u = words::parent(table, words::member(e));
+        top = reach(work, table.n, own, u, e, top);
+        e = words::after(work, table.n, e);
     }
     top
 }
 
 // What comes after row x on the stack.
 fn below(work: &[u32], n: usize, x: usize) -> usize {
-    let e = words::get(work, words::third(n, x));
+    let e = words::get_at(work, n, Word::Third, x);
     if e == 0 {
         return 0;
     }
@@ -328,99 +228,62 @@ fn below(work: &[u32], n: usize, x: usize) -> usize {
 }
 
 // Leaves in work[2n + r] of each row r on a circle through row p the edge to the next.
-fn note_circle(rows: &[u32], n: usize, work: &mut [u32], p: usize)
-    requires { Held rows.now n }
-{
+fn note_circle(table: &Table, work: &mut [u32], p: usize) {
     let own = words::get(work, p);
     let mut top = words::more(p);
-    let mut steps = n;
-    while 0 < steps {
-        if top == 0 {
-            return;
-        }
-        if words::get(work, words::third(n, p)) != 0 {
+    for _ in 0..table.n {
+        if top == 0 || words::get_at(work, table.n, Word::Third, p) != 0 {
             return;
         }
         let x = top - 1;
-        let next = below(work, n, x);
-        top = reach_all(rows, n, work, own, x, next);
-        steps -= 1;
+        let next = below(work, table.n, x);
+        top = reach_all(table, work, own, x, next);
     }
 }
 
 // ---- what is left for the check
 
 // No edge of row r is noted, if it was not given out.
-fn forget<'a>(
-    document: &'a [u8],
-    text: &'a [u8],
-    rows: &[u32],
-    n: usize,
-    work: &mut [u32],
-    r: usize,
-)
-    requires { (Held rows.now n) × (r < n) }
+fn forget(table: &Table, work: &mut [u32], r: usize)
+    requires { r < table.now.n }
 {
-    if definitions::is_definition(document, text, rows, r) {
-        if words::get(work, r) != 1 {
-            words::put_third(work, n, r, 0);
-        }
+    if definitions::is_definition(table, r) && words::get(work, r) != 1 {
+        words::put_at(work, table.n, Word::Third, r, 0);
     }
 }
 
-fn forget_all<'a>(document: &'a [u8], text: &'a [u8], rows: &[u32], n: usize, work: &mut [u32])
-    requires { Held rows.now n }
-{
-    let mut r = 0;
-    while r < n {
-        forget(document, text, rows, n, work, r);
-        r += 1;
+fn forget_all(table: &Table, work: &mut [u32]) {
+    for r in 0..table.n {
+        forget(table, work, r);
     }
 }
 
 // The number of row r, if it was not given out, where the check looks for it.
-fn settle<'a>(
-    document: &'a [u8],
-    text: &'a [u8],
-    rows: &[u32],
-    n: usize,
-    work: &mut [u32],
-    r: usize,
-)
-    requires { (Held rows.now n) × (r < n) }
+fn settle(table: &Table, work: &mut [u32], r: usize)
+    requires { r < table.now.n }
 {
-    if definitions::is_definition(document, text, rows, r) {
+    if definitions::is_definition(table, r) {
         let number = words::get(work, r);
         if number != 1 {
-            words::put_second(work, n, r, number);
+            words::put_at(work, table.n, Word::Second, r, number);
         }
     }
 }
 
-fn settle_all<'a>(document: &'a [u8], text: &'a [u8], rows: &[u32], n: usize, work: &mut [u32])
-    requires { Held rows.now n }
-{
-    let mut r = 0;
-    while r < n {
-        settle(document, text, rows, n, work, r);
-        r += 1;
+fn settle_all(table: &Table, work: &mut [u32]) {
+    for r in 0..table.n {
+        settle(table, work, r);
     }
 }
 
 // Numbers the rows that are not given out, notes a circle through the first row on one, and says which that is.
-pub fn number<'a>(
-    document: &'a [u8],
-    text: &'a [u8],
-    rows: &[u32],
-    n: usize,
-    work: &mut [u32],
-) -> usize
-    requires { Held rows.now n }
-{
-    search_all(document, text, rows, n, work);
-    let p = first_on_circle(document, text, rows, n, work);
-    forget_all(document, text, rows, n, work);
-    note_circle(rows, n, work, p);
-    settle_all(document, text, rows, n, work);
-    p
+pub fn number(table: &Table, work: &mut [u32]) -> Option<usize> {
+    search_all(table, work);
+    let circled = first_on_circle(table, work);
+    forget_all(table, work);
+    if let Some(p) = circled {
+        note_circle(table, work, p);
+    }
+    settle_all(table, work);
+    circled
 }

@@ -3,18 +3,29 @@
 // 0 for none. Each chain of rows ascends. The bits of the hash spare most looks at rows of other names.
 ghost use Rattle.std.specs.Prelude.{◌+◌, ◌*◌, ◌≤◌, ◌<◌, ◌≡◌, length};
 ghost use Rattle.slices.specs.Hash.{HashIs};
-ghost use Rattle.items.specs.Words.{rows_shown};
-ghost use Rattle.order.specs.Steps.{Held, HasName, FirstNamed, FirstElement, Named, Target};
+ghost use Rattle.order.specs.Table.{of, over, shown_rows};
+ghost use Rattle.order.specs.Steps.{HasName, FirstNamed, FirstElement, Named, Target};
 ghost use Rattle.order.specs.Index.{HashAt, Spread, WordIs, RowOf, Tagged, IndexedFrom, Indexed, Built};
 
 use super::definitions;
+use super::table::Table;
+
+// An index of a table: a word for each bucket, and a word for each row.
+#[derive(Clone, Copy)]
+pub struct Index<'a, 't> {
+    pub table: &'a Table<'t>,
+    pub heads: &'a [u32],
+    pub work: &'a [u32],
+    ghost indexed: { over Indexed table.now heads.now work.now },
+}
 
 // The hash of the name of row i.
-fn hash_at<'a>(document: &'a [u8], text: &'a [u8], rows: &[u32], i: usize) -> u32
-    requires { i * 16 + 16 ≤ length rows.now }
-    ensures { HashAt document.now text.now rows.now i result }
+#[tactic(auto, using(crate::proofs::Indexing::hashes))]
+fn hash_at(table: &Table, i: usize) -> u32
+    requires { i * 16 + 16 ≤ length table.now.rows.now }
+    ensures { of HashAt table.now i result }
 {
-    slices::hash(tables::lookup(document, text, items::triple(rows, i, 2)))
+    slices::hash(tables::lookup(table.document, table.text, items::triple(table.rows, i, 2)))
 }
 
 // The bucket of a hash, of so many.
@@ -34,22 +45,13 @@ fn word_for(k: usize, f: u32) -> u32
 }
 
 // Puts row k before the rows of its bucket, if it is a type definition.
-fn enter<'a>(
-    document: &'a [u8],
-    text: &'a [u8],
-    rows: &[u32],
-    n: usize,
-    heads: &mut [u32],
-    work: &mut [u32],
-    k: usize,
-)
-    requires fact_1 { Held rows.now n }
-    requires fact_2 { k < n }
-    requires fact_3 { IndexedFrom document.now text.now rows.now n (k + 1) heads.old work.old }
-    ensures { Built document.now text.now rows.now n k heads.old work.old heads.new work.new }
+fn enter(table: &Table, heads: &mut [u32], work: &mut [u32], k: usize)
+    requires member { k < table.now.n }
+    requires indexed { over IndexedFrom table.now (k + 1) heads.old work.old }
+    ensures { over Built table.now k heads.old work.old heads.new work.new }
 {
-    if definitions::is_definition(document, text, rows, k) {
-        let f = hash_at(document, text, rows, k);
+    if definitions::is_definition(table, k) {
+        let f = hash_at(table, k);
         let h = bucket(f, heads.len());
         work[k] = heads[h];
         heads[h] = word_for(k, f);
@@ -58,24 +60,17 @@ fn enter<'a>(
 }
 
 // Makes the index of n rows, from the last one down. Of the words lent for work the first n may be written.
-pub fn build<'a>(
-    document: &'a [u8],
-    text: &'a [u8],
-    rows: &[u32],
-    n: usize,
-    heads: &mut [u32],
-    work: &mut [u32],
-)
-    requires fact_1 { Held rows.now n }
-    requires fact_2 { 0 < length heads.old }
-    requires fact_3 { n ≤ length work.old }
-    ensures { Built document.now text.now rows.now n 0 heads.old work.old heads.new work.new }
+#[tactic(auto, using(crate::proofs::Indexing::building))]
+pub fn build(table: &Table, heads: &mut [u32], work: &mut [u32])
+    requires some_heads { 0 < length heads.old }
+    requires work_room { table.now.n ≤ length work.old }
+    ensures { over Built table.now 0 heads.old work.old heads.new work.new }
 {
     tables::clear_words(heads, 0);
-    let mut k = n;
+    let mut k = table.n;
     while 0 < k {
         k -= 1;
-        enter(document, text, rows, n, heads, work, k);
+        enter(table, heads, work, k);
     }
 }
 
@@ -91,132 +86,72 @@ fn row_of(word: u32, n: usize) -> usize
 }
 
 // Whether row k is a type definition of a name, of hash f: the word for the row tells most others.
-fn is_named<'a>(
-    document: &'a [u8],
-    text: &'a [u8],
-    rows: &[u32],
-    k: usize,
-    word: u32,
-    f: u32,
-    name: &[u8],
-) -> bool
-    requires fact_1 { k * 16 + 16 ≤ length rows.now }
-    requires fact_2 { Tagged document.now text.now rows.now k word }
-    requires fact_3 { HashIs name.now f }
-    ensures { HasName document.now text.now rows.now k name.now result }
+#[tactic(auto, using(crate::proofs::Indexing::tags))]
+fn is_named(table: &Table, k: usize, word: u32, f: u32, name: &[u8]) -> bool
+    requires held { k * 16 + 16 ≤ length table.now.rows.now }
+    requires tagged { of Tagged table.now k word }
+    requires hashed { HashIs name.now f }
+    ensures { of HasName table.now k name.now result }
 {
     if word / 524288 != f / 524288 {
         return false;
     }
-    definitions::has_name(document, text, rows, k, name)
+    definitions::has_name(table, k, name)
 }
 
 // The first of n rows that is a type definition of a name, or n: along the rows of the name's bucket.
-fn first_named<'a>(
-    document: &'a [u8],
-    text: &'a [u8],
-    rows: &[u32],
-    n: usize,
-    heads: &[u32],
-    work: &[u32],
-    name: &[u8],
-) -> usize
-    requires fact_1 { n * 16 ≤ length rows.now }
-    requires fact_2 { Indexed document.now text.now rows.now n heads.now work.now }
-    ensures { FirstNamed (rows_shown document.now text.now rows.now n) name.now n result }
+#[tactic(auto, using(crate::proofs::Indexing::follows))]
+fn first_named(by_name: &Index, name: &[u8]) -> usize
+    ensures { FirstNamed (shown_rows by_name.now.table.now) name.now by_name.now.table.now.n result }
 {
     let f = slices::hash(name);
-    let h = bucket(f, heads.len());
-    let mut word = heads[h];
-    let mut k = row_of(word, n);
-    while k < n {
-        if is_named(document, text, rows, k, word, f, name) {
+    let h = bucket(f, by_name.heads.len());
+    let mut word = by_name.heads[h];
+    let mut k = row_of(word, by_name.table.n);
+    while k < by_name.table.n {
+        if is_named(by_name.table, k, word, f, name) {
             return k;
         }
-        word = work[k];
-        k = row_of(word, n);
+        word = by_name.work[k];
+        k = row_of(word, by_name.table.n);
     }
-    n
+    by_name.table.n
 }
 
 // The same row for what stands before the `[]` at the end of a type.
-fn first_element<'a>(
-    document: &'a [u8],
-    text: &'a [u8],
-    rows: &[u32],
-    n: usize,
-    heads: &[u32],
-    work: &[u32],
-    tp: &[u8],
-) -> usize
-    requires fact_1 { n * 16 ≤ length rows.now }
-    requires fact_2 { Indexed document.now text.now rows.now n heads.now work.now }
-    ensures { FirstElement (rows_shown document.now text.now rows.now n) tp.now n result }
+fn first_element(by_name: &Index, tp: &[u8]) -> usize
+    ensures { FirstElement (shown_rows by_name.now.table.now) tp.now by_name.now.table.now.n result }
 {
     let end = definitions::last_two(tp);
     if definitions::is_array(tp, end) {
-        return first_named(
-            document,
-            text,
-            rows,
-            n,
-            heads,
-            work,
-            definitions::element(tp, end),
-        );
+        return first_named(by_name, definitions::element(tp, end));
     }
-    n
+    by_name.table.n
 }
 
 // The row that a type names as it is, or less the `[]` at its end.
-fn find<'a>(
-    document: &'a [u8],
-    text: &'a [u8],
-    rows: &[u32],
-    n: usize,
-    heads: &[u32],
-    work: &[u32],
-    less: bool,
-    tp: &[u8],
-) -> usize
-    requires fact_1 { n * 16 ≤ length rows.now }
-    requires fact_2 { Indexed document.now text.now rows.now n heads.now work.now }
-    ensures { Named (rows_shown document.now text.now rows.now n) less tp.now n result }
+fn find(by_name: &Index, less: bool, tp: &[u8]) -> usize
+    ensures { Named (shown_rows by_name.now.table.now) less tp.now by_name.now.table.now.n result }
 {
     if less {
-        return first_element(document, text, rows, n, heads, work, tp);
+        return first_element(by_name, tp);
     }
-    first_named(document, text, rows, n, heads, work, tp)
+    first_named(by_name, tp)
 }
 
 // The same for the tp type of row m, if it has one.
-pub fn find_target<'a>(
-    document: &'a [u8],
-    text: &'a [u8],
-    rows: &[u32],
-    n: usize,
-    heads: &[u32],
-    work: &[u32],
-    less: bool,
-    m: usize,
-) -> usize
-    requires fact_1 { n * 16 ≤ length rows.now }
-    requires fact_2 { m * 16 + 16 ≤ length rows.now }
-    requires fact_3 { Indexed document.now text.now rows.now n heads.now work.now }
-    ensures { Target document.now text.now rows.now n less m result }
+#[tactic(auto, using(crate::proofs::Finding::tps))]
+pub fn find_target(by_name: &Index, less: bool, m: usize) -> usize
+    requires { m * 16 + 16 ≤ length by_name.now.table.now.rows.now }
+    ensures { over Target by_name.now.table.now less m result }
 {
-    let tp = items::triple(rows, m, 8);
+    let tp = items::triple(by_name.table.rows, m, 8);
     if items::is_absent(tp) {
-        return n;
+        return by_name.table.n;
     }
     find(
-        document,
-        text,
-        rows,
-        n,
-        heads,
-        work,
+        by_name,
         less,
-        tables::lookup(document, text, tp),
+        tables::lookup(by_name.table.document, by_name.table.text, tp),
     )
 }

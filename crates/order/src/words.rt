@@ -1,7 +1,8 @@
 // Words lent for work, read and written with no demand on places, and edges in them (candidate.rt says what an edge is).
 ghost use Rattle.std.specs.Prelude.{◌≡◌, ◌≤◌, ◌<◌, length};
-ghost use Rattle.order.specs.Steps.{Held};
 ghost use Rattle.order.specs.Certificate.{Wide, Got, Kept, MemberOf, LessOf};
+
+use super::table::Table;
 
 // A word as a number.
 pub fn wide(x: u32) -> usize
@@ -44,63 +45,55 @@ pub fn get(work: &[u32], k: usize) -> usize
 pub fn put(work: &mut [u32], k: usize, v: usize)
     ensures { Kept k work.old work.new }
 {
-    if k < work.len() {
-        if v <= 4294967295 {
-            work[k] = v as u32;
-        }
+    if k < work.len() && v <= 4294967295 {
+        work[k] = v as u32;
     }
 }
 
-// The place of the second word of row r of n rows, and of the third.
-pub fn second(n: usize, r: usize) -> usize
+// The words of a row past its first.
+#[derive(Clone, Copy)]
+pub enum Word {
+    Second,
+    Third,
+}
+
+// The place of such a word of row r of n rows.
+fn place(n: usize, word: Word, r: usize) -> usize
     ensures { n ≤ result }
 {
-    if r < 4294967296 {
-        if n <= 262144 {
-            return n + r;
-        }
+    if 4294967296 <= r || 262144 < n {
+        return n;
     }
-    n
+    match word {
+        Word::Second => n + r,
+        Word::Third => n + n + r,
+    }
 }
 
-pub fn third(n: usize, r: usize) -> usize
-    ensures { n ≤ result }
+// That word.
+pub fn get_at(work: &[u32], n: usize, word: Word, r: usize) -> usize
+    ensures { result ≤ 4294967295 }
 {
-    if r < 4294967296 {
-        if n <= 262144 {
-            return n + n + r;
-        }
-    }
-    n
+    get(work, place(n, word, r))
 }
 
-// Puts v at the second word of row r, and at the third.
-pub fn put_second(work: &mut [u32], n: usize, r: usize, v: usize)
+// Puts v there.
+pub fn put_at(work: &mut [u32], n: usize, word: Word, r: usize, v: usize)
     ensures { Kept n work.old work.new }
 {
-    put(work, second(n, r), v);
-}
-
-pub fn put_third(work: &mut [u32], n: usize, r: usize, v: usize)
-    ensures { Kept n work.old work.new }
-{
-    put(work, third(n, r), v);
+    put(work, place(n, word, r), v);
 }
 
 // The row that row m is in, or n.
-pub fn parent(rows: &[u32], n: usize, m: usize) -> usize
-    requires { Held rows.now n }
-    ensures { result ≤ n }
+pub fn parent(table: &Table, m: usize) -> usize
+    ensures { result ≤ table.now.n }
 {
-    if n <= m {
-        return n;
+    if table.n <= m {
+        return table.n;
     }
-    let up = wide(items::word(rows, m, 1));
-    if up == 0 {
-        return n;
-    }
-    if n < up {
-        return n;
+    let up = wide(items::word(table.rows, m, 1));
+    if up == 0 || table.n < up {
+        return table.n;
     }
     up - 1
 }
@@ -122,26 +115,24 @@ pub fn is_less(e: usize) -> bool
     e % 2 == 0
 }
 
-// The place of the edge that comes after edge e in its list.
-pub fn slot(n: usize, e: usize) -> usize
-    ensures { n ≤ result }
-{
+// Where the edge that comes after edge e in its list stands among the words of its member.
+fn link_of(e: usize) -> Word {
     if is_less(e) {
-        return third(n, member(e));
+        return Word::Third;
     }
-    second(n, member(e))
+    Word::Second
 }
 
 // That edge.
 pub fn after(work: &[u32], n: usize, e: usize) -> usize
     ensures { result ≤ 4294967295 }
 {
-    get(work, slot(n, e))
+    get_at(work, n, link_of(e), member(e))
 }
 
 // Puts edge v after edge e.
 pub fn put_after(work: &mut [u32], n: usize, e: usize, v: usize)
     ensures { Kept n work.old work.new }
 {
-    put(work, slot(n, e), v);
+    put_at(work, n, link_of(e), member(e), v);
 }

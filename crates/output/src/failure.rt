@@ -1,12 +1,34 @@
-// What failed, told on standard error.
+// What a program could not do, told on standard error.
 use std::io::{Error, Write};
 
-// The text of an error without its number, which stands behind the system's reason as ` (os error 21)`.
-fn reason<'a>(text: &'a [u8], why: Error) -> &'a [u8] {
-    if why.raw_os_error().is_none() {
-        return text;
+// What failed, and why.
+#[derive(Clone, Copy)]
+pub enum Failure {
+    Reading(Error),
+    Writing(Error),
+}
+
+impl Failure {
+    // Says so as a line that begins with the program's name.
+    pub fn tell<P: Print>(self, to: &P, program: &[u8]) {
+        match self {
+            Failure::Reading(why) => put_line(to, program, b": cannot read standard input: ", why),
+            Failure::Writing(why) => put_line(
+                to,
+                program,
+                b": cannot write standard output: ",
+                why,
+            ),
+        }
     }
-    match text.iter().rposition(|b| *b == b'(') {
+}
+
+// The text of an error without its number, which stands behind the system's reason as ` (os error 21)`.
+fn reason(text: &[u8], why: Error) -> &[u8] {
+    let number = why
+        .raw_os_error()
+        .and_then(|_| text.iter().rposition(|b| *b == b'('));
+    match number {
         None => text,
         Some(at) => crate::front(text, at.saturating_sub(1)),
     }
@@ -20,12 +42,12 @@ fn put_text(text: &mut [u8], why: Error) -> usize {
     room.saturating_sub(rest.len())
 }
 
-// Says what failed, and the system's reason, as a line. Where that cannot be told either, there is nobody to tell.
-pub fn fail<P: Print>(to: &P, what: &[u8], why: Error) {
+// Where this cannot be told either, there is nobody to tell.
+fn put_line<P: Print>(to: &P, program: &[u8], what: &[u8], why: Error) {
     let mut text = [0u8; 512];
     let n = put_text(&mut text, why);
+    let _ = to.write_all(program);
     let _ = to.write_all(what);
-    let _ = to.write_all(b": ");
     let _ = to.write_all(reason(crate::front(&text, n), why));
     let _ = to.write_all(b"\n");
 }

@@ -1,49 +1,19 @@
 // Reading what a reader gives into a buffer that the caller lends.
-ghost use Rattle.std.specs.Prelude.{◌≤◌, length};
+ghost use Rattle.std.specs.Prelude.{◌≤◌, length, IfOk};
 
-use std::io::{Error, Read};
+use std::io::{Read, Result};
 
-// What reading has come to: whether it failed, and why, and how many bytes there are.
-#[derive(Clone, Copy)]
-pub struct Came {
-    pub failed: Option<Error>,
-    pub end: usize,
-}
-
-// One read, behind the bytes that are there.
-fn read_some<R: Read>(reader: &mut R, buffer: &mut [u8], n: usize) -> Came
-    requires { n ≤ length buffer.old }
-    ensures { (n ≤ result.end) × (result.end ≤ length buffer.old) }
-{
-    match reader.read(&mut buffer[n..]) {
-        Ok(k) => Came {
-            failed: None,
-            end: n + k,
-        },
-        Err(why) => Came {
-            failed: Some(why),
-            end: n,
-        },
-    }
-}
-
-// Reads until the input ends, the buffer is full or a read fails.
-pub fn read_all<R: Read>(reader: &mut R, buffer: &mut [u8]) -> Came
-    ensures { result.end ≤ length buffer.old }
+// Reads until the input ends or the buffer is full, and answers how many bytes there are.
+pub fn read_all<R: Read>(reader: &mut R, buffer: &mut [u8]) -> Result<usize>
+    ensures { IfOk result (λ n. n ≤ length buffer.old) }
 {
     let mut n = 0;
     while n < buffer.len() {
-        let came = read_some(reader, buffer, n);
-        if came.failed.is_some() {
-            return came;
+        let more = reader.read(&mut buffer[n..])?;
+        if more == 0 {
+            return Ok(n);
         }
-        if came.end == n {
-            return came;
-        }
-        n = came.end;
+        n += more;
     }
-    Came {
-        failed: None,
-        end: n,
-    }
+    Ok(n)
 }

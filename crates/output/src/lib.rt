@@ -1,172 +1,76 @@
-// Standard output, or what else a handle prints to, through a buffer that the caller lends: each function takes how many bytes the buffer holds,
-// and answers how many it holds then. Where a full buffer cannot be written out the answer is why, and nothing more is put.
+// What the programs share: what they print goes through a buffer, `failure` tells what went wrong, and `input` reads all that comes.
 #![tactic(auto)]
 
 ghost use Rattle.std.specs.Prelude.{◌≡◌, ◌≤◌, length};
 
-use std::io::Result;
+use std::io::{Result, Write};
 
 pub mod failure;
 pub mod input;
 
-// 65,536 zeros.
-pub fn large_buffer() -> [u8; 65536]
-    ensures { 65536 ≡ length result }
+// An array of one item over and over. A proof about a caller then has its length, and does not look at the items one by one.
+pub fn filled<T: Copy, const N: usize>(item: T) -> [T; N]
+    ensures { N ≡ length result }
 {
-    [0; 65536]
+    [item; N]
 }
 
-// Puts a byte; a full buffer is written out first.
-pub fn put<P: Print>(to: &P, out: &mut [u8], n: usize, b: u8) -> Result<usize> {
-    if n < out.len() {
-        out[n] = b;
-        return Ok(n + 1);
-    }
-    flush(to, out, n)?;
-    if 0 < out.len() {
-        out[0] = b;
-        return Ok(1);
-    }
-    Ok(0)
+// A writer with a buffer before it, as std's `BufWriter`, but with no heap: the first `held` bytes are still to be written out.
+#[derive(Drop)]
+pub struct Sink<W> {
+    to: W,
+    buffer: [u8; 65536],
+    held: usize,
+    ghost fits: { held ≤ 65536 },
 }
 
-// Puts all bytes of a slice.
-pub fn put_bytes<P: Print>(to: &P, out: &mut [u8], n: usize, bytes: &[u8]) -> Result<usize> {
-    let mut m = n;
-    let mut i = 0;
-    while i < bytes.len() {
-        m = put(to, out, m, bytes[i])?;
-        i += 1;
-    }
-    Ok(m)
-}
-
-// Puts a number in decimal digits.
-pub fn put_number<P: Print>(to: &P, out: &mut [u8], n: usize, x: u64) -> Result<usize> {
-    let mut digits = [0u8; 20];
-    let k = io::decimal(x, &mut digits);
-    put_bytes(to, out, n, &digits[..k])
-}
-
-// Puts a space and a number.
-pub fn put_word<P: Print>(to: &P, out: &mut [u8], n: usize, x: u64) -> Result<usize> {
-    let m = put(to, out, n, b' ')?;
-    put_number(to, out, m, x)
-}
-
-// Puts a word, then two numbers.
-fn put_two<P: Print>(
-    to: &P,
-    out: &mut [u8],
-    n: usize,
-    word: &[u8],
-    a: u64,
-    b: u64,
-) -> Result<usize> {
-    let m = put_bytes(to, out, n, word)?;
-    let k = put_word(to, out, m, a)?;
-    put_word(to, out, k, b)
-}
-
-// Puts a refusal's number and place.
-pub fn put_refused<P: Print>(
-    to: &P,
-    out: &mut [u8],
-    n: usize,
-    number: u32,
-    place: usize,
-) -> Result<usize> {
-    put_two(to, out, n, b"refused", number as u64, place as u64)
-}
-
-// Puts how many bytes were written.
-pub fn put_done<P: Print>(to: &P, out: &mut [u8], n: usize, count: usize) -> Result<usize> {
-    let m = put_bytes(to, out, n, b"done")?;
-    put_word(to, out, m, count as u64)
-}
-
-// Puts the counts of rows, text bytes and warnings.
-pub fn put_counts<P: Print>(
-    to: &P,
-    out: &mut [u8],
-    n: usize,
-    r: usize,
-    t: usize,
-    w: usize,
-) -> Result<usize> {
-    let m = put_two(to, out, n, b"ok", r as u64, t as u64)?;
-    put_word(to, out, m, w as u64)
-}
-
-// Puts as many bytes as have room behind the first n, writes none out, and answers how many there are then.
-pub fn append(buffer: &mut [u8], n: usize, bytes: &[u8]) -> usize {
-    let mut i = 0;
-    let mut m = n;
-    while i < bytes.len() {
-        if m >= buffer.len() {
-            return m;
+impl<W: Write> Sink<W> {
+    pub fn new(to: W) -> Sink<W> {
+        Sink {
+            to,
+            buffer: filled(0),
+            held: 0,
         }
-        buffer[m] = bytes[i];
-        m += 1;
-        i += 1;
     }
-    m
+
+    // Writes out what the buffer holds.
+    fn write_out(&mut self) -> Result<()> {
+        self.to.write_all(&self.buffer[..self.held])?;
+        self.held = 0;
+        Ok(())
+    }
 }
 
-// Writes out what the buffer holds.
-pub fn flush<P: Print>(to: &P, out: &[u8], n: usize) -> Result<()> {
-    to.write_all(front(out, n))
+impl<W: Write> Write for Sink<W> {
+    // Puts as many bytes as have room; a full buffer is written out first.
+    fn write(&mut self, bytes: &[u8]) -> Result<usize> {
+        if self.held == self.buffer.len() {
+            self.write_out()?;
+        }
+        let count = bytes.len().min(self.buffer.len() - self.held);
+        self.buffer[self.held..self.held + count].copy_from_slice(&bytes[..count]);
+        self.held += count;
+        Ok(count)
+    }
+
+    fn flush(&mut self) -> Result<()> {
+        self.write_out()?;
+        self.to.flush()
+    }
 }
 
-pub fn least(a: usize, b: usize) -> usize
-    ensures { result ≤ b }
-{
-    if a < b {
-        return a;
-    }
-    b
-}
-
-// The first n bytes, or all where there are fewer.
-pub fn front<'a>(s: &'a [u8], n: usize) -> &'a [u8] {
-    if n <= s.len() {
-        let from = 0;
-        return &s[from..n];
-    }
-    s
+// The first n items, or all where there are fewer.
+pub fn front<T>(s: &[T], n: usize) -> &[T] {
+    &s[..n.min(s.len())]
 }
 
 // What follows the first n bytes; nothing where there are fewer.
-pub fn after<'a>(s: &'a [u8], n: usize) -> &'a [u8] {
-    if n <= s.len() {
-        return &s[n..];
-    }
-    &s[..0]
+pub fn after(s: &[u8], n: usize) -> &[u8] {
+    &s[n.min(s.len())..]
 }
 
-// The same of bytes that may be changed.
-pub fn front_mut<'a>(s: &'a mut [u8], n: usize) -> &'a mut [u8] {
-    if n <= s.len() {
-        let from = 0;
-        return &mut s[from..n];
-    }
-    s
-}
-
-// The first n words, or all where there are fewer.
-pub fn front_words<'a>(s: &'a [u32], n: usize) -> &'a [u32] {
-    if n <= s.len() {
-        let from = 0;
-        return &s[from..n];
-    }
-    s
-}
-
-// The same of words that may be changed.
-pub fn front_words_mut<'a>(s: &'a mut [u32], n: usize) -> &'a mut [u32] {
-    if n <= s.len() {
-        let from = 0;
-        return &mut s[from..n];
-    }
-    s
+// The first n items, or all where there are fewer, to be changed.
+pub fn front_mut<T>(s: &mut [T], n: usize) -> &mut [T] {
+    let end = n.min(s.len());
+    &mut s[..end]
 }

@@ -15,8 +15,9 @@ use lib.Seq.{drop-cons, drop-drop, length-take-le}
 use Rattle.slices.specs.Bytes.{if, bytes, starts}
 use Rattle.slices.proofs.Runs.{starts_fits}
 use Rattle.scan.specs.Ignorable.{Scans, seek}
-use Rattle.scan.specs.declared.Scan.{Scan}
-use Rattle.scan.specs.declared.Scan.TheVariants.{Fault, At}
+use Rattle.std.proofs.Common.{Result, Ok, Err}
+use Rattle.faults.specs.Fault.{fault}
+use Rattle.faults.specs.declared.Fault.{Fault}
 use Rattle.profile.specs.Profile.{comment_fault}
 use Rattle.profile.specs.After.{space, space_first, instruction, comment, misc, further, after_from, after_fault, Tells}
 
@@ -30,36 +31,36 @@ space_last b i j k = rw (ne_eqb b 0x20 i, ne_eqb b 0x9 j, ne_eqb b 0xd k)
 pub ruleset spaces = (space-one, space_last, rules)
 
 -- a key that is found has room before the end
-seek_far : (n : ℕ) (key : List ℕ) (c : ℕ) (l : List ℕ) (p q : ℕ) → seek n key c l p ≡ At q → p + length key ≤ q
+seek_far : (n : ℕ) (key : List ℕ) (c : ℕ) (l : List ℕ) (p q : ℕ) → seek n key c l p ≡ Ok q → p + length key ≤ q
 seek_far n key c [] p q e = let z : ◌≡◌ {A = ℕ} 0 1 = cc in absurd (omega arith)
 seek_far n key c (b ∷ l) p q e = go (starts key (b ∷ l)) e (λ f. seek_far n key c l (suc p) q f)
   where
-    go : (t : Bool) → if t (At (p + length key)) (seek n key c l (suc p)) ≡ At q → (seek n key c l (suc p) ≡ At q → suc p + length key ≤ q) → p + length key ≤ q
+    go : (t : Bool) → if t (Ok (p + length key)) (seek n key c l (suc p)) ≡ Ok q → (seek n key c l (suc p) ≡ Ok q → suc p + length key ≤ q) → p + length key ≤ q
     go true e r = let z : p + length key ≡ q = cc in omega arith
     go false e r = let z = r e in omega arith
 
-module _ (s : List ℕ) (at : ℕ) {x : Scan} (c : Scans (seek 29 (bytes "?>") (at + 2)) s (at + 2) x) where
-  pub instruction_open : {n p : ℕ} → x ≡ Fault n p → Tells instruction s at (Fault 29 at)
+module _ (s : List ℕ) (at : ℕ) {x : Result ℕ Fault} (c : Scans (seek 29 (bytes "?>") (at + 2)) s (at + 2) x) where
+  pub instruction_open : {f g : Fault} → x ≡ Err f → g ≡ fault 29 at → Tells instruction s at (Err g)
   unfolding instruction
-  instruction_open e = record { is = rw (drop-drop 2 at s, ← c.is, e); onward = tt }
+  instruction_open e i = record { is = rw (i, drop-drop 2 at s, ← c.is, e); onward = tt }
 
-  pub instruction_closed : {p : ℕ} → x ≡ At p → Tells instruction s at (At p)
+  pub instruction_closed : {p : ℕ} → x ≡ Ok p → Tells instruction s at (Ok p)
   unfolding instruction
   instruction_closed {p} e =
-      let d : Scans (seek 29 (bytes "?>") (at + 2)) s (at + 2) (At p) = rw e at c in
+      let d : Scans (seek 29 (bytes "?>") (at + 2)) s (at + 2) (Ok p) = rw e at c in
       record { is = rw (drop-drop 2 at s, ← d.is); onward = (omega (arith, d.onward.0), d.onward.1) }
 
-module _ (s : List ℕ) (at : ℕ) {x : Scan} (c : Scans (seek 29 (bytes "-->") (at + 4)) s (at + 4) x) where
-  pub comment_open : {n p : ℕ} → x ≡ Fault n p → Tells comment s at (Fault 29 at)
+module _ (s : List ℕ) (at : ℕ) {x : Result ℕ Fault} (c : Scans (seek 29 (bytes "-->") (at + 4)) s (at + 4) x) where
+  pub comment_open : {f g : Fault} → x ≡ Err f → g ≡ fault 29 at → Tells comment s at (Err g)
   unfolding comment
-  comment_open e = record { is = rw (drop-drop 4 at s, ← c.is, e); onward = tt }
+  comment_open e i = record { is = rw (i, drop-drop 4 at s, ← c.is, e); onward = tt }
 
-  module _ {p : ℕ} (e : x ≡ At p) where
+  module _ {p : ℕ} (e : x ≡ Ok p) where
     pub comment_far : at + 7 ≤ p
     comment_far = let z = seek_far 29 (bytes "-->") (at + 4) (drop (at + 4) s) (at + 4) p (sym c.is ∙ e) in omega arith
 
     pub comment_end : p ≤ length s
-    comment_end = let d : Scans (seek 29 (bytes "-->") (at + 4)) s (at + 4) (At p) = rw e at c in d.onward.1
+    comment_end = let d : Scans (seek 29 (bytes "-->") (at + 4)) s (at + 4) (Ok p) = rw e at c in d.onward.1
 
     -- what the code asks on its way
     pub comment_three : 3 ≤ p
@@ -75,11 +76,11 @@ module _ (s : List ℕ) (at : ℕ) {x : Scan} (c : Scans (seek 29 (bytes "-->") 
     long = length-take-le (p - 3 - (at + 4)) (drop (at + 4) s) (rw (length-drop (at + 4) s) (omega (arith, comment_end)))
 
     module _ {f : ℕ} (g : f ≡ comment_fault (take (p - 3 - (at + 4)) (drop (at + 4) s))) where
-      pub comment_breach : f < p - 3 - (at + 4) → Tells comment s at (Fault 29 (at + 4 + f))
+      pub comment_breach : {b : Fault} → f < p - 3 - (at + 4) → b ≡ fault 29 (at + 4 + f) → Tells comment s at (Err b)
       unfolding comment
-      comment_breach l = record { is = rw (drop-drop 4 at s, ← c.is, e, drop-drop 4 at s, ← g, long, lt-ltb f (p - 3 - (at + 4)) l); onward = tt }
+      comment_breach l i = record { is = rw (i, drop-drop 4 at s, ← c.is, e, drop-drop 4 at s, ← g, long, lt-ltb f (p - 3 - (at + 4)) l); onward = tt }
 
-      pub comment_closed : p - 3 - (at + 4) ≤ f → Tells comment s at (At p)
+      pub comment_closed : p - 3 - (at + 4) ≤ f → Tells comment s at (Ok p)
       unfolding comment
       comment_closed l = record {
         is = rw (drop-drop 4 at s, ← c.is, e, drop-drop 4 at s, ← g, long, le-ltb f (p - 3 - (at + 4)) l);
@@ -93,7 +94,7 @@ module _ (s : List ℕ) (at : ℕ) (h : at < length s) {t : Bool} (a : t ≡ sta
   pub comment_fits : t ≡ true → at + 4 ≤ length s
   comment_fits e = let n = starts_fits (bytes "<!--") (drop at s) (sym a ∙ e) in omega (arith, n, length-drop at s)
 
-  pub misc_comment : {r : Scan} → t ≡ true → Tells comment s at r → Tells misc s at r
+  pub misc_comment : {r : Result ℕ Fault} → t ≡ true → Tells comment s at r → Tells misc s at r
   unfolding misc
   misc_comment e c = record { is = c.is ∙ rw (← a, e); onward = c.onward }
 
@@ -101,7 +102,7 @@ module _ (s : List ℕ) (at : ℕ) (h : at < length s) {t : Bool} (a : t ≡ sta
     pub instruction_fits : u ≡ true → at + 2 ≤ length s
     instruction_fits f = let n = starts_fits (bytes "<?") (drop at s) (sym b ∙ f) in omega (arith, n, length-drop at s)
 
-    pub misc_instruction : {r : Scan} → u ≡ true → Tells instruction s at r → Tells misc s at r
+    pub misc_instruction : {r : Result ℕ Fault} → u ≡ true → Tells instruction s at r → Tells misc s at r
     unfolding misc
     misc_instruction f c = record { is = c.is ∙ rw (← a, e, ← b, f); onward = c.onward }
 
@@ -109,13 +110,13 @@ module _ (s : List ℕ) (at : ℕ) (h : at < length s) {t : Bool} (a : t ≡ sta
       first : space_first (drop at s) ≡ v
       first = rw (drop-cons s at 0 h) (sym k)
 
-      pub misc_space : v ≡ true → Tells misc s at (At (at + 1))
+      pub misc_space : v ≡ true → Tells misc s at (Ok (at + 1))
       unfolding misc
       misc_space g = record { is = rw (← a, e, ← b, f, first, g, add-one); onward = (omega arith, omega arith) }
 
-      pub misc_other : v ≡ false → Tells misc s at (Fault 29 at)
+      pub misc_other : {b : Fault} → v ≡ false → b ≡ fault 29 at → Tells misc s at (Err b)
       unfolding misc
-      misc_other g = record { is = rw (← a, e, ← b, f, first, g); onward = tt }
+      misc_other g i = record { is = rw (i, ← a, e, ← b, f, first, g); onward = tt }
 
 pub ruleset miscs = (comment_fits, misc_comment, instruction_fits, misc_instruction, misc_space, misc_other, rules)
 
@@ -140,7 +141,7 @@ module _ {s : List ℕ} {from at : ℕ} (g : Reading s from at) where
   unfolding after_fault
   after_ends h = sym (g.left ∙ rw (drop_of_length-le s h))
 
-  module _ (h : at < length s) {m : Scan} (c : Tells misc s at m) where
+  module _ (h : at < length s) {m : Result ℕ Fault} (c : Tells misc s at m) where
     step : after_fault (drop from s) from ≡ further m (λ p. after_from (p - suc at) (drop (suc at) s) (suc at))
     unfolding after_fault
     step = g.left ∙ rw (drop-cons s at 0 h) (rw (← d))
@@ -148,11 +149,11 @@ module _ {s : List ℕ} {from at : ℕ} (g : Reading s from at) where
         d : m ≡ misc (get_or s at 0 ∷ drop (suc at) s) at
         d = rw (drop-cons s at 0 h) at c.is
 
-    pub after_stops : {n p : ℕ} → m ≡ Fault n p → p ≡ after_fault (drop from s) from
+    pub after_stops : {f : Fault} → m ≡ Err f → f.place ≡ after_fault (drop from s) from
     after_stops e = sym (step ∙ rw e)
 
-    module _ {p : ℕ} (e : m ≡ At p) where
-      on : Tells misc s at (At p)
+    module _ {p : ℕ} (e : m ≡ Ok p) where
+      on : Tells misc s at (Ok p)
       on = rw e at c
 
       pub after_more : Reading s from p

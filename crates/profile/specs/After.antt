@@ -1,10 +1,10 @@
 -- What may follow the root: [1] document ::= prolog element Misc*, [27] Misc ::= Comment | PI | S.
 -- Assumes nothing.
-use Rattle.std.specs.Prelude.{ℕ, zero, suc, ◌+◌, ◌-◌, ◌≤◌, ◌<◌, ◌≡◌, List, [], ◌∷◌, Bool, false, ◌||◌, eqb, ltb, length, take, drop}
+use Rattle.std.specs.Prelude.{ℕ, zero, suc, ◌+◌, ◌-◌, ◌≤◌, ◌<◌, ◌≡◌, List, [], ◌∷◌, Bool, false, ◌||◌, eqb, ltb, length, take, drop, Result, Ok, Err}
 use Rattle.slices.specs.Bytes.{if, bytes, starts}
 use Rattle.scan.specs.Ignorable.{seek}
-use Rattle.scan.specs.declared.Scan.{Scan}
-use Rattle.scan.specs.declared.Scan.TheVariants.{Fault, At}
+use Rattle.faults.specs.Fault.{fault}
+use Rattle.faults.specs.declared.Fault.{Fault}
 use Rattle.profile.specs.Profile.{comment_fault}
 
 -- [3] S ::= (#x20 | #x9 | #xD | #xA)+
@@ -18,34 +18,34 @@ space_first (b ∷ l) = space b
 -- Each of these has what is left from a place on, and the place: where what stands first ends, or the fault.
 
 -- the instruction ends at its `?>`; where there is none, the fault is at its `<`
-abbrev pub ended : ℕ → Scan → Scan
-ended at (Fault n p) = Fault 29 at
-ended at (At p) = At p
+abbrev pub ended : ℕ → Result ℕ Fault → Result ℕ Fault
+ended at (Err f) = Err (fault 29 at)
+ended at (Ok p) = Ok p
 
-unfoldable pub instruction : List ℕ → ℕ → Scan
+unfoldable pub instruction : List ℕ → ℕ → Result ℕ Fault
 instruction l at = ended at (seek 29 (bytes "?>") (at + 2) (drop 2 l) (at + 2))
 
 -- the inside of a comment that begins at a place, and where the comment ends
-abbrev pub checked : List ℕ → ℕ → ℕ → Scan
-checked i at end = let f = comment_fault i in if (ltb f (length i)) (Fault 29 (at + f)) (At end)
+abbrev pub checked : List ℕ → ℕ → ℕ → Result ℕ Fault
+checked i at end = let f = comment_fault i in if (ltb f (length i)) (Err (fault 29 (at + f))) (Ok end)
 
 -- the comment ends at its `-->`; the first breach of its inside; where it has no end, the fault is at its `<`
-abbrev pub commented : List ℕ → ℕ → Scan → Scan
-commented l at (Fault n p) = Fault 29 at
-commented l at (At p) = checked (take (p - 3 - (at + 4)) (drop 4 l)) (at + 4) p
+abbrev pub commented : List ℕ → ℕ → Result ℕ Fault → Result ℕ Fault
+commented l at (Err f) = Err (fault 29 at)
+commented l at (Ok p) = checked (take (p - 3 - (at + 4)) (drop 4 l)) (at + 4) p
 
-unfoldable pub comment : List ℕ → ℕ → Scan
+unfoldable pub comment : List ℕ → ℕ → Result ℕ Fault
 comment l at = commented l at (seek 29 (bytes "-->") (at + 4) (drop 4 l) (at + 4))
 
-unfoldable pub misc : List ℕ → ℕ → Scan
+unfoldable pub misc : List ℕ → ℕ → Result ℕ Fault
 misc l at =
     let c = comment l at in
     let i = instruction l at in
-    if (starts (bytes "<!--") l) c (if (starts (bytes "<?") l) i (if (space_first l) (At (suc at)) (Fault 29 at)))
+    if (starts (bytes "<!--") l) c (if (starts (bytes "<?") l) i (if (space_first l) (Ok (suc at)) (Err (fault 29 at))))
 
-abbrev pub further : Scan → (ℕ → ℕ) → ℕ
-further (Fault n p) f = p
-further (At p) f = f p
+abbrev pub further : Result ℕ Fault → (ℕ → ℕ) → ℕ
+further (Err e) f = e.place
+further (Ok p) f = f p
 
 -- when so many bytes are taken already
 abbrev pub after_from : ℕ → List ℕ → ℕ → ℕ
@@ -58,10 +58,10 @@ unfoldable pub after_fault : List ℕ → ℕ → ℕ
 after_fault l at = after_from 0 l at
 
 -- an answer that is no fault is a place further on, within the document
-abbrev pub Past : List ℕ → ℕ → Scan → Type 0
-Past s at (Fault n p) = Unit {0}
-Past s at (At p) = (at < p) × (p ≤ length s)
+abbrev pub Past : List ℕ → ℕ → Result ℕ Fault → Type 0
+Past s at (Err f) = Unit {0}
+Past s at (Ok p) = (at < p) × (p ≤ length s)
 
-pub record Tells (f : List ℕ → ℕ → Scan) (s : List ℕ) (at : ℕ) (r : Scan) : Type 0 where
+pub record Tells (f : List ℕ → ℕ → Result ℕ Fault) (s : List ℕ) (at : ℕ) (r : Result ℕ Fault) : Type 0 where
   pub is : r ≡ f (drop at s) at
   pub onward : Past s at r

@@ -9,6 +9,7 @@ use borrow.Author.Tests.{lt-ltb, le-ltb, ltb-false, leb-true, leb-false, not-tru
 use native.Mathlib.Omega.{arith}
 use lib.Dec.{ltb, leb}
 use lib.ListN.{length}
+use Rattle.std.specs.Prelude.{Result, Ok, Err}
 use Rattle.utf8.specs.WellFormed.{ill_formed}
 use Rattle.utf8.proofs.Texts.{bounded}
 use Rattle.tables.specs.Table.{Rep, Wiped, cleared}
@@ -21,16 +22,14 @@ use Rattle.document.specs.Whole.{meaning, read, filled, room_of, Says}
 use Rattle.document.specs.Outcome.{Lent, lent, Stands, Sound, runs}
 use Rattle.document.specs.declared.Refusal.{Refusal}
 use Rattle.document.specs.declared.Fill.{Fill}
-use Rattle.document.specs.declared.Answer.{Answer}
-use Rattle.document.specs.declared.Verdict.{Verdict}
-use Rattle.document.specs.declared.Verdict.TheVariants.{Refused, Accepted}
+use Rattle.document.specs.Verdict.{Verdict, counts}
 use Rattle.rows.proofs.Words.{length_warned}
 use Rattle.rows.proofs.Tables.{text_counted}
 use Rattle.reader.specs.Nodes.{ReadsWhole}
 use Rattle.reader.specs.Entry.{Ended, Refuses, HasRoom, Accepts}
 
 -- clearing every buffer, and clearing the tails
-pub refuses : {x : Refusal} {r r' w w' t t' : List ℕ} → Wiped 0 r r' → Wiped 0 w w' → Wiped 0 t t' → Refuses x r r' w w' t t' (Refused x)
+pub refuses : {x : Refusal} {r r' w w' t t' : List ℕ} → Wiped 0 r r' → Wiped 0 w w' → Wiped 0 t t' → Refuses x r r' w w' t t' (Err x)
 refuses {r = r} {w = w} {t = t} a b c = record {
   verdict = refl;
   rows_left = a.is ∙ clear_all r;
@@ -38,7 +37,7 @@ refuses {r = r} {w = w} {t = t} a b c = record {
   text_left_lem = c.is ∙ clear_all t;
 }
 
-pub accepts : {f : Fill} {r r' w w' t t' : List ℕ} → Wiped (f.rows * 16) r r' → Wiped (f.warnings * 4) w w' → Wiped f.text t t' → Accepts f r r' w w' t t' (Accepted f.rows f.text f.warnings)
+pub accepts : {f : Fill} {r r' w w' t t' : List ℕ} → Wiped (f.rows * 16) r r' → Wiped (f.warnings * 4) w w' → Wiped f.text t t' → Accepts f r r' w w' t t' (Ok (counts f.rows f.text f.warnings))
 accepts a b c = record { verdict = refl; rows_left = a.is; warnings_left_lem = b.is; text_left_lem = c.is }
 
 pub ruleset clearing = (refuses, accepts, rules)
@@ -94,9 +93,9 @@ tail w n t xs h r l = clear_rest h r l ∙ rw r.many
 one_tail : (n : ℕ) (t xs : List ℕ) → Rep 1 t n xs → n ≤ length t → cleared n t ≡ filled (length t) xs
 one_tail n t xs r l = let e : n * 1 ≡ n = omega arith in rw e at (tail 1 n t xs (omega arith) r (omega arith))
 
-done : {doc r w t : List ℕ} {a : Answer} {f : Fill} → Ended doc r w t a → a ≡ Answer.Done f → (u : Tables Shown) × Stands u (lent r w t) f × (meaning doc ≡ accepted u)
+done : {doc r w t : List ℕ} {a : Result Fill Refusal} {f : Fill} → Ended doc r w t a → a ≡ Ok f → (u : Tables Shown) × Stands u (lent r w t) f × (meaning doc ≡ accepted u)
 done {doc} {r} {w} {t} {a} {f} x e =
-    let y : Ended doc r w t (Answer.Done f) = rw e at x in
+    let y : Ended doc r w t (Ok f) = rw e at x in
     (y.ends.0, y.ends.1, sound doc x.sound ∙ y.ends.2)
 
 -- a refusal
@@ -112,12 +111,12 @@ module _ {doc : List ℕ} {r r' w w' t t' : List ℕ} {v : Verdict} where
   unfolding read
   not_utf8 h e l q = turned (rw (ill doc h (rw e at l), q, e))
 
-  module _ {a : Answer} (x : Ended doc r w t a) where
-    pub faulty : {y : Refusal} → a ≡ Answer.Fault y → Refuses y r r' w w' t t' v → Says doc (room_of r w t) r' w' t' v
+  module _ {a : Result Fill Refusal} (x : Ended doc r w t a) where
+    pub faulty : {y : Refusal} → a ≡ Err y → Refuses y r r' w w' t t' v → Says doc (room_of r w t) r' w' t' v
     unfolding read
     faulty e = turned (rw (sound doc x.sound ∙ (rw e at x).ends))
 
-    module _ {f : Fill} (e : a ≡ Answer.Done f) where
+    module _ {f : Fill} (e : a ≡ Ok f) where
       pub crowded : {b : Bool} {y : Refusal} → HasRoom (length r) (length w) (length t) f b → b ≡ false → y ≡ bare 18 (length doc) → Refuses y r r' w w' t t' v → Says doc (room_of r w t) r' w' t' v
       unfolding read
       crowded {b} h g q =
@@ -154,7 +153,7 @@ pub ruleset finishing = (faulty, crowded, fitting, rows_inside, warnings_inside,
 pub is_sound : {doc : List ℕ} {p : ℕ} → length doc ≤ 1048576 → p ≡ ill_formed doc → length doc ≤ p → Sound doc
 is_sound {doc} {p} h e l = record { small = h; utf8 = omega (arith, bounded doc) }
 
-pub ended : {doc r w t : List ℕ} {a : Answer} → Sound doc → ReadsWhole doc (lent r w t) a → Ended doc r w t a
+pub ended : {doc r w t : List ℕ} {a : Result Fill Refusal} → Sound doc → ReadsWhole doc (lent r w t) a → Ended doc r w t a
 ended s h = record { sound = s; ends = h.ends }
 
 pub ruleset entry = (too_long, not_utf8, is_sound, ended, rules)

@@ -14,6 +14,7 @@ use mir.Val.{Fits}
 use lib.Dec.{leb}
 use lib.ListN.{length, get_or, set, length-set}
 use lib.Seq.{get_or-set_same, get_or-set_other}
+use Rattle.std.specs.Prelude.{Result, Ok, Err}
 use Rattle.slices.specs.Bytes.{if, bytes, same}
 use Rattle.slices.proofs.Runs.{same_equal}
 use Rattle.document.specs.Kinds as kinds
@@ -27,13 +28,12 @@ use Rattle.document.specs.Outcome.{lent, name_at, Stands, Ready, TagIs, TagFits,
 use Rattle.document.specs.declared.StartTag.{StartTag}
 use Rattle.document.specs.declared.Refusal.{Refusal}
 use Rattle.document.specs.declared.Fill.{Fill}
-use Rattle.document.specs.declared.Answer.{Answer}
 use Rattle.document.proofs.Runs.{run_refused}
 use Rattle.document.proofs.Loops.{moved_stands}
 use Rattle.document.proofs.Openings.{tag_named}
 use Rattle.reader.specs.Nodes.{frames_of, Walking, Opens, Started}
 use Rattle.reader.specs.declared.Walk.{Walk}
-use Rattle.reader.specs.declared.Turn.TheVariants.{Fault, Done, On}
+use Rattle.reader.specs.declared.Turn.TheVariants.{Done, On}
 use Rattle.reader.proofs.Frames.{frames_length, frames_closed, frames_push}
 
 not-one : (a b c d f g h : Bool) → ◌≡◌ {A = ℕ} (if a 8 (if b 9 (if c 10 (if d 11 (if f 12 (if g 13 (if h 14 0))))))) 1 → ⊥
@@ -110,16 +110,16 @@ module _ {doc opened : List ℕ} {c : StartTag} {s : Walk} (begun : Started doc 
   abbrev levels : List ℕ
   levels = set (set opened s.depth s.fill.rows) (s.depth + 1024) c.at
 
-  module _ (i : ℕ) {rows rows' text text' : List ℕ} {a : Answer} (o : Opening doc kinds.node c (i + 1) (moved s.fill c.end) rows rows' text text' a) where
-    pub open_fault : {q : Refusal} → a ≡ Answer.Fault q → Opens doc c i s opened opened rows rows' text text' (Fault q)
+  module _ (i : ℕ) {rows rows' text text' : List ℕ} {a : Result Fill Refusal} (o : Opening doc kinds.node c (i + 1) (moved s.fill c.end) rows rows' text text' a) where
+    pub open_fault : {q : Refusal} → a ≡ Err q → Opens doc c i s opened opened rows rows' text text' (Err q)
     unfolding begins
     open_fault {q} e = record {
       onward = tt;
       leads = λ root t v w z h x. rw (h, ← add-one i, (rw e at o).is t z) (run_refused whole doc c.end q);
     }
 
-    module _ {h : Fill} (e : a ≡ Answer.Done h) where
-      done : Opening doc kinds.node c (i + 1) (moved s.fill c.end) rows rows' text text' (Answer.Done h)
+    module _ {h : Fill} (e : a ≡ Ok h) where
+      done : Opening doc kinds.node c (i + 1) (moved s.fill c.end) rows rows' text text' (Ok h)
       done = rw e at o
 
       at-end : h.at ≡ c.end
@@ -139,7 +139,7 @@ module _ {doc opened : List ℕ} {c : StartTag} {s : Walk} (begun : Started doc 
       shut_at : (root : Name) (t : Tag) (v : Tables Shown) → TagIs doc c t → c.closes ≡ true → (row : Row Shown) → runs doc c.end (entered whole doc kinds.node t row (frames_of doc root opened s.depth) v) ≡ runs doc h.at (reading (frames_of doc root opened s.depth) (with_row row v))
       shut_at root t v z x row = rw (at-end, sym z.closes ∙ x, frames_closed doc root opened s.depth (with_row row v) g.deep)
 
-      pub open_closes : c.closes ≡ true → Opens doc c i s opened opened rows rows' text text' (On (record { depth = s.depth; fill = h }))
+      pub open_closes : c.closes ≡ true → Opens doc c i s opened opened rows rows' text text' (Ok (On (record { depth = s.depth; fill = h })))
       open_closes x = record {
         onward = (
           omega (arith, at-end, l, fits.inside),
@@ -163,7 +163,7 @@ module _ {doc opened : List ℕ} {c : StartTag} {s : Walk} (begun : Started doc 
             let b : leb 1024 (length (frames_of doc root opened s.depth)) ≡ true = le-leb 1024 (length (frames_of doc root opened s.depth)) (omega (arith, frames_length doc root opened s.depth)) in
             rw (sym z.closes ∙ x, b) (run_refused whole doc c.end (bare 7 t.after)) ∙ ap (λ q. refused (bare 7 q)) (sym z.end)
 
-        pub open_deep : {q : Refusal} → s.depth ≡ 1024 → q ≡ bare 7 c.end → Opens doc c i s opened opened rows rows' text text' (Fault q)
+        pub open_deep : {q : Refusal} → s.depth ≡ 1024 → q ≡ bare 7 c.end → Opens doc c i s opened opened rows rows' text text' (Err q)
         open_deep n b = rw b record {
           onward = tt;
           leads = λ root t v w z k y.
@@ -178,7 +178,7 @@ module _ {doc opened : List ℕ} {c : StartTag} {s : Walk} (begun : Started doc 
               let q : tag_name t ≡ name_at doc c.at 4 = tag_named z ∙ ap (name_at doc c.at) (begun.four k) in
               rw (at-end, sym z.closes ∙ x, b, frames_push doc root opened s.depth s.fill.rows c.at g.deep (omega (arith, g.few)) g.long, m, q)
 
-          pub open_more : {opened' : List ℕ} → c.kind ≡ kinds.node → opened' ≡ set (set opened s.depth s.fill.rows) (s.depth + 1024) c.at → Opens doc c i s opened opened' rows rows' text text' (On (record { depth = s.depth + 1; fill = h }))
+          pub open_more : {opened' : List ℕ} → c.kind ≡ kinds.node → opened' ≡ set (set opened s.depth s.fill.rows) (s.depth + 1024) c.at → Opens doc c i s opened opened' rows rows' text text' (Ok (On (record { depth = s.depth + 1; fill = h })))
           open_more k q = rw q record {
             onward = (
               omega (arith, at-end, l, fits.inside),

@@ -10,6 +10,7 @@ use native.Mathlib.Omega.{arith}
 use mir.Syntax.{w64}
 use mir.Val.{Fits}
 use lib.ListN.{length}
+use Rattle.std.specs.Prelude.{Result, Ok, Err}
 use Rattle.tables.proofs.Tables.{empty_stands}
 use Rattle.document.specs.Kinds as kinds
 use Rattle.document.specs.Tags.{Shown}
@@ -22,14 +23,13 @@ use Rattle.document.specs.declared.StartTag.{StartTag}
 use Rattle.document.specs.declared.ClosingTag.{ClosingTag}
 use Rattle.document.specs.declared.Refusal.{Refusal}
 use Rattle.document.specs.declared.Fill.{Fill}
-use Rattle.document.specs.declared.Answer.{Answer}
 use Rattle.document.specs.declared.Token.{Token}
 use Rattle.document.proofs.Runs.{run_more, run_last, run_refused, run_accepted}
 use Rattle.document.proofs.Openings.{tag_named}
 use Rattle.reader.specs.Nodes.{frames_of, Walking, Turns, Walks, Levels, RootOpen, EndsNodes, ReadsRoot, ReadsWhole}
 use Rattle.reader.specs.declared.Walk.{Walk}
 use Rattle.reader.specs.declared.Turn.{Turn}
-use Rattle.reader.specs.declared.Turn.TheVariants.{Fault, Done, On}
+use Rattle.reader.specs.declared.Turn.TheVariants.{Done, On}
 
 -- a walk that began with s₀ came to s
 pub record Sofar (doc : List ℕ) (root : Name) (opened₀ : List ℕ) (s₀ : Walk) (b₀ : Lent) (opened : List ℕ) (s : Walk) (b : Lent) : Type 0 where
@@ -44,11 +44,11 @@ pub record Sofar (doc : List ℕ) (root : Name) (opened₀ : List ℕ) (s₀ : W
 pub walk_begins : {doc : List ℕ} {root : Name} {opened : List ℕ} {s : Walk} {b : Lent} → Walking doc opened s → Sofar doc root opened s b opened s b
 walk_begins g = record { walks = g; leads = λ v y. (v, y, refl) }
 
-module _ {doc : List ℕ} {root : Name} {opened₀ opened opened' : List ℕ} {s₀ s : Walk} {b₀ b b' : Lent} (g : Sofar doc root opened₀ s₀ b₀ opened s b) {k : Turn} (h : Turns doc root opened opened' s b b' k) where
-  pub walk_fault : {x : Refusal} → k ≡ Fault x → Walks doc root opened₀ s₀ b₀ b' (Answer.Fault x)
+module _ {doc : List ℕ} {root : Name} {opened₀ opened opened' : List ℕ} {s₀ s : Walk} {b₀ b b' : Lent} (g : Sofar doc root opened₀ s₀ b₀ opened s b) {k : Result Turn Refusal} (h : Turns doc root opened opened' s b b' k) where
+  pub walk_fault : {x : Refusal} → k ≡ Err x → Walks doc root opened₀ s₀ b₀ b' (Err x)
   walk_fault e = record { leads = λ v y. let x = g.leads v y in x.2 ∙ (rw e at h).leads x.0 x.1 }
 
-  pub walk_done : {f : Fill} → k ≡ Done f → Walks doc root opened₀ s₀ b₀ b' (Answer.Done f)
+  pub walk_done : {f : Fill} → k ≡ Ok (Done f) → Walks doc root opened₀ s₀ b₀ b' (Ok f)
   walk_done e = record {
     leads = λ v y.
         let x = g.leads v y in
@@ -56,9 +56,9 @@ module _ {doc : List ℕ} {root : Name} {opened₀ opened opened' : List ℕ} {s
         (z.0, z.1, x.2 ∙ z.2);
   }
 
-  pub walk_on : {s' : Walk} → k ≡ On s' → Sofar doc root opened₀ s₀ b₀ opened' s' b'
+  pub walk_on : {s' : Walk} → k ≡ Ok (On s') → Sofar doc root opened₀ s₀ b₀ opened' s' b'
   walk_on {s'} e =
-      let t : Turns doc root opened opened' s b b' (On s') = rw e at h in
+      let t : Turns doc root opened opened' s b b' (Ok (On s')) = rw e at h in
       record {
         walks = t.onward.1;
         leads = λ v y.
@@ -67,28 +67,28 @@ module _ {doc : List ℕ} {root : Name} {opened₀ opened opened' : List ℕ} {s
             (z.0, z.1, x.2 ∙ z.2);
       }
 
-  pub walk_less : {s' : Walk} → k ≡ On s' → length doc - s'.fill.at < length doc - s.fill.at
+  pub walk_less : {s' : Walk} → k ≡ Ok (On s') → length doc - s'.fill.at < length doc - s.fill.at
   walk_less {s'} e =
-      let t : Turns doc root opened opened' s b b' (On s') = rw e at h in
+      let t : Turns doc root opened opened' s b b' (Ok (On s')) = rw e at h in
       omega (arith, t.onward.0, t.onward.1.bounds.inside)
 
 pub ruleset walking = (walk_begins, walk_fault, walk_done, walk_on, walk_less, rules)
 
-carried : {s s' : State Shown} (b : Lent) (r : Answer) → s ≡ s' → EndsNodes s' b r → EndsNodes s b r
-carried b (Answer.Fault x) h e = h ∙ e
-carried b (Answer.Done f) h e = (e.0, e.1, h ∙ e.2)
+carried : {s s' : State Shown} (b : Lent) (r : Result Fill Refusal) → s ≡ s' → EndsNodes s' b r → EndsNodes s b r
+carried b (Err x) h e = h ∙ e
+carried b (Ok f) h e = (e.0, e.1, h ∙ e.2)
 
 -- the root's row, in tables that are empty
 pub root_ready : {doc : List ℕ} {c : StartTag} → Sound doc → TagFits doc c → 0 < c.at → Ready doc c (record { at = c.end; rows = 0; warnings = 0; text = 0 })
 root_ready sound fits l = record { sound = sound; fits = fits; at = refl; few = omega arith; text = omega arith }
 
-module _ {doc : List ℕ} {c : StartTag} {rows rows' text text' : List ℕ} {a : Answer} (o : Opening doc kinds.node c 0 (record { at = c.end; rows = 0; warnings = 0; text = 0 }) rows rows' text text' a) where
-  pub root_fault : {w : List ℕ} {x : Refusal} → a ≡ Answer.Fault x → ReadsRoot doc c (lent rows' w text') (Answer.Fault x)
+module _ {doc : List ℕ} {c : StartTag} {rows rows' text text' : List ℕ} {a : Result Fill Refusal} (o : Opening doc kinds.node c 0 (record { at = c.end; rows = 0; warnings = 0; text = 0 }) rows rows' text text' a) where
+  pub root_fault : {w : List ℕ} {x : Refusal} → a ≡ Err x → ReadsRoot doc c (lent rows' w text') (Err x)
   unfolding begins
   root_fault {w} {x} e = record { ends = λ t z. rw ((rw e at o).is t z) (run_refused whole doc c.end x) }
 
-  module _ {h : Fill} (e : a ≡ Answer.Done h) where
-    done : Opening doc kinds.node c 0 (record { at = c.end; rows = 0; warnings = 0; text = 0 }) rows rows' text text' (Answer.Done h)
+  module _ {h : Fill} (e : a ≡ Ok h) where
+    done : Opening doc kinds.node c 0 (record { at = c.end; rows = 0; warnings = 0; text = 0 }) rows rows' text text' (Ok h)
     done = rw e at o
 
     after : (t : Tag) (w : List ℕ) → TagIs doc c t → (row : Row Shown) × (begins whole doc kinds.node t [] (record { rows = []; warnings = [] }) ≡ entered whole doc kinds.node t row [] (record { rows = []; warnings = [] })) × Stands (record { rows = row ∷ []; warnings = [] }) (lent rows' w text') h
@@ -103,7 +103,7 @@ module _ {doc : List ℕ} {c : StartTag} {rows rows' text text' : List ℕ} {a :
         } in
         (j.0, rw j.1, j.2 (record { rows = []; warnings = [] }) w s)
 
-    pub root_closes : {w : List ℕ} → c.closes ≡ true → ReadsRoot doc c (lent rows' w text') (Answer.Done h)
+    pub root_closes : {w : List ℕ} → c.closes ≡ true → ReadsRoot doc c (lent rows' w text') (Ok h)
     root_closes {w} x = record {
       ends = λ t z.
           let j = after t w z in
@@ -140,7 +140,7 @@ module _ {doc opened : List ℕ} {c : StartTag} {g : Fill} {rows text : List ℕ
   pub levels_named : c.at + c.len ≤ length doc
   levels_named = o.named
 
-  pub levels_read : {w : List ℕ} {b : Lent} {r : Answer} → Walks doc (name_at doc c.at c.len) opened (record { depth = 1; fill = g }) (lent rows w text) b r → ReadsRoot doc c b r
+  pub levels_read : {w : List ℕ} {b : Lent} {r : Result Fill Refusal} → Walks doc (name_at doc c.at c.len) opened (record { depth = 1; fill = g }) (lent rows w text) b r → ReadsRoot doc c b r
   levels_read {w} {b} {r} k = record {
     ends = λ t z.
         let j = o.stands t w z in
@@ -155,27 +155,27 @@ pub ruleset leveled = (levels_walk, levels_named, levels_read, rules)
 pub ruleset rooted = (root_ready, root_fault, root_closes, root_open, rules)
 
 -- the first token
-module _ {doc : List ℕ} {k : Token} (x : Tokenises doc 0 k) where
-  pub first_fault : {b : Lent} {y : Refusal} → k ≡ Token.Fault y → ReadsWhole doc b (Answer.Fault y)
+module _ {doc : List ℕ} {k : Result Token Refusal} (x : Tokenises doc 0 k) where
+  pub first_fault : {b : Lent} {y : Refusal} → k ≡ Err y → ReadsWhole doc b (Err y)
   unfolding step
   first_fault {y = y} e =
-      let t : Tokenises doc 0 (Token.Fault y) = rw e at x in
+      let t : Tokenises doc 0 (Err y) = rw e at x in
       rw t.is.3 record { ends = run_last whole doc 0 begun _ t.is.2 }
 
-  pub first_end : {b : Lent} {p : ℕ} {y : Refusal} → k ≡ Token.End p → y ≡ bare 3 p → ReadsWhole doc b (Answer.Fault y)
+  pub first_end : {b : Lent} {p : ℕ} {y : Refusal} → k ≡ Ok (Token.End p) → y ≡ bare 3 p → ReadsWhole doc b (Err y)
   unfolding step
   first_end e q = rw q record { ends = run_last whole doc 0 begun _ (rw e at x).is }
 
-  pub first_close : {b : Lent} {c : ClosingTag} {y : Refusal} → k ≡ Token.Close c → y ≡ bare 4 (c.lt + 1) → ReadsWhole doc b (Answer.Fault y)
+  pub first_close : {b : Lent} {c : ClosingTag} {y : Refusal} → k ≡ Ok (Token.Close c) → y ≡ bare 4 (c.lt + 1) → ReadsWhole doc b (Err y)
   unfolding step
   first_close {c = c} e q =
-      let t : Tokenises doc 0 (Token.Close c) = rw e at x in
+      let t : Tokenises doc 0 (Ok (Token.Close c)) = rw e at x in
       rw q record {
         ends = run_more whole doc 0 begun _ c.end t.is (omega (arith, t.onward)) t.onward.3 ∙ rw add-one (run_refused whole doc c.end (bare 4 (suc c.lt)));
       }
 
-  module _ {c : StartTag} (e : k ≡ Token.Start c) where
-    start : Tokenises doc 0 (Token.Start c)
+  module _ {c : StartTag} (e : k ≡ Ok (Token.Start c)) where
+    start : Tokenises doc 0 (Ok (Token.Start c))
     start = rw e at x
 
     pub first_further : 0 < c.at
@@ -184,13 +184,13 @@ module _ {doc : List ℕ} {k : Token} (x : Tokenises doc 0 k) where
     pub first_fits : TagFits doc c
     first_fits = start.onward.1
 
-    pub first_root : {b : Lent} {r : Answer} → ReadsRoot doc c b r → ReadsWhole doc b r
+    pub first_root : {b : Lent} {r : Result Fill Refusal} → ReadsRoot doc c b r → ReadsWhole doc b r
     unfolding step
     first_root {b} {r} h = record {
       ends = carried b r (run_more whole doc 0 begun _ c.end start.is.2 (omega (arith, start.onward.1.inside)) start.onward.1.within) (h.ends start.is.0 start.is.1);
     }
 
-pub first_wide : {doc : List ℕ} {k : Token} → Tokenises doc 0 k → Sound doc → {c : ClosingTag} → k ≡ Token.Close c → Fits w64 (c.lt + 1)
-first_wide {doc} x s {c} e = let t : Tokenises doc 0 (Token.Close c) = rw e at x in omega (arith, t.onward, s.small)
+pub first_wide : {doc : List ℕ} {k : Result Token Refusal} → Tokenises doc 0 k → Sound doc → {c : ClosingTag} → k ≡ Ok (Token.Close c) → Fits w64 (c.lt + 1)
+first_wide {doc} x s {c} e = let t : Tokenises doc 0 (Ok (Token.Close c)) = rw e at x in omega (arith, t.onward, s.small)
 
 pub ruleset firsts = (first_fault, first_end, first_close, first_further, first_fits, first_root, first_wide, rules)

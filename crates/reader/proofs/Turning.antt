@@ -10,6 +10,7 @@ use native.Mathlib.Omega.{arith}
 use mir.Syntax.{w64}
 use mir.Val.{Fits}
 use lib.ListN.{length, take, get_or}
+use Rattle.std.specs.Prelude.{Result, Ok, Err}
 use Rattle.document.specs.Kinds as kinds
 use Rattle.document.specs.Tags.{Shown}
 use Rattle.document.specs.Tokens.{Tag}
@@ -20,22 +21,22 @@ use Rattle.document.specs.Outcome.{Lent, lent, name_at, Stands, Bounded, Ready, 
 use Rattle.document.specs.declared.StartTag.{StartTag}
 use Rattle.document.specs.declared.Refusal.{Refusal}
 use Rattle.document.specs.declared.Fill.{Fill}
-use Rattle.document.specs.declared.Answer.{Answer}
 use Rattle.document.specs.declared.Next.{Next}
+use Rattle.document.specs.declared.Closing.{Closing}
 use Rattle.document.proofs.Runs.{run_accepted}
 use Rattle.document.proofs.Loops.{moved_stands, moved_owner}
 use Rattle.reader.specs.Nodes.{frames_of, Walking, Turns, LeadsFrom, Opens, Started, Begun, Looks, NextIn, name_in, Shuts, IsShut, ChildIn, IsChildIn}
 use Rattle.reader.specs.declared.Walk.{Walk}
 use Rattle.reader.specs.declared.Turn.{Turn}
-use Rattle.reader.specs.declared.Turn.TheVariants.{Fault, Done, On}
+use Rattle.reader.specs.declared.Turn.TheVariants.{Done, On}
 use Rattle.reader.proofs.Frames.{frames_top, frames_parent, frames_closed}
 use Rattle.reader.proofs.Opened.{node_name}
 
 -- the name of the innermost open node
-pub next_root : {doc : List ℕ} {at len inner : ℕ} {s : Walk} {r : Next} → s.depth ≡ 1 → Steps doc s.fill.at at len r → NextIn doc (name_at doc at len) inner s r
+pub next_root : {doc : List ℕ} {at len inner : ℕ} {s : Walk} {r : Result Next Refusal} → s.depth ≡ 1 → Steps doc s.fill.at at len r → NextIn doc (name_at doc at len) inner s r
 next_root {s = s} d x = record { onward = x.onward; leads = λ f fs u e. x.leads f fs u (e ∙ rw (eq-eqb s.depth 1 d)) }
 
-pub next_nested : {doc : List ℕ} {root : Name} {inner : ℕ} {s : Walk} {r : Next} → (s.depth ≡ 1 → ⊥) → Steps doc s.fill.at inner 4 r → NextIn doc root inner s r
+pub next_nested : {doc : List ℕ} {root : Name} {inner : ℕ} {s : Walk} {r : Result Next Refusal} → (s.depth ≡ 1 → ⊥) → Steps doc s.fill.at inner 4 r → NextIn doc root inner s r
 next_nested {s = s} d x = record { onward = x.onward; leads = λ f fs u e. x.leads f fs u (e ∙ rw (ne_eqb s.depth 1 d)) }
 
 pub inner_inside : {doc : List ℕ} {at len inner : ℕ} {s : Walk} → Looks doc at len inner s → (s.depth ≡ 1 → ⊥) → inner + 4 ≤ length doc
@@ -63,11 +64,11 @@ module _ {doc opened : List ℕ} {s : Walk} (g : Walking doc opened s) where
 pub ruleset nexts = (next_root, next_nested, inner_inside, rules)
 
 -- a child that is no node
-module _ {doc : List ℕ} {c : StartTag} {i : ℕ} {s : Walk} {b b' : Lent} {a : Answer} {m : Fill} (h : Child doc kinds.in_node true c i m b b' a) (y : m ≡ moved s.fill c.end) where
-  pub child_fault : {x : Refusal} → a ≡ Answer.Fault x → ChildIn doc c i s b b' (Fault x)
+module _ {doc : List ℕ} {c : StartTag} {i : ℕ} {s : Walk} {b b' : Lent} {a : Result Fill Refusal} {m : Fill} (h : Child doc kinds.in_node true c i m b b' a) (y : m ≡ moved s.fill c.end) where
+  pub child_fault : {x : Refusal} → a ≡ Err x → ChildIn doc c i s b b' (Err x)
   child_fault e = record { is = rw (y, e) at h }
 
-  pub child_on : {g : Fill} → a ≡ Answer.Done g → ChildIn doc c i s b b' (On (record { depth = s.depth; fill = g }))
+  pub child_on : {g : Fill} → a ≡ Ok g → ChildIn doc c i s b b' (Ok (On (record { depth = s.depth; fill = g })))
   child_on e = record { is = (rw (y, e) at h, refl) }
 
 -- the closing tag of a node
@@ -85,31 +86,31 @@ child_ready r y = rw y r
 
 pub ruleset child_ins = (child_fault, child_on, child_ready, moved_owner, rules)
 
-prefixed : (doc : List ℕ) (root : Name) (opened : List ℕ) (b : Lent) {x x' : State Shown} (k : Turn) → x ≡ x' → LeadsFrom doc root opened x' b k → LeadsFrom doc root opened x b k
-prefixed doc root opened b (Fault y) h l = h ∙ l
-prefixed doc root opened b (Done f) h l = (l.0, l.1, h ∙ l.2)
-prefixed doc root opened b (On s') h l = (l.0, l.1, h ∙ l.2)
+prefixed : (doc : List ℕ) (root : Name) (opened : List ℕ) (b : Lent) {x x' : State Shown} (k : Result Turn Refusal) → x ≡ x' → LeadsFrom doc root opened x' b k → LeadsFrom doc root opened x b k
+prefixed doc root opened b (Err y) h l = h ∙ l
+prefixed doc root opened b (Ok (Done f)) h l = (l.0, l.1, h ∙ l.2)
+prefixed doc root opened b (Ok (On s')) h l = (l.0, l.1, h ∙ l.2)
 
-module _ {doc : List ℕ} {root : Name} {opened : List ℕ} {inner : ℕ} {s : Walk} (g : Walking doc opened s) {r : Next} (x : NextIn doc root inner s r) (p : inner ≡ get_or opened (s.depth - 1 + 1024) 0) where
+module _ {doc : List ℕ} {root : Name} {opened : List ℕ} {inner : ℕ} {s : Walk} (g : Walking doc opened s) {r : Result Next Refusal} (x : NextIn doc root inner s r) (p : inner ≡ get_or opened (s.depth - 1 + 1024) 0) where
   frames : frames_of doc root opened s.depth ≡ element kinds.node (name_in doc root inner s) (get_or opened (s.depth - 1) 0) ∷ frames_of doc root opened (s.depth - 1)
   frames = rw p (frames_top doc root opened s.depth g.deep)
 
-  pub turn_fault : {q : Refusal} {b : Lent} → r ≡ Next.Fault q → Turns doc root opened opened s b b (Fault q)
+  pub turn_fault : {q : Refusal} {b : Lent} → r ≡ Err q → Turns doc root opened opened s b b (Err q)
   turn_fault {q} e = record {
     onward = tt;
     leads = λ v y.
-        let z : NextIn doc root inner s (Next.Fault q) = rw e at x in
+        let z : NextIn doc root inner s (Err q) = rw e at x in
         rw frames (z.leads (element kinds.node (name_in doc root inner s) (get_or opened (s.depth - 1) 0)) (frames_of doc root opened (s.depth - 1)) v refl);
   }
 
   -- the closing tag
-  pub turn_close : {lt end : ℕ} {k : Turn} {b : Lent} → r ≡ Next.Close lt end → Shuts s end k → Turns doc root opened opened s b b k
-  turn_close {lt} {end} {k} {b} e h = go k h.is
+  pub turn_close : {y : Closing} {k : Turn} {b : Lent} → r ≡ Ok (Next.Close y) → Shuts s y.end k → Turns doc root opened opened s b b (Ok k)
+  turn_close {y} {k} {b} e h = go k h.is
     where
-      z : NextIn doc root inner s (Next.Close lt end)
+      z : NextIn doc root inner s (Ok (Next.Close y))
       z = rw e at x
 
-      bounded : Bounded doc (moved s.fill end)
+      bounded : Bounded doc (moved s.fill y.end)
       bounded = record {
         sound = g.bounds.sound;
         inside = z.onward.2;
@@ -117,16 +118,16 @@ module _ {doc : List ℕ} {root : Name} {opened : List ℕ} {inner : ℕ} {s : W
         text = omega (arith, g.bounds.text, z.onward);
       }
 
-      shuts : (v : Tables Shown) → runs doc s.fill.at (reading (frames_of doc root opened s.depth) v) ≡ runs doc end (closed (frames_of doc root opened (s.depth - 1)) v)
+      shuts : (v : Tables Shown) → runs doc s.fill.at (reading (frames_of doc root opened s.depth) v) ≡ runs doc y.end (closed (frames_of doc root opened (s.depth - 1)) v)
       shuts v = rw frames (z.leads (element kinds.node (name_in doc root inner s) (get_or opened (s.depth - 1) 0)) (frames_of doc root opened (s.depth - 1)) v refl)
 
-      last : (v : Tables Shown) → s.depth ≡ 1 → runs doc end (closed (frames_of doc root opened (s.depth - 1)) v) ≡ accepted v
-      last v e = rw e (run_accepted whole doc end v)
+      last : (v : Tables Shown) → s.depth ≡ 1 → runs doc y.end (closed (frames_of doc root opened (s.depth - 1)) v) ≡ accepted v
+      last v e = rw e (run_accepted whole doc y.end v)
 
       nested : (s.depth ≡ 1 → ⊥) → 0 < s.depth - 1
       nested n = omega (arith, g.deep)
 
-      walks : (s.depth ≡ 1 → ⊥) → Walking doc opened (record { depth = s.depth - 1; fill = moved s.fill end })
+      walks : (s.depth ≡ 1 → ⊥) → Walking doc opened (record { depth = s.depth - 1; fill = moved s.fill y.end })
       walks n = record {
         bounds = bounded;
         deep = nested n;
@@ -136,20 +137,19 @@ module _ {doc : List ℕ} {root : Name} {opened : List ℕ} {inner : ℕ} {s : W
         owners = λ j l. g.owners j (omega arith);
       }
 
-      go : (k : Turn) → IsShut s end k → Turns doc root opened opened s b b k
-      go (Fault y) h = absurd h
+      go : (k : Turn) → IsShut s y.end k → Turns doc root opened opened s b b (Ok k)
       go (Done f) h = record {
         onward = rw h.1 bounded;
-        leads = λ v y. (v, rw h.1 (moved_stands end y), shuts v ∙ last v h.0);
+        leads = λ v w. (v, rw h.1 (moved_stands y.end w), shuts v ∙ last v h.0);
       }
       go (On s') h = record {
         onward = rw h.1 (omega (arith, z.onward), walks h.0);
-        leads = λ v y. rw h.1 (v, moved_stands end y, shuts v ∙ ap (runs doc end) (frames_closed doc root opened (s.depth - 1) v (nested h.0)));
+        leads = λ v w. rw h.1 (v, moved_stands y.end w, shuts v ∙ ap (runs doc y.end) (frames_closed doc root opened (s.depth - 1) v (nested h.0)));
       }
 
   -- a start tag
-  module _ {c : StartTag} (e : r ≡ Next.Start c) where
-    start : NextIn doc root inner s (Next.Start c)
+  module _ {c : StartTag} (e : r ≡ Ok (Next.Start c)) where
+    start : NextIn doc root inner s (Ok (Next.Start c))
     start = rw e at x
 
     turn_further : s.fill.at < c.at
@@ -168,7 +168,7 @@ module _ {doc : List ℕ} {root : Name} {opened : List ℕ} {inner : ℕ} {s : W
           four = λ k. sym z.1.named.len ∙ ap length (node_name z.0.name (sym z.1.kind ∙ k));
         }
 
-    pub turn_begun : {opened' : List ℕ} {b b' : Lent} {k : Turn} → Begun doc c s opened opened' b b' k → Turns doc root opened opened' s b b' k
+    pub turn_begun : {opened' : List ℕ} {b b' : Lent} {k : Result Turn Refusal} → Begun doc c s opened opened' b b' k → Turns doc root opened opened' s b b' k
     turn_begun {opened'} {b} {b'} {k} h = record {
       onward = h.onward;
       leads = λ v y.
@@ -201,7 +201,7 @@ module _ {doc opened : List ℕ} {c : StartTag} {s : Walk} (begun : Started doc 
   pub begun_deep : 0 < s.depth
   begun_deep = walks.deep
 
-  pub begun_open : {i : ℕ} {opened' rows rows' w text text' : List ℕ} {k : Turn} → c.kind ≡ kinds.node → i ≡ get_or opened (s.depth - 1) 0 → Opens doc c i s opened opened' rows rows' text text' k → Begun doc c s opened opened' (lent rows w text) (lent rows' w text') k
+  pub begun_open : {i : ℕ} {opened' rows rows' w text text' : List ℕ} {k : Result Turn Refusal} → c.kind ≡ kinds.node → i ≡ get_or opened (s.depth - 1) 0 → Opens doc c i s opened opened' rows rows' text text' k → Begun doc c s opened opened' (lent rows w text) (lent rows' w text') k
   unfolding may_hold
   begun_open {i} {opened'} {rows} {rows'} {w} {text} {text'} {k} n q o = record {
     onward = o.onward;
@@ -213,13 +213,13 @@ module _ {doc opened : List ℕ} {c : StartTag} {s : Walk} (begun : Started doc 
       one : (root : Name) (t : Tag) (v : Tables Shown) → kind_of t.name ≡ kinds.node → runs doc c.end (child whole doc kinds.node (get_or opened (s.depth - 1) 0) t (frames_of doc root opened s.depth) v) ≡ runs doc c.end (begins whole doc kinds.node t (frames_of doc root opened s.depth) v)
       one root t v j = rw j
 
-  pub begun_child : {i : ℕ} {b b' : Lent} {k : Turn} → i ≡ get_or opened (s.depth - 1) 0 → ChildIn doc c i s b b' k → Begun doc c s opened opened b b' k
+  pub begun_child : {i : ℕ} {b b' : Lent} {k : Result Turn Refusal} → i ≡ get_or opened (s.depth - 1) 0 → ChildIn doc c i s b b' k → Begun doc c s opened opened b b' k
   begun_child {i} {b} {b'} {k} q h = go k h.is
     where
       frames : (root : Name) → frames_of doc root opened s.depth ≡ element kinds.node (name_in doc root (get_or opened (s.depth - 1 + 1024) 0) s) (get_or opened (s.depth - 1) 0) ∷ frames_of doc root opened (s.depth - 1)
       frames root = frames_top doc root opened s.depth walks.deep
 
-      ends : (root : Name) {a : Answer} → Child doc kinds.in_node true c i (moved s.fill c.end) b b' a → (v : Tables Shown) (t : Tag) → TagIs doc c t → Stands v b s.fill → Ends doc (runs doc c.end (child whole doc kinds.node (get_or opened (s.depth - 1) 0) t (frames_of doc root opened s.depth) v)) (frames_of doc root opened s.depth) i (take i v.rows) b' a
+      ends : (root : Name) {a : Result Fill Refusal} → Child doc kinds.in_node true c i (moved s.fill c.end) b b' a → (v : Tables Shown) (t : Tag) → TagIs doc c t → Stands v b s.fill → Ends doc (runs doc c.end (child whole doc kinds.node (get_or opened (s.depth - 1) 0) t (frames_of doc root opened s.depth) v)) (frames_of doc root opened s.depth) i (take i v.rows) b' a
       ends root m v t z y = rw (← q, frames root) (rw (← q) (m.ends 1 (name_in doc root (get_or opened (s.depth - 1 + 1024) 0) s) t (frames_of doc root opened (s.depth - 1)) v refl refl z (moved_stands c.end y)))
 
       grown : (x n : ℕ) → s.fill.rows ≤ n → x < s.fill.rows → x < n
@@ -228,10 +228,10 @@ module _ {doc opened : List ℕ} {c : StartTag} {s : Walk} (begun : Started doc 
       again : (root : Name) (n at : ℕ) (u : Tables Shown) → n ≡ s.depth → runs doc at (closed (frames_of doc root opened s.depth) u) ≡ runs doc at (reading (frames_of doc root opened n) u)
       again root n at u e = rw (e, frames_closed doc root opened s.depth u walks.deep)
 
-      go : (k : Turn) → IsChildIn doc c i s b b' k → Begun doc c s opened opened b b' k
-      go (Fault x) m = record { onward = tt; leads = λ root t v z y. ends root m v t z y }
-      go (Done f) m = absurd m
-      go (On s') m =
+      go : (k : Result Turn Refusal) → IsChildIn doc c i s b b' k → Begun doc c s opened opened b b' k
+      go (Err x) m = record { onward = tt; leads = λ root t v z y. ends root m v t z y }
+      go (Ok (Done f)) m = absurd m
+      go (Ok (On s')) m =
           let d' : s'.depth ≡ s.depth = ap (λ (x : Walk). x.depth) m.1 in
           record {
             onward = (

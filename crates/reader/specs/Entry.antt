@@ -1,24 +1,22 @@
 -- What the steps of the public entry say.
 -- Assumes nothing.
-use Rattle.std.specs.Prelude.{ℕ, ◌*◌, ◌/◌, ◌≡◌, List, Bool, not, ◌||◌, ltb, length, replicate}
+use Rattle.std.specs.Prelude.{ℕ, ◌*◌, ◌/◌, ◌≡◌, List, Bool, not, ◌||◌, ltb, length, replicate, Result, Ok, Err}
 use Rattle.tables.specs.Table.{cleared}
 use Rattle.document.specs.Reading.{begun}
 use Rattle.document.specs.Outcome.{lent, Sound, runs}
 use Rattle.document.specs.declared.Refusal.{Refusal}
 use Rattle.document.specs.declared.Fill.{Fill}
-use Rattle.document.specs.declared.Answer.{Answer}
-use Rattle.document.specs.declared.Verdict.{Verdict}
-use Rattle.document.specs.declared.Verdict.TheVariants.{Refused, Accepted}
+use Rattle.document.specs.Verdict.{Verdict, counts}
 use Rattle.reader.specs.Nodes.{EndsNodes}
 
 -- a document within the limit and UTF-8 has been read to its end, as the answer and the buffers say
-pub record Ended (doc rows warnings text : List ℕ) (a : Answer) : Type 0 where
+pub record Ended (doc rows warnings text : List ℕ) (a : Result Fill Refusal) : Type 0 where
   pub sound : Sound doc
   pub ends : EndsNodes (runs doc 0 begun) (lent rows warnings text) a
 
 -- what a refusal says: zeros in every buffer
 pub record Refuses (x : Refusal) (rows rows' warnings warnings' text text' : List ℕ) (v : Verdict) : Type 0 where
-  pub verdict : v ≡ Refused x
+  pub verdict : v ≡ Err x
   pub rows_left : rows' ≡ replicate (length rows) 0
   pub warnings_left_lem : warnings' ≡ replicate (length warnings) 0
   pub text_left_lem : text' ≡ replicate (length text) 0
@@ -32,7 +30,7 @@ pub record HasRoom (r w t : ℕ) (f : Fill) (b : Bool) : Type 0 where
 
 -- what an acceptance says: zeros past the used part
 pub record Accepts (f : Fill) (rows rows' warnings warnings' text text' : List ℕ) (v : Verdict) : Type 0 where
-  pub verdict : v ≡ Accepted f.rows f.text f.warnings
+  pub verdict : v ≡ Ok (counts f.rows f.text f.warnings)
   pub rows_left : rows' ≡ cleared (f.rows * 16) rows
   pub warnings_left_lem : warnings' ≡ cleared (f.warnings * 4) warnings
   pub text_left_lem : text' ≡ cleared f.text text

@@ -1,6 +1,6 @@
 -- The node loop: which nodes are open, and what a turn of the loop says.
 -- Assumes nothing.
-use Rattle.std.specs.Prelude.{ℕ, zero, suc, ◌+◌, ◌-◌, ◌≤◌, ◌<◌, ◌≡◌, List, [], ◌∷◌, true, eqb, length, get_or}
+use Rattle.std.specs.Prelude.{ℕ, zero, suc, ◌+◌, ◌-◌, ◌≤◌, ◌<◌, ◌≡◌, List, [], ◌∷◌, true, eqb, length, get_or, Result, Ok, Err}
 use Rattle.slices.specs.Bytes.{if}
 use Rattle.document.specs.Kinds as kinds
 use Rattle.document.specs.Tags.{Shown}
@@ -10,11 +10,11 @@ use Rattle.document.specs.Reading.{Name, Frame, element, State, begun, reading, 
 use Rattle.document.specs.Outcome.{Lent, lent, name_at, Stands, Bounded, TagIs, TagFits, OnwardNext, Leads, Child, moved, runs, whole}
 use Rattle.document.specs.declared.StartTag.{StartTag}
 use Rattle.document.specs.declared.Fill.{Fill}
-use Rattle.document.specs.declared.Answer.{Answer}
 use Rattle.document.specs.declared.Next.{Next}
+use Rattle.document.specs.declared.Refusal.{Refusal}
 use Rattle.reader.specs.declared.Walk.{Walk}
 use Rattle.reader.specs.declared.Turn.{Turn}
-use Rattle.reader.specs.declared.Turn.TheVariants.{Fault, Done, On}
+use Rattle.reader.specs.declared.Turn.TheVariants.{Done, On}
 
 -- the frames of the open nodes: the root, whose name is given, and nodes in it; the first 1,024 words are their rows, the root's
 -- first, and the next the places of their names, each `node`
@@ -33,24 +33,24 @@ pub record Walking (doc opened : List ℕ) (s : Walk) : Type 0 where
   pub named : (j : ℕ) → 0 < j → j < s.depth → get_or opened (j + 1024) 0 + 4 ≤ length doc
   pub owners : (j : ℕ) → j < s.depth → get_or opened j 0 < s.fill.rows
 
-abbrev pub OnwardTurn : List ℕ → List ℕ → Walk → Turn → Type 0
-OnwardTurn doc opened s (Fault x) = Unit {0}
-OnwardTurn doc opened s (Done g) = Bounded doc g
-OnwardTurn doc opened s (On s') = (s.fill.at < s'.fill.at) × Walking doc opened s'
+abbrev pub OnwardTurn : List ℕ → List ℕ → Walk → Result Turn Refusal → Type 0
+OnwardTurn doc opened s (Err x) = Unit {0}
+OnwardTurn doc opened s (Ok (Done g)) = Bounded doc g
+OnwardTurn doc opened s (Ok (On s')) = (s.fill.at < s'.fill.at) × Walking doc opened s'
 
 -- where a run in the open nodes comes to
-abbrev pub LeadsFrom : List ℕ → Name → List ℕ → State Shown → Lent → Turn → Type 0
-LeadsFrom doc root opened x b (Fault y) = x ≡ refused y
-LeadsFrom doc root opened x b (Done g) = (u : Tables Shown) × Stands u b g × (x ≡ accepted u)
-LeadsFrom doc root opened x b (On s) = (u : Tables Shown) × Stands u b s.fill × (x ≡ runs doc s.fill.at (reading (frames_of doc root opened s.depth) u))
+abbrev pub LeadsFrom : List ℕ → Name → List ℕ → State Shown → Lent → Result Turn Refusal → Type 0
+LeadsFrom doc root opened x b (Err y) = x ≡ refused y
+LeadsFrom doc root opened x b (Ok (Done g)) = (u : Tables Shown) × Stands u b g × (x ≡ accepted u)
+LeadsFrom doc root opened x b (Ok (On s)) = (u : Tables Shown) × Stands u b s.fill × (x ≡ runs doc s.fill.at (reading (frames_of doc root opened s.depth) u))
 
 -- what one token more says
-pub record Turns (doc : List ℕ) (root : Name) (opened opened' : List ℕ) (s : Walk) (b b' : Lent) (r : Turn) : Type 0 where
+pub record Turns (doc : List ℕ) (root : Name) (opened opened' : List ℕ) (s : Walk) (b b' : Lent) (r : Result Turn Refusal) : Type 0 where
   pub onward : OnwardTurn doc opened' s r
   pub leads : (v : Tables Shown) → Stands v b s.fill → LeadsFrom doc root opened' (runs doc s.fill.at (reading (frames_of doc root opened s.depth) v)) b' r
 
 -- what a node in a node says, where row i is the innermost open node's
-pub record Opens (doc : List ℕ) (c : StartTag) (i : ℕ) (s : Walk) (opened opened' rows rows' text text' : List ℕ) (r : Turn) : Type 0 where
+pub record Opens (doc : List ℕ) (c : StartTag) (i : ℕ) (s : Walk) (opened opened' rows rows' text text' : List ℕ) (r : Result Turn Refusal) : Type 0 where
   pub onward : OnwardTurn doc opened' s r
   pub leads :
       (root : Name) (t : Tag) (v : Tables Shown) (w : List ℕ) →
@@ -72,13 +72,12 @@ pub record Looks (doc : List ℕ) (at len inner : ℕ) (s : Walk) : Type 0 where
   pub small : length doc ≤ 1048576
 
 -- what comes next in the innermost open node
-pub record NextIn (doc : List ℕ) (root : Name) (inner : ℕ) (s : Walk) (r : Next) : Type 0 where
+pub record NextIn (doc : List ℕ) (root : Name) (inner : ℕ) (s : Walk) (r : Result Next Refusal) : Type 0 where
   pub onward : OnwardNext doc s.fill.at r
   pub leads : (f : Frame) (fs : List Frame) (u : Tables Shown) → name_of f ≡ name_in doc root inner s → Leads doc s.fill.at f fs u r
 
 -- what closing the innermost open node says: the root's end, or one level less
 abbrev pub IsShut : Walk → ℕ → Turn → Type 0
-IsShut s end (Fault x) = ⊥
 IsShut s end (Done g) = (s.depth ≡ 1) × (g ≡ moved s.fill end)
 IsShut s end (On s') = (s.depth ≡ 1 → ⊥) × (s' ≡ record { depth = s.depth - 1; fill = moved s.fill end })
 
@@ -86,14 +85,14 @@ pub record Shuts (s : Walk) (end : ℕ) (r : Turn) : Type 0 where
   pub is : IsShut s end r
 
 -- what a child that is no node says, where row i is the innermost open node's
-abbrev pub IsChildIn : List ℕ → StartTag → ℕ → Walk → Lent → Lent → Turn → Type 0
-IsChildIn doc c i s b b' (Fault x) = Child doc kinds.in_node true c i (moved s.fill c.end) b b' (Answer.Fault x)
-IsChildIn doc c i s b b' (Done g) = ⊥
-IsChildIn doc c i s b b' (On s') =
-    Child doc kinds.in_node true c i (moved s.fill c.end) b b' (Answer.Done s'.fill)
+abbrev pub IsChildIn : List ℕ → StartTag → ℕ → Walk → Lent → Lent → Result Turn Refusal → Type 0
+IsChildIn doc c i s b b' (Err x) = Child doc kinds.in_node true c i (moved s.fill c.end) b b' (Err x)
+IsChildIn doc c i s b b' (Ok (Done g)) = ⊥
+IsChildIn doc c i s b b' (Ok (On s')) =
+    Child doc kinds.in_node true c i (moved s.fill c.end) b b' (Ok s'.fill)
     × (s' ≡ record { depth = s.depth; fill = s'.fill })
 
-pub record ChildIn (doc : List ℕ) (c : StartTag) (i : ℕ) (s : Walk) (b b' : Lent) (r : Turn) : Type 0 where
+pub record ChildIn (doc : List ℕ) (c : StartTag) (i : ℕ) (s : Walk) (b b' : Lent) (r : Result Turn Refusal) : Type 0 where
   pub is : IsChildIn doc c i s b b' r
 
 -- a start tag in the innermost open node
@@ -104,7 +103,7 @@ pub record Started (doc opened : List ℕ) (c : StartTag) (s : Walk) : Type 0 wh
   pub four : c.kind ≡ kinds.node → c.len ≡ 4
 
 -- what the element of that tag says
-pub record Begun (doc : List ℕ) (c : StartTag) (s : Walk) (opened opened' : List ℕ) (b b' : Lent) (r : Turn) : Type 0 where
+pub record Begun (doc : List ℕ) (c : StartTag) (s : Walk) (opened opened' : List ℕ) (b b' : Lent) (r : Result Turn Refusal) : Type 0 where
   pub onward : OnwardTurn doc opened' s r
   pub leads :
       (root : Name) (t : Tag) (v : Tables Shown) →
@@ -113,19 +112,19 @@ pub record Begun (doc : List ℕ) (c : StartTag) (s : Walk) (opened opened' : Li
       LeadsFrom doc root opened' (runs doc c.end (child whole doc kinds.node (get_or opened (s.depth - 1) 0) t (frames_of doc root opened s.depth) v)) b' r
 
 -- what walking the open nodes to the root's end says
-abbrev pub EndsNodes : State Shown → Lent → Answer → Type 0
-EndsNodes x b (Answer.Fault y) = x ≡ refused y
-EndsNodes x b (Answer.Done g) = (u : Tables Shown) × Stands u b g × (x ≡ accepted u)
+abbrev pub EndsNodes : State Shown → Lent → Result Fill Refusal → Type 0
+EndsNodes x b (Err y) = x ≡ refused y
+EndsNodes x b (Ok g) = (u : Tables Shown) × Stands u b g × (x ≡ accepted u)
 
-pub record Walks (doc : List ℕ) (root : Name) (opened : List ℕ) (s : Walk) (b b' : Lent) (r : Answer) : Type 0 where
+pub record Walks (doc : List ℕ) (root : Name) (opened : List ℕ) (s : Walk) (b b' : Lent) (r : Result Fill Refusal) : Type 0 where
   pub leads : (v : Tables Shown) → Stands v b s.fill → EndsNodes (runs doc s.fill.at (reading (frames_of doc root opened s.depth) v)) b' r
 
 -- what reading a whole document says, apart from its limit and its UTF-8
-pub record ReadsWhole (doc : List ℕ) (b : Lent) (r : Answer) : Type 0 where
+pub record ReadsWhole (doc : List ℕ) (b : Lent) (r : Result Fill Refusal) : Type 0 where
   pub ends : EndsNodes (runs doc 0 begun) b r
 
 -- what reading the root element says
-pub record ReadsRoot (doc : List ℕ) (c : StartTag) (b : Lent) (r : Answer) : Type 0 where
+pub record ReadsRoot (doc : List ℕ) (c : StartTag) (b : Lent) (r : Result Fill Refusal) : Type 0 where
   pub ends : (t : Tag) → TagIs doc c t → EndsNodes (runs doc c.end (begins whole doc kinds.node t [] (record { rows = []; warnings = [] }))) b r
 
 -- room for the rows and the names of the open nodes: the root's row is 0

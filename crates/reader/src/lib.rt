@@ -2,7 +2,6 @@
 #![tactic(auto)]
 
 ghost use Rattle.std.specs.Prelude.{◌≡◌, true, false, ◌+◌, ◌*◌, ◌≤◌, ◌<◌, ◌^◌, length, set};
-ghost use Rattle.scan.specs.Classes.{Classes};
 ghost use Rattle.document.specs.Kinds as kinds;
 ghost use Rattle.document.specs.Outcome.{lent, name_at, Ready, Sound, TagFits, Child, moved};
 ghost use Rattle.document.specs.Whole.{room_of, Says};
@@ -10,8 +9,9 @@ ghost use Rattle.files.specs.Files.{Reads};
 ghost use Rattle.reader.specs.Entry.{Ended, Refuses, HasRoom, Accepts};
 ghost use Rattle.reader.specs.Nodes.{Walking, Turns, Opens, Looks, NextIn, Shuts, ChildIn, Started, Begun, Walks, Levels, RootOpen, ReadsRoot, ReadsWhole};
 
-use document::{Answer, Fill, Next, Refusal, StartTag, Token, Verdict, kinds};
+use document::{Counts, Fill, Next, Refusal, StartTag, Token, Verdict, kinds};
 use files::Reading;
+use scan::ClassTable;
 use tags::step;
 
 // How many nodes are open, and the counts so far.
@@ -21,29 +21,28 @@ pub struct Walk {
     pub fill: Fill,
 }
 
-// What a turn of the node loop comes to: a fault, the root's end, or one token more.
+// What a turn of the node loop comes to: the root's end, or one token more.
 #[derive(Clone, Copy)]
 pub enum Turn {
-    Fault(Refusal),
     Done(Fill),
     On(Walk),
 }
 
 // A child of a node with row i that is no node itself.
+#[tactic(auto, using(crate::proofs::NodeChildren::node_children))]
 fn node_child(
     doc: &[u8],
-    classes: &[u8; 256],
+    classes: &ClassTable,
     rows: &mut [u32],
     warnings: &mut [u32],
     text: &mut [u8],
     c: StartTag,
     i: usize,
     f: Fill,
-) -> Answer
-    requires fact_1 { Ready doc.now c f }
-    requires fact_2 { i < f.rows }
-    requires fact_3 { (c.kind ≡ kinds.node → ⊥) }
-    requires fact_4 { Classes classes.now }
+) -> Result<Fill, Refusal>
+    requires ready { Ready doc.now c f }
+    requires owner { i < f.rows }
+    requires no_node { (c.kind ≡ kinds.node → ⊥) }
     ensures { Child doc.now kinds.in_node true c i f
         (lent rows.old warnings.old text.old)
         (lent rows.new warnings.new text.new) result }
@@ -69,6 +68,7 @@ fn keep_level(opened: &mut [u32], depth: usize, row: usize, at: usize)
 }
 
 // A node in a node: its row, and where it is open one more level, with the place of its name.
+#[tactic(auto, using(crate::proofs::Opened::node_opens))]
 fn open_node(
     doc: &[u8],
     rows: &mut [u32],
@@ -77,44 +77,42 @@ fn open_node(
     c: StartTag,
     i: usize,
     s: Walk,
-) -> Turn
-    requires fact_1 { Started doc.now opened.old c s }
-    requires fact_2 { c.kind ≡ kinds.node }
-    requires fact_3 { i < s.fill.rows }
+) -> Result<Turn, Refusal>
+    requires started { Started doc.now opened.old c s }
+    requires node { c.kind ≡ kinds.node }
+    requires owner { i < s.fill.rows }
     ensures { Opens doc.now c i s opened.old opened.new rows.old
         rows.new text.old text.new result }
 {
     let f = s.fill;
     let depth = s.depth;
     let closes = c.closes;
-    let h = Fill {
-        at: c.end,
-        rows: f.rows,
-        warnings: f.warnings,
-        text: f.text,
-    };
-    match elements::node_row(doc, rows, text, c, i + 1, h) {
-        Answer::Fault(refusal) => Turn::Fault(refusal),
-        Answer::Done(g) => {
-            if closes {
-                return Turn::On(Walk { depth, fill: g });
-            }
-            if depth == 1024 {
-                return Turn::Fault(document::bare(7, c.end));
-            }
-            keep_level(opened, depth, f.rows, c.at);
-            Turn::On(Walk {
-                depth: depth + 1,
-                fill: g,
-            })
-        }
+    let h = f.moved(c.end);
+    let g = elements::node_row(doc, rows, text, c, i + 1, h)?;
+    if closes {
+        return Ok(Turn::On(Walk { depth, fill: g }));
     }
+    if depth == 1024 {
+        return Err(document::bare(7, c.end));
+    }
+    keep_level(opened, depth, f.rows, c.at);
+    Ok(Turn::On(Walk {
+        depth: depth + 1,
+        fill: g,
+    }))
 }
 
 // What comes next in the innermost open node; the root's name stands at a place, and `node` at another where it is not the root.
-fn next_in(doc: &[u8], classes: &[u8; 256], at: usize, len: usize, inner: usize, s: Walk) -> Next
-    requires fact_1 { Looks doc.now «at» len inner s }
-    requires fact_2 { Classes classes.now }
+#[tactic(auto, using(crate::proofs::Turning::nexts))]
+fn next_in(
+    doc: &[u8],
+    classes: &ClassTable,
+    at: usize,
+    len: usize,
+    inner: usize,
+    s: Walk,
+) -> Result<Next, Refusal>
+    requires looks { Looks doc.now «at» len inner s }
     ensures { NextIn doc.now (name_at doc.now «at» len) inner s result }
 {
     let from = s.fill.at;
@@ -125,6 +123,7 @@ fn next_in(doc: &[u8], classes: &[u8; 256], at: usize, len: usize, inner: usize,
 }
 
 // The closing tag of the innermost open node.
+#[tactic(auto, using(crate::proofs::Turning::shutting))]
 fn close_node(s: Walk, end: usize) -> Turn
     requires { 0 < s.depth }
     ensures { Shuts s end result }
@@ -141,48 +140,46 @@ fn close_node(s: Walk, end: usize) -> Turn
 }
 
 // A child of the innermost open node that is no node itself.
+#[tactic(auto, using(crate::proofs::Turning::child_ins))]
 fn read_child(
     doc: &[u8],
-    classes: &[u8; 256],
+    classes: &ClassTable,
     rows: &mut [u32],
     warnings: &mut [u32],
     text: &mut [u8],
     c: StartTag,
     i: usize,
     s: Walk,
-) -> Turn
-    requires fact_1 { Ready doc.now c (moved s.fill c.end) }
-    requires fact_2 { i < s.fill.rows }
-    requires fact_3 { (c.kind ≡ kinds.node → ⊥) }
-    requires fact_4 { Classes classes.now }
+) -> Result<Turn, Refusal>
+    requires ready { Ready doc.now c (moved s.fill c.end) }
+    requires owner { i < s.fill.rows }
+    requires no_node { (c.kind ≡ kinds.node → ⊥) }
     ensures { ChildIn doc.now c i s
         (lent rows.old warnings.old text.old)
         (lent rows.new warnings.new text.new) result }
 {
     let f = s.fill;
     let fill = f.moved(c.end);
-    match node_child(doc, classes, rows, warnings, text, c, i, fill) {
-        Answer::Fault(refusal) => Turn::Fault(refusal),
-        Answer::Done(g) => Turn::On(Walk {
-            depth: s.depth,
-            fill: g,
-        }),
-    }
+    let g = node_child(doc, classes, rows, warnings, text, c, i, fill)?;
+    Ok(Turn::On(Walk {
+        depth: s.depth,
+        fill: g,
+    }))
 }
 
 // An element in the innermost open node.
+#[tactic(auto, using(crate::proofs::Turning::starteds))]
 fn start_in(
     doc: &[u8],
-    classes: &[u8; 256],
+    classes: &ClassTable,
     rows: &mut [u32],
     warnings: &mut [u32],
     text: &mut [u8],
     opened: &mut [u32],
     c: StartTag,
     s: Walk,
-) -> Turn
-    requires fact_1 { Started doc.now opened.old c s }
-    requires fact_2 { Classes classes.now }
+) -> Result<Turn, Refusal>
+    requires started { Started doc.now opened.old c s }
     ensures { Begun doc.now c s opened.old opened.new
         (lent rows.old warnings.old text.old)
         (lent rows.new warnings.new text.new) result }
@@ -196,9 +193,10 @@ fn start_in(
 }
 
 // One token more in the innermost open node.
+#[tactic(auto, using(crate::proofs::Turning::turns))]
 fn turn_at(
     doc: &[u8],
-    classes: &[u8; 256],
+    classes: &ClassTable,
     rows: &mut [u32],
     warnings: &mut [u32],
     text: &mut [u8],
@@ -206,10 +204,9 @@ fn turn_at(
     at: usize,
     len: usize,
     s: Walk,
-) -> Turn
-    requires fact_1 { Walking doc.now opened.old s }
-    requires fact_2 { at + len ≤ length doc.now }
-    requires fact_3 { Classes classes.now }
+) -> Result<Turn, Refusal>
+    requires walking { Walking doc.now opened.old s }
+    requires named { at + len ≤ length doc.now }
     ensures { Turns doc.now (name_at doc.now «at» len) opened.old
         opened.new s (lent rows.old warnings.old text.old)
         (lent rows.new warnings.new text.new) result }
@@ -217,9 +214,8 @@ fn turn_at(
     let last = s.depth - 1;
     let level = last + 1024;
     let inner = wide(opened[level]);
-    match next_in(doc, classes, at, len, inner, s) {
-        Next::Fault(refusal) => Turn::Fault(refusal),
-        Next::Close(_, end) => close_node(s, end),
+    match next_in(doc, classes, at, len, inner, s)? {
+        Next::Close(closing) => Ok(close_node(s, closing.end)),
         Next::Start(c) => start_in(doc, classes, rows, warnings, text, opened, c, s),
     }
 }
@@ -231,9 +227,10 @@ fn wide(x: u32) -> usize
 }
 
 // The open nodes, up to the root's end.
+#[tactic(auto, using(crate::proofs::Rooted::walking))]
 fn nodes(
     doc: &[u8],
-    classes: &[u8; 256],
+    classes: &ClassTable,
     rows: &mut [u32],
     warnings: &mut [u32],
     text: &mut [u8],
@@ -241,26 +238,18 @@ fn nodes(
     at: usize,
     len: usize,
     s: Walk,
-) -> Answer
-    requires fact_1 { Walking doc.now opened.old s }
-    requires fact_2 { at + len ≤ length doc.now }
-    requires fact_3 { Classes classes.now }
+) -> Result<Fill, Refusal>
+    requires walking { Walking doc.now opened.old s }
+    requires named { at + len ≤ length doc.now }
     ensures { Walks doc.now (name_at doc.now «at» len) opened.old s
         (lent rows.old warnings.old text.old)
         (lent rows.new warnings.new text.new) result }
 {
     let mut w = s;
     loop {
-        match turn_at(doc, classes, rows, warnings, text, opened, at, len, w) {
-            Turn::Fault(refusal) => {
-                return Answer::Fault(refusal);
-            }
-            Turn::Done(f) => {
-                return Answer::Done(f);
-            }
-            Turn::On(next) => {
-                w = next;
-            }
+        match turn_at(doc, classes, rows, warnings, text, opened, at, len, w)? {
+            Turn::Done(f) => return Ok(f),
+            Turn::On(next) => w = next,
         }
     }
 }
@@ -273,17 +262,17 @@ fn levels() -> [u32; 2048]
 }
 
 // The children of the root, whose row is put.
+#[tactic(auto, using(crate::proofs::Rooted::leveled))]
 fn open_root(
     doc: &[u8],
-    classes: &[u8; 256],
+    classes: &ClassTable,
     rows: &mut [u32],
     warnings: &mut [u32],
     text: &mut [u8],
     c: StartTag,
     g: Fill,
-) -> Answer
-    requires fact_1 { RootOpen doc.now c g rows.old text.old }
-    requires fact_2 { Classes classes.now }
+) -> Result<Fill, Refusal>
+    requires opened { RootOpen doc.now c g rows.old text.old }
     ensures { ReadsRoot doc.now c (lent rows.new warnings.new text.new) result }
 {
     let mut opened = levels();
@@ -302,18 +291,18 @@ fn open_root(
 }
 
 // The root element, which may have any name.
+#[tactic(auto, using(crate::proofs::Rooted::rooted))]
 fn root_node(
     doc: &[u8],
-    classes: &[u8; 256],
+    classes: &ClassTable,
     rows: &mut [u32],
     warnings: &mut [u32],
     text: &mut [u8],
     c: StartTag,
-) -> Answer
-    requires fact_1 { Sound doc.now }
-    requires fact_2 { TagFits doc.now c }
-    requires fact_3 { 0 < c.at }
-    requires fact_4 { Classes classes.now }
+) -> Result<Fill, Refusal>
+    requires sound { Sound doc.now }
+    requires fits { TagFits doc.now c }
+    requires after_start { 0 < c.at }
     ensures { ReadsRoot doc.now c (lent rows.new warnings.new text.new) result }
 {
     let fill = Fill {
@@ -322,38 +311,34 @@ fn root_node(
         warnings: 0,
         text: 0,
     };
-    match elements::node_row(doc, rows, text, c, 0, fill) {
-        Answer::Fault(refusal) => Answer::Fault(refusal),
-        Answer::Done(g) => {
-            if c.closes {
-                return Answer::Done(g);
-            }
-            open_root(doc, classes, rows, warnings, text, c, g)
-        }
+    let g = elements::node_row(doc, rows, text, c, 0, fill)?;
+    if c.closes {
+        return Ok(g);
     }
+    open_root(doc, classes, rows, warnings, text, c, g)
 }
 
 // The document's root element, past what is ignorable.
+#[tactic(auto, using(crate::proofs::Rooted::firsts))]
 fn document_node(
     doc: &[u8],
-    classes: &[u8; 256],
+    classes: &ClassTable,
     rows: &mut [u32],
     warnings: &mut [u32],
     text: &mut [u8],
-) -> Answer
-    requires fact_1 { Sound doc.now }
-    requires fact_2 { Classes classes.now }
+) -> Result<Fill, Refusal>
+    requires sound { Sound doc.now }
     ensures { ReadsWhole doc.now (lent rows.new warnings.new text.new) result }
 {
-    match tags::token(doc, classes, 0) {
-        Token::Fault(x) => Answer::Fault(x),
-        Token::End(place) => Answer::Fault(document::bare(3, place)),
-        Token::Close(c) => Answer::Fault(document::bare(4, c.lt + 1)),
+    match tags::token(doc, classes, 0)? {
+        Token::End(place) => Err(document::bare(3, place)),
+        Token::Close(c) => Err(document::bare(4, c.lt + 1)),
         Token::Start(c) => root_node(doc, classes, rows, warnings, text, c),
     }
 }
 
 // Leaves zeros in every buffer.
+#[tactic(auto, using(crate::proofs::Entries::clearing))]
 pub fn refuse(rows: &mut [u32], warnings: &mut [u32], text: &mut [u8], refusal: Refusal) -> Verdict
     ensures { Refuses refusal rows.old rows.new warnings.old
         warnings.new text.old text.new result }
@@ -361,7 +346,7 @@ pub fn refuse(rows: &mut [u32], warnings: &mut [u32], text: &mut [u8], refusal: 
     tables::clear_words(rows, 0);
     tables::clear_words(warnings, 0);
     tables::clear_bytes(text, 0);
-    Verdict::Refused(refusal)
+    Err(refusal)
 }
 
 // Leaves zeros past the used part of every buffer.
@@ -373,10 +358,15 @@ fn accept(rows: &mut [u32], warnings: &mut [u32], text: &mut [u8], f: Fill) -> V
     tables::clear_words(rows, f.rows * 16);
     tables::clear_words(warnings, f.warnings * 4);
     tables::clear_bytes(text, f.text);
-    Verdict::Accepted(f.rows, f.text, f.warnings)
+    Ok(Counts {
+        rows: f.rows,
+        text: f.text,
+        warnings: f.warnings,
+    })
 }
 
 // Whether whole rows, whole warnings and the text have room.
+#[tactic(auto, using(crate::proofs::Entries::rooms))]
 fn has_room(rows: usize, warnings: usize, text: usize, f: Fill) -> bool
     ensures { HasRoom rows warnings text f result }
 {
@@ -390,14 +380,21 @@ fn has_room(rows: usize, warnings: usize, text: usize, f: Fill) -> bool
 }
 
 // The verdict on a document that has been read, and the buffers that go with it.
-fn finish(doc: &[u8], rows: &mut [u32], warnings: &mut [u32], text: &mut [u8], a: Answer) -> Verdict
+#[tactic(auto, using(crate::proofs::Entries::finishing))]
+fn finish(
+    doc: &[u8],
+    rows: &mut [u32],
+    warnings: &mut [u32],
+    text: &mut [u8],
+    a: Result<Fill, Refusal>,
+) -> Verdict
     requires { Ended doc.now rows.old warnings.old text.old a }
     ensures { Says doc.now (room_of rows.old warnings.old text.old)
         rows.new warnings.new text.new result }
 {
     match a {
-        Answer::Fault(refusal) => refuse(rows, warnings, text, refusal),
-        Answer::Done(f) => {
+        Err(refusal) => refuse(rows, warnings, text, refusal),
+        Ok(f) => {
             if has_room(rows.len(), warnings.len(), text.len(), f) {
                 return accept(rows, warnings, text, f);
             }
@@ -408,6 +405,7 @@ fn finish(doc: &[u8], rows: &mut [u32], warnings: &mut [u32], text: &mut [u8], a
 }
 
 // Reads an introspection document into the tables lent: rows of 16 words, warnings of 4, text.
+#[tactic(auto, using(crate::proofs::Entries::entry))]
 pub fn parse_with_warnings(
     document: &[u8],
     rows: &mut [u32],
@@ -431,6 +429,7 @@ pub fn parse_with_warnings(
 }
 
 // The same for a document within the limit that is UTF-8.
+#[tactic(auto, using(crate::proofs::Entries::entry))]
 fn read_sound(doc: &[u8], rows: &mut [u32], warnings: &mut [u32], text: &mut [u8]) -> Verdict
     requires { Sound doc.now }
     ensures { Says doc.now (room_of rows.old warnings.old text.old)
@@ -443,6 +442,7 @@ fn read_sound(doc: &[u8], rows: &mut [u32], warnings: &mut [u32], text: &mut [u8
 
 // Reads a file into the tables lent: a document, or one in UTF-16 that begins with a byte order mark. The text of such a file is decoded into
 // the fourth buffer, and is then the document.
+#[tactic(auto, using(crate::proofs::Files::files))]
 pub fn read(
     document: &[u8],
     rows: &mut [u32],
@@ -455,26 +455,25 @@ pub fn read(
         rows.new warnings.new text.new decoded.new result }
 {
     match utf16::decode(document, decoded) {
-        utf16::Answer::Unmarked => {
+        Ok(None) => {
             let verdict = parse_with_warnings(document, rows, warnings, text);
             Reading {
                 verdict,
                 decoded: 0,
             }
         }
-        utf16::Answer::Refused(number, place) => {
-            let refusal = document::bare(number, place);
-            let verdict = refuse(rows, warnings, text, refusal);
-            Reading {
-                verdict,
-                decoded: 0,
-            }
-        }
-        utf16::Answer::Decoded(n) => {
+        Ok(Some(n)) => {
             let verdict = parse_with_warnings(&decoded[..n], rows, warnings, text);
             Reading {
                 verdict,
                 decoded: n,
+            }
+        }
+        Err(fault) => {
+            let verdict = refuse(rows, warnings, text, Refusal::from(fault));
+            Reading {
+                verdict,
+                decoded: 0,
             }
         }
     }

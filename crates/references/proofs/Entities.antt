@@ -11,13 +11,13 @@ use native.Mathlib.Omega.{arith}
 use lib.Dec.{eqb}
 use lib.ListN.{length, drop, get_or, drop_of_length-le}
 use lib.Seq.{drop-cons}
+use Rattle.std.proofs.Common.{Ok, Err}
 use Rattle.slices.specs.Bytes.{if, bytes, all, empty, same}
 use Rattle.slices.proofs.Runs.{same_equal}
 use Rattle.references.specs.Characters.{xml_char}
 use Rattle.references.specs.Unescape.{Reference, character, fault, decimal_digit, hex_digit, number, of_code, of_digits, of_number, char_reference, reference}
 use Rattle.references.specs.Digits.{digit_in, Base}
 use Rattle.references.specs.Outcome.{reference_of}
-use Rattle.references.specs.declared.Reference.TheVariants.{Character, Bad}
 use Rattle.references.proofs.Numbers.{char_small}
 
 pub sixteen : Base 16
@@ -28,7 +28,7 @@ ten = record { least = omega arith; most = omega arith }
 
 -- after `&#`
 module _ (s : List ℕ) where
-  pub code_none : length s ≤ 1 → reference_of (Bad 11) ≡ of_number (drop 1 s)
+  pub code_none : length s ≤ 1 → reference_of (Err 11) ≡ of_number (drop 1 s)
   code_none h = rw (drop_of_length-le s h)
 
   module _ (h : 1 < length s) {x : Reference} where
@@ -41,7 +41,7 @@ module _ (s : List ℕ) where
     pub code_decimal : (get_or s 1 0 ≡ 120 → ⊥) → (get_or s 1 0 ≡ 88 → ⊥) → x ≡ of_digits 10 (digit_in 10) (drop 1 s) → x ≡ of_number (drop 1 s)
     code_decimal e g f = f ∙ rw (drop-cons s 1 0 h, ne_eqb (get_or s 1 0) 120 e, ne_eqb (get_or s 1 0) 88 g)
 
-pub char_none : (s : List ℕ) → length s ≡ 0 → reference_of (Bad 10) ≡ char_reference s
+pub char_none : (s : List ℕ) → length s ≡ 0 → reference_of (Err 10) ≡ char_reference s
 char_none [] h = refl
 char_none (b ∷ l) h = absurd (omega arith)
 
@@ -49,7 +49,7 @@ pub char_number : (s : List ℕ) {x : Reference} → (length s ≡ 0 → ⊥) �
 char_number [] h e f = absurd (h refl)
 char_number (b ∷ l) h e f = f ∙ rw e
 
-pub char_other : (s : List ℕ) → (length s ≡ 0 → ⊥) → (get_or s 0 0 ≡ 35 → ⊥) → reference_of (Bad 10) ≡ char_reference s
+pub char_other : (s : List ℕ) → (length s ≡ 0 → ⊥) → (get_or s 0 0 ≡ 35 → ⊥) → reference_of (Err 10) ≡ char_reference s
 char_other [] h e = absurd (h refl)
 char_other (b ∷ l) h e = rw (ne_eqb b 35 e)
 
@@ -60,27 +60,27 @@ names_number [] h e k = absurd (omega arith)
 names_number (b ∷ l) h e k = rw e (rw e at k)
 
 module _ (s : List ℕ) {a : Bool} (e : a ≡ same s (bytes "amp")) where
-  pub names_amp : a ≡ true → reference_of (Character 38) ≡ reference s
+  pub names_amp : a ≡ true → reference_of (Ok 38) ≡ reference s
   unfolding reference
   names_amp t = rw (sym e ∙ t)
 
   module _ (f : a ≡ false) {b : Bool} (e₂ : b ≡ same s (bytes "lt")) where
-    pub names_lt : b ≡ true → reference_of (Character 60) ≡ reference s
+    pub names_lt : b ≡ true → reference_of (Ok 60) ≡ reference s
     unfolding reference
     names_lt t = rw (sym e ∙ f, sym e₂ ∙ t)
 
     module _ (f₂ : b ≡ false) {c : Bool} (e₃ : c ≡ same s (bytes "gt")) where
-      pub names_gt : c ≡ true → reference_of (Character 62) ≡ reference s
+      pub names_gt : c ≡ true → reference_of (Ok 62) ≡ reference s
       unfolding reference
       names_gt t = rw (sym e ∙ f, sym e₂ ∙ f₂, sym e₃ ∙ t)
 
       module _ (f₃ : c ≡ false) {d : Bool} (e₄ : d ≡ same s (bytes "quot")) where
-        pub names_quot : d ≡ true → reference_of (Character 34) ≡ reference s
+        pub names_quot : d ≡ true → reference_of (Ok 34) ≡ reference s
         unfolding reference
         names_quot t = rw (sym e ∙ f, sym e₂ ∙ f₂, sym e₃ ∙ f₃, sym e₄ ∙ t)
 
         module _ (f₄ : d ≡ false) {i : Bool} (e₅ : i ≡ same s (bytes "apos")) where
-          pub names_apos : i ≡ true → reference_of (Character 39) ≡ reference s
+          pub names_apos : i ≡ true → reference_of (Ok 39) ≡ reference s
           unfolding reference
           names_apos t = rw (sym e ∙ f, sym e₂ ∙ f₂, sym e₃ ∙ f₃, sym e₄ ∙ f₄, sym e₅ ∙ t)
 

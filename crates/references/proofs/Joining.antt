@@ -17,7 +17,8 @@ use Rattle.utf8.proofs.Sequences.{below}
 use Rattle.utf8.proofs.Texts.{bounded, whole, append_formed, after_whole}
 use Rattle.utf8.specs.Encoding.{utf8}
 use Rattle.answers.specs.Text.{Text, text, wrong, Says}
-use Rattle.answers.specs.declared.TextAnswer.{TextAnswer}
+use Rattle.std.proofs.Common.{Result}
+use Rattle.faults.specs.declared.Fault.{Fault}
 use Rattle.answers.proofs.Answers.{no_text, done-text, refused-wrong}
 use Rattle.references.specs.Escape.{escape}
 use Rattle.references.specs.Unescape.{Reference, character, fault, reference, Piece, shows, bad, referred, piece, before, joined, shown_from, unescape}
@@ -203,13 +204,13 @@ unescaping_joins a b s m n room e g h =
 
 -- ---- answers and bytes
 
-joined_says : {o : Text} {x y z t u : List ℕ} {m n : ℕ} {r : TextAnswer} → Says o (length z) z r → o ≡ text (t ++ u) → length t ≡ m → length u ≡ n → take m x ≡ t → take n y ≡ u → Joined x y z m n r
+joined_says : {o : Text} {x y z t u : List ℕ} {m n : ℕ} {r : Result ℕ Fault} → Says o (length z) z r → o ≡ text (t ++ u) → length t ≡ m → length u ≡ n → take m x ≡ t → take n y ≡ u → Joined x y z m n r
 joined_says s e i j k l = record {
   answer = s.answer ∙ rw (e, length-append, i, j);
   left = s.left ∙ rw (e, k, l, length-append, i, j);
 }
 
-refused_says : {o : Text} {z : List ℕ} {k p : ℕ} {r : TextAnswer} → Says o (length z) z r → o ≡ wrong k p → RefusedAt k p z r
+refused_says : {o : Text} {z : List ℕ} {k p : ℕ} {r : Result ℕ Fault} → Says o (length z) z r → o ≡ wrong k p → RefusedAt k p z r
 refused_says s e = record { answer = s.answer ∙ rw e; left = s.left ∙ rw e }
 
 pub escape_entries : EscapeEntriesJoin

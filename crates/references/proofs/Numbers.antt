@@ -14,13 +14,12 @@ use mir.Val.{Fits}
 use lib.Dec.{eqb, leb, ltb}
 use lib.ListN.{length, drop, get_or, drop_of_length-le}
 use lib.Seq.{drop-cons}
+use Rattle.std.proofs.Common.{Ok, Err}
 use Rattle.slices.specs.Bytes.{if, all}
 use Rattle.references.specs.Characters.{xml_char}
-use Rattle.references.specs.Unescape as definition
 use Rattle.references.specs.Unescape.{decimal_digit, hex_digit, digit_value, number, fault, of_code, of_digits}
 use Rattle.references.specs.Digits.{digit_in, bounded, Base}
 use Rattle.references.specs.Outcome.{reference_of}
-use Rattle.references.specs.declared.Reference.TheVariants.{Character, Bad}
 
 -- ---- characters
 
@@ -198,21 +197,21 @@ pub record Numbering (base : ℕ) (s : List ℕ) (from at n : ℕ) : Type 0 wher
   pub small : n ≤ 0x110000
   pub of_base : Base base
 
-pub number_none : (base : ℕ) (s : List ℕ) (from : ℕ) → length s ≤ from → reference_of (Bad 11) ≡ of_digits base (digit_in base) (drop from s)
+pub number_none : (base : ℕ) (s : List ℕ) (from : ℕ) → length s ≤ from → reference_of (Err 11) ≡ of_digits base (digit_in base) (drop from s)
 number_none base s from h = rw (drop_of_length-le s h)
 
 pub number_begins : {base : ℕ} {s : List ℕ} {from : ℕ} → Base base → from < length s → Numbering base s from from 0
 number_begins {base} {s} {from} b h = record { left = rw (drop-cons s from 0 h); small = omega arith; of_base = b }
 
 module _ {base : ℕ} {s : List ℕ} {from at n : ℕ} (g : Numbering base s from at n) where
-  pub number_ends : length s ≤ at → {t : Bool} → t ≡ xml_char n → t ≡ true → reference_of (Character n) ≡ of_digits base (digit_in base) (drop from s)
+  pub number_ends : length s ≤ at → {t : Bool} → t ≡ xml_char n → t ≡ true → reference_of (Ok n) ≡ of_digits base (digit_in base) (drop from s)
   number_ends h e f = sym (g.left ∙ rw (drop_of_length-le s h, sym e ∙ f))
 
-  pub number_fails : length s ≤ at → {t : Bool} → t ≡ xml_char n → t ≡ false → reference_of (Bad 11) ≡ of_digits base (digit_in base) (drop from s)
+  pub number_fails : length s ≤ at → {t : Bool} → t ≡ xml_char n → t ≡ false → reference_of (Err 11) ≡ of_digits base (digit_in base) (drop from s)
   number_fails h e f = sym (g.left ∙ rw (drop_of_length-le s h, sym e ∙ f))
 
   module _ (h : at < length s) {t : Bool} (e : t ≡ digit_in base (get_or s at 0)) where
-    pub number_stops : t ≡ false → reference_of (Bad 11) ≡ of_digits base (digit_in base) (drop from s)
+    pub number_stops : t ≡ false → reference_of (Err 11) ≡ of_digits base (digit_in base) (drop from s)
     number_stops f = sym (g.left ∙ rw (drop-cons s at 0 h, sym e ∙ f))
 
     pub number_digit : t ≡ true → digit_in base (get_or s at 0) ≡ true

@@ -10,14 +10,13 @@ use native.Mathlib.Numerals.{add-one}
 use native.Mathlib.Omega.{arith}
 use lib.ListN.{length, drop, take, get_or, length-drop, drop_of_length-le}
 use lib.Seq.{drop-cons, length-take-le}
+use Rattle.std.proofs.Common.{Result, Ok, Err}
 use Rattle.slices.specs.Bytes.{other, empty}
 use Rattle.slices.specs.Run.{Run}
 use Rattle.slices.proofs.Ends.{run_span, run_rest}
 use Rattle.references.specs.Unescape.{reference, referred, piece}
 use Rattle.references.specs.Outcome.{reference_of, Pieces}
-use Rattle.references.specs.declared.Reference.{Reference}
-use Rattle.references.specs.declared.Reference.TheVariants.{Character, Bad}
-use Rattle.references.specs.declared.Piece.TheVariants.{Byte, Char, Wrong}
+use Rattle.references.specs.declared.Shown.TheVariants.{Byte, Char}
 use Rattle.references.proofs.Entities.{good}
 
 some : (v : List ℕ) (end : ℕ) → end < length v → empty (drop end v) ≡ false
@@ -36,15 +35,15 @@ module _ (v : List ℕ) (at : ℕ) where
         let k : length (take (end - (at + 1)) (drop (at + 1) v)) ≡ end - (at + 1) = length-take-le (end - (at + 1)) (drop (at + 1) v) (rw length-drop (omega (arith, n.within))) in
         rw (b, ← add-one at, run_rest n, h, run_span n, k)
 
-    pub piece_unclosed : length v ≤ end → Pieces v at (Wrong 9)
+    pub piece_unclosed : length v ≤ end → Pieces v at (Err 9)
     unfolding piece
     piece_unclosed h = record { is = rw (b, ← add-one at, run_rest n, drop_of_length-le v h) }
 
-    module _ (h : end < length v) {r : Reference} (e : reference_of r ≡ reference (take (end - (at + 1)) (drop (at + 1) v))) where
-      pub piece_bad : {m : ℕ} → r ≡ Bad m → Pieces v at (Wrong m)
+    module _ (h : end < length v) {r : Result ℕ ℕ} (e : reference_of r ≡ reference (take (end - (at + 1)) (drop (at + 1) v))) where
+      pub piece_bad : {m : ℕ} → r ≡ Err m → Pieces v at (Err m)
       piece_bad f = record { is = to_end (some v end h) ∙ rw (← e, f) }
 
-      pub piece_char : {c : ℕ} → r ≡ Character c → Pieces v at (Char c (end + 1))
+      pub piece_char : {c : ℕ} → r ≡ Ok c → Pieces v at (Ok (record { shown = Char c; next = end + 1 }))
       piece_char {c} f =
           let g = good (take (end - (at + 1)) (drop (at + 1) v)) c (sym e ∙ rw f) in
           let k : length (take (end - (at + 1)) (drop (at + 1) v)) ≡ end - (at + 1) = length-take-le (end - (at + 1)) (drop (at + 1) v) (rw length-drop (omega (arith, n.within))) in
@@ -54,7 +53,7 @@ module _ (v : List ℕ) (at : ℕ) where
   module _ (h : at < length v) where
     -- a CR
     module _ (b : get_or v at 0 ≡ 13) where
-      pub line_last : length v ≤ at + 1 → Pieces v at (Byte 32 (at + 1))
+      pub line_last : length v ≤ at + 1 → Pieces v at (Ok (record { shown = Byte 32; next = at + 1 }))
       unfolding piece
       line_last l = record { is = (rw (b, one_on at, drop_of_length-le v (rw add-one at l)), omega arith, omega arith) }
 
@@ -65,23 +64,23 @@ module _ (v : List ℕ) (at : ℕ) where
             e : at + 1 + 1 ≡ at + 2
             e = omega arith
 
-        pub line_pair : get_or v (at + 1) 0 ≡ 10 → Pieces v at (Byte 32 (at + 2))
+        pub line_pair : get_or v (at + 1) 0 ≡ 10 → Pieces v at (Ok (record { shown = Byte 32; next = at + 2 }))
         unfolding piece
         line_pair f = let w : at + 2 - suc at ≡ 1 = omega arith in record { is = (rw (b, after, f, w), omega arith, omega arith) }
 
-        pub line_alone : (get_or v (at + 1) 0 ≡ 10 → ⊥) → Pieces v at (Byte 32 (at + 1))
+        pub line_alone : (get_or v (at + 1) 0 ≡ 10 → ⊥) → Pieces v at (Ok (record { shown = Byte 32; next = at + 1 }))
         unfolding piece
         line_alone f = record { is = (rw (b, after, ne_eqb (get_or v (at + 1) 0) 10 f, one_on at), omega arith, omega arith) }
 
-    pub piece_feed : get_or v at 0 ≡ 10 → Pieces v at (Byte 32 (at + 1))
+    pub piece_feed : get_or v at 0 ≡ 10 → Pieces v at (Ok (record { shown = Byte 32; next = at + 1 }))
     unfolding piece
     piece_feed b = record { is = (rw (b, one_on at), omega arith, omega arith) }
 
-    pub piece_tab : get_or v at 0 ≡ 9 → Pieces v at (Byte 32 (at + 1))
+    pub piece_tab : get_or v at 0 ≡ 9 → Pieces v at (Ok (record { shown = Byte 32; next = at + 1 }))
     unfolding piece
     piece_tab b = record { is = (rw (b, one_on at), omega arith, omega arith) }
 
-    pub piece_byte : (get_or v at 0 ≡ 38 → ⊥) → (get_or v at 0 ≡ 13 → ⊥) → (get_or v at 0 ≡ 10 → ⊥) → (get_or v at 0 ≡ 9 → ⊥) → Pieces v at (Byte (get_or v at 0) (at + 1))
+    pub piece_byte : (get_or v at 0 ≡ 38 → ⊥) → (get_or v at 0 ≡ 13 → ⊥) → (get_or v at 0 ≡ 10 → ⊥) → (get_or v at 0 ≡ 9 → ⊥) → Pieces v at (Ok (record { shown = Byte (get_or v at 0); next = at + 1 }))
     unfolding piece
     piece_byte e f g i =
         let b = get_or v at 0 in

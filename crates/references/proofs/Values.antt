@@ -1,7 +1,7 @@
 -- A value read from a place on: what is left to show, its faults alone, its bytes that show themselves, and the shown bytes put.
 -- Assumes nothing.
 use Prim.Native.Nat.{ℕ, zero, suc, ◌+◌, ◌-◌, ◌^◌, ◌≤◌, ◌<◌}
-use mathlib.Core.Path.{◌≡◌, refl, sym, ap, ◌∙◌}
+use mathlib.Core.Path.{◌≡◌, refl, sym, ap, subst, ◌∙◌}
 use mathlib.Core.List.{List, [], ◌∷◌, ◌++◌, append-nil, append_assoc}
 use mathlib.Core.Bool.{Bool, true, false, ◌||◌}
 use borrow.Author.Rules.{rules}
@@ -11,6 +11,7 @@ use native.Mathlib.Omega.{arith}
 use lib.Dec.{eqb}
 use lib.ListN.{length, drop, get_or, length-drop, drop_of_length-le}
 use lib.Seq.{drop-cons, drop-drop}
+use Rattle.std.proofs.Common.{Result, Ok, Err}
 use Rattle.slices.specs.Bytes.{if, other}
 use Rattle.slices.specs.Run.{Run}
 use Rattle.slices.proofs.Runs.{run_past, run_stop}
@@ -20,13 +21,12 @@ use Rattle.utf8.proofs.Encodings.{utf8_short}
 use Rattle.answers.specs.Text.{Text, text, wrong}
 use Rattle.answers.specs.Puts.{Puts}
 use Rattle.answers.proofs.Putting.{puts_none, puts_one, puts_then}
-use Rattle.references.specs.Unescape as definition
 use Rattle.references.specs.Unescape.{shows, bad, after_cr, piece, before, joined, shown_from, unescape, plain}
-use Rattle.references.specs.Outcome.{Pieces, IsPiece, Checks, Shows}
+use Rattle.references.specs.Outcome.{Pieces, IsShown, Checks, Shows}
 use Rattle.references.specs.declared.ValuePlace.{ValuePlace}
 use Rattle.references.specs.declared.Piece.{Piece}
-use Rattle.references.specs.declared.Piece.TheVariants.{Byte, Char, Wrong}
-use Rattle.references.specs.declared.Checked.TheVariants.{Good, Fault}
+use Rattle.references.specs.declared.Shown.{Shown}
+use Rattle.references.specs.declared.Shown.TheVariants.{Byte, Char}
 
 -- bytes that are taken already are dropped
 pub taken : (k : ℕ) (l : List ℕ) (at : ℕ) → k ≤ length l → shown_from k l at ≡ shown_from 0 (drop k l) (at + k)
@@ -68,14 +68,14 @@ before_nil (text t) = refl
 before_nil (wrong n p) = refl
 
 -- a piece by its kind
-is_byte : {v : List ℕ} {at b next : ℕ} {p : Piece} → Pieces v at p → p ≡ Byte b next → IsPiece v at (Byte b next)
-is_byte {v} {at} {b} {next} c e = let d : Pieces v at (Byte b next) = rw e at c in d.is
+is_piece : {v : List ℕ} {at : ℕ} {r : Result Piece ℕ} {p : Piece} → Pieces v at r → r ≡ Ok p → IsShown v at p.shown p.next
+is_piece {v} {at} {p = p} c e = let d : Pieces v at (Ok p) = rw e at c in d.is
 
-is_char : {v : List ℕ} {at k next : ℕ} {p : Piece} → Pieces v at p → p ≡ Char k next → IsPiece v at (Char k next)
-is_char {v} {at} {k} {next} c e = let d : Pieces v at (Char k next) = rw e at c in d.is
+is_kind : {v : List ℕ} {at : ℕ} {r : Result Piece ℕ} {p : Piece} {x : Shown} → Pieces v at r → r ≡ Ok p → p.shown ≡ x → IsShown v at x p.next
+is_kind {v} {at} {p = p} {x} c e f = subst (λ (y : Shown). IsShown v at y p.next) f (is_piece c e)
 
-is_wrong : {v : List ℕ} {at n : ℕ} {p : Piece} → Pieces v at p → p ≡ Wrong n → IsPiece v at (Wrong n)
-is_wrong {v} {at} {n} c e = let d : Pieces v at (Wrong n) = rw e at c in d.is
+is_wrong : {v : List ℕ} {at n : ℕ} {r : Result Piece ℕ} → Pieces v at r → r ≡ Err n → piece (get_or v at 0) (drop (suc at) v) ≡ bad n
+is_wrong {v} {at} {n} c e = let d : Pieces v at (Err n) = rw e at c in d.is
 
 -- ---- the faults alone
 
@@ -138,37 +138,38 @@ module _ {v : List ℕ} {at : ℕ} (g : Checking v at) where
   pub check_ampersand : at < length v → get_or v at 0 ≡ 38
   check_ampersand h = g.stops h
 
-  pub check_ends : length v ≤ at → Checks v Good
+  pub check_ends : length v ≤ at → Checks v (Ok tt)
   check_ends h = record { is = fault_none (unescape v) (g.left ∙ rw (rest_ends v at h)) }
 
-  module _ (h : at < length v) {p : Piece} (c : Pieces v at p) where
-    pub check_fault : {n : ℕ} {q : ValuePlace} → p ≡ Wrong n → q.0 ≡ at → Checks v (Fault n q)
+  module _ (h : at < length v) {p : Result Piece ℕ} (c : Pieces v at p) where
+    pub check_fault : {n : ℕ} {q : ValuePlace} → p ≡ Err n → q.0 ≡ at → Checks v (Err (record { number = n; place = q }))
     check_fault {n} e f = record { is = rw f (fault_some (unescape v) n at (g.left ∙ rw (rest_bad v at h (is_wrong c e)))) }
 
     check_on : {s : List ℕ} {next r : ℕ} → piece (get_or v at 0) (drop (suc at) v) ≡ shows s (next - suc at) → at < next → next ≤ length v → Run (other 38) v next r → Checking v r
     check_on {s} {next} e a b = to_ampersand (g.left ∙ rw (rest_shows v at h e a b) (fault_before s (rest v next)))
 
-    module _ {b next : ℕ} (e : p ≡ Byte b next) where
-      pub byte_inside : next ≤ length v
-      byte_inside = (is_byte c e).2
+    module _ {q : Piece} (e : p ≡ Ok q) where
+      pub piece_inside : (at < q.next) × (q.next ≤ length v)
+      piece_inside = go q.shown (is_piece c e)
+        where
+          go : (x : Shown) → IsShown v at x q.next → (at < q.next) × (q.next ≤ length v)
+          go (Byte b) d = (d.1, d.2)
+          go (Char k) d = (omega (arith, d.1), d.2)
 
-      pub check_byte : {r : ℕ} → Run (other 38) v next r → Checking v r
-      check_byte = check_on (is_byte c e).0 (is_byte c e).1 (is_byte c e).2
+      pub piece_within : q.next ≤ length v
+      piece_within = piece_inside.1
 
-      pub check_byte_less : {r : ℕ} → Run (other 38) v next r → length v - r < length v - at
-      check_byte_less n = omega (arith, n.onward, (is_byte c e).1)
+      pub check_more : {r : ℕ} → Run (other 38) v q.next r → Checking v r
+      check_more {r} n = go q.shown (is_piece c e)
+        where
+          go : (x : Shown) → IsShown v at x q.next → Checking v r
+          go (Byte b) d = check_on d.0 d.1 d.2 n
+          go (Char k) d = check_on d.0 (omega (arith, d.1)) d.2 n
 
-    module _ {k next : ℕ} (e : p ≡ Char k next) where
-      pub char_inside : next ≤ length v
-      char_inside = (is_char c e).2
+      pub check_less : {r : ℕ} → Run (other 38) v q.next r → length v - r < length v - at
+      check_less n = omega (arith, n.onward, piece_inside)
 
-      pub check_char : {r : ℕ} → Run (other 38) v next r → Checking v r
-      check_char = check_on (is_char c e).0 (omega (arith, (is_char c e).1)) (is_char c e).2
-
-      pub check_char_less : {r : ℕ} → Run (other 38) v next r → length v - r < length v - at
-      check_char_less n = omega (arith, n.onward, (is_char c e).1)
-
-pub ruleset checks = (check_begins, check_ampersand, check_ends, check_fault, byte_inside, check_byte, check_byte_less, char_inside, check_char, check_char_less, rules)
+pub ruleset checks = (check_begins, check_ampersand, check_ends, check_fault, piece_within, check_more, check_less, rules)
 
 -- ---- bytes that show themselves
 
@@ -211,8 +212,8 @@ module _ {v t₀ t : List ℕ} {n at m : ℕ} (g : Showing v n t₀ t at m) wher
           let q : text (g.shown ++ []) ≡ text s = sym (g.left ∙ rw (rest_ends v at h)) ∙ e in
           sym (append-nil g.shown) ∙ cc
 
-  module _ (h : at < length v) {p : Piece} (c : Pieces v at p) where
-    pub show_stops : {k : ℕ} → p ≡ Wrong k → Shows v n t₀ t m
+  module _ (h : at < length v) {p : Result Piece ℕ} (c : Pieces v at p) where
+    pub show_stops : {k : ℕ} → p ≡ Err k → Shows v n t₀ t m
     show_stops {k} e = record {
       least = g.least;
       most = omega (arith, g.most);
@@ -236,24 +237,25 @@ module _ {v t₀ t : List ℕ} {n at m : ℕ} (g : Showing v n t₀ t at m) wher
       same = l ∙ g.same;
     }
 
-    module _ {b next : ℕ} (e : p ≡ Byte b next) where
-      pub show_byte : {t' : List ℕ} {r : ℕ} → length t' ≡ length t → Put 1 (b ∷ []) m t t' r → Showing v n t₀ t' next r
-      show_byte l q = let d = is_byte c e in show_on d.0 d.2 d.1 (omega (arith, d.1)) l (puts_one q)
+    module _ {x : Piece} (e : p ≡ Ok x) where
+      module _ {b : ℕ} (f : x.shown ≡ Byte b) where
+        pub show_byte : {t' : List ℕ} {r : ℕ} → length t' ≡ length t → Put 1 (b ∷ []) m t t' r → Showing v n t₀ t' x.next r
+        show_byte l q = let d = is_kind c e f in show_on d.0 d.2 d.1 (omega (arith, d.1)) l (puts_one q)
 
-      pub show_byte_less : length v - next < length v - at
-      show_byte_less = let d = is_byte c e in omega (arith, d.1, d.2)
+        pub show_byte_less : length v - x.next < length v - at
+        show_byte_less = let d = is_kind c e f in omega (arith, d.1, d.2)
 
-    module _ {k next : ℕ} (e : p ≡ Char k next) where
-      pub show_char : {t' : List ℕ} {r : ℕ} → length t' ≡ length t → Puts (utf8 k) m t t' r → Showing v n t₀ t' next r
-      show_char l q = let d = is_char c e in show_on d.0 d.2 (omega (arith, d.1)) (omega (arith, d.1, utf8_short k)) l q
+      module _ {k : ℕ} (f : x.shown ≡ Char k) where
+        pub show_char : {t' : List ℕ} {r : ℕ} → length t' ≡ length t → Puts (utf8 k) m t t' r → Showing v n t₀ t' x.next r
+        show_char l q = let d = is_kind c e f in show_on d.0 d.2 (omega (arith, d.1)) (omega (arith, d.1, utf8_short k)) l q
 
-      pub show_char_less : length v - next < length v - at
-      show_char_less = let d = is_char c e in omega (arith, d.1, d.2)
+        pub show_char_less : length v - x.next < length v - at
+        show_char_less = let d = is_kind c e f in omega (arith, d.1, d.2)
 
-      pub show_char_small : k < 1114112
-      show_char_small = (is_char c e).3
+        pub show_char_small : k < 1114112
+        show_char_small = (is_kind c e f).3
 
-      pub show_char_room : n + length v < 2 ^ 62 → m + 4 < 2 ^ 62
-      show_char_room b = let d = is_char c e in omega (arith, d.1, d.2, g.most)
+        pub show_char_room : n + length v < 2 ^ 62 → m + 4 < 2 ^ 62
+        show_char_room b = let d = is_kind c e f in omega (arith, d.1, d.2, g.most)
 
 pub ruleset shown = (show_begins, show_ends, show_stops, show_byte, show_byte_less, show_char, show_char_less, show_char_small, show_char_room, rules)

@@ -1,10 +1,10 @@
 -- Theorems on a value in two pieces: the joined pieces' escape is the joined escapes, and they show what the pieces show, joined.
 -- Assumes nothing.
-use Rattle.std.specs.Prelude.{ℕ, ◌+◌, ◌-◌, ◌≤◌, ◌≡◌, List, [], ◌∷◌, ◌++◌, Bool, false, ◌&&◌, eqb, length, take, replicate}
+use Rattle.std.specs.Prelude.{ℕ, ◌+◌, ◌-◌, ◌≤◌, ◌≡◌, List, [], ◌∷◌, ◌++◌, Bool, false, ◌&&◌, eqb, length, take, replicate, Result, Ok, Err}
 use Rattle.utf8.specs.WellFormed.{ill_formed}
 use Rattle.answers.specs.Text.{Text, text, wrong, Says}
-use Rattle.answers.specs.declared.TextAnswer.{TextAnswer}
-use Rattle.answers.specs.declared.TextAnswer.TheVariants.{Refused, Done}
+use Rattle.faults.specs.Fault.{fault}
+use Rattle.faults.specs.declared.Fault.{Fault}
 use Rattle.references.specs.Escape.{escape}
 use Rattle.references.specs.Unescape.{before, unescape}
 use Rattle.references.specs.Normal.{leads}
@@ -59,37 +59,37 @@ UnescapingJoins = (a b s : List ℕ) (m n room : ℕ) → unescaping a m ≡ tex
 -- x, y and z are the three buffers after the calls with the first piece, the second and both; their lengths are the room lent
 
 -- both are done: so many bytes as the two, theirs joined, and zeros after them
-pub record Joined (x y z : List ℕ) (m n : ℕ) (r : TextAnswer) : Type 0 where
-  pub answer : r ≡ Done (m + n)
+pub record Joined (x y z : List ℕ) (m n : ℕ) (r : Result ℕ Fault) : Type 0 where
+  pub answer : r ≡ Ok (m + n)
   pub left : z ≡ (take m x ++ take n y) ++ replicate (length z - (m + n)) 0
 
 -- refused, with zeros
-pub record RefusedAt (k p : ℕ) (z : List ℕ) (r : TextAnswer) : Type 0 where
-  pub answer : r ≡ Refused k p
+pub record RefusedAt (k p : ℕ) (z : List ℕ) (r : Result ℕ Fault) : Type 0 where
+  pub answer : r ≡ Err (fault k p)
   pub left : z ≡ replicate (length z) 0
 
 -- `escape` was done with each piece (so they are UTF-8, within the limit, and had room); the joined one is within the limit and has room
 abbrev pub EscapeEntriesJoin : Type 0
 EscapeEntriesJoin =
-    (a b x y z : List ℕ) (p q r : TextAnswer) (m n : ℕ) →
+    (a b x y z : List ℕ) (p q r : Result ℕ Fault) (m n : ℕ) →
     Says (escaping a (length x)) (length x) x p →
     Says (escaping b (length y)) (length y) y q →
     Says (escaping (a ++ b) (length z)) (length z) z r →
-    p ≡ Done m → q ≡ Done n →
+    p ≡ Ok m → q ≡ Ok n →
     length (a ++ b) ≤ 1048576 → m + n ≤ length z →
     Joined x y z m n r
 
 -- what `unescape` answers for both, after it was done with the first piece: by what it answered for the second
-pub record UnescapeEntries (a x y z : List ℕ) (m : ℕ) (q r : TextAnswer) : Type 0 where
-  pub accepted : (n : ℕ) → q ≡ Done n → m + n ≤ length z → Joined x y z m n r
-  pub refused : (k p : ℕ) → (k ≡ 18 → ⊥) → q ≡ Refused k p → RefusedAt k (length a + p) z r
+pub record UnescapeEntries (a x y z : List ℕ) (m : ℕ) (q r : Result ℕ Fault) : Type 0 where
+  pub accepted : (n : ℕ) → q ≡ Ok n → m + n ≤ length z → Joined x y z m n r
+  pub refused : (k p : ℕ) → (k ≡ 18 → ⊥) → q ≡ Err (fault k p) → RefusedAt k (length a + p) z r
 
 -- the first piece is accepted, no line end is split, and both together are within the limit
 abbrev pub UnescapeEntriesJoin : Type 0
 UnescapeEntriesJoin =
-    (a b x y z : List ℕ) (p q r : TextAnswer) (m : ℕ) →
+    (a b x y z : List ℕ) (p q r : Result ℕ Fault) (m : ℕ) →
     Says (unescaping a (length x)) (length x) x p →
     Says (unescaping b (length y)) (length y) y q →
     Says (unescaping (a ++ b) (length z)) (length z) z r →
-    p ≡ Done m → split_line a b ≡ false → length (a ++ b) ≤ 1048576 →
+    p ≡ Ok m → split_line a b ≡ false → length (a ++ b) ≤ 1048576 →
     UnescapeEntries a x y z m q r

@@ -1,11 +1,10 @@
 -- Theorems on escaping: unescaping gives the text back, of the definitions and at the entries.
 -- Assumes nothing.
-use Rattle.std.specs.Prelude.{ℕ, ◌-◌, ◌≤◌, ◌≡◌, List, ◌++◌, true, length, take, replicate}
+use Rattle.std.specs.Prelude.{ℕ, ◌-◌, ◌≤◌, ◌≡◌, List, ◌++◌, true, length, take, replicate, Result, Ok}
 use Rattle.slices.specs.Bytes.{other, all}
 use Rattle.utf8.specs.WellFormed.{ill_formed}
 use Rattle.answers.specs.Text.{text, Says}
-use Rattle.answers.specs.declared.TextAnswer.{TextAnswer}
-use Rattle.answers.specs.declared.TextAnswer.TheVariants.{Done}
+use Rattle.faults.specs.declared.Fault.{Fault}
 use Rattle.references.specs.Escape.{escape}
 use Rattle.references.specs.Unescape.{unescape}
 use Rattle.references.specs.Entries.{escaping, unescaping}
@@ -36,14 +35,14 @@ abbrev pub UnescapingDone : Type 0
 UnescapingDone = (v : List ℕ) → ill_formed v ≡ length v → (room : ℕ) → length (escape v) ≤ 1048576 → length v ≤ room → unescaping (escape v) room ≡ text v
 
 -- answers and bytes: v was escaped to m bytes of the buffer x, and these are unescaped into the buffer y
-pub record Restores (v y : List ℕ) (r : TextAnswer) : Type 0 where
-  pub answer : r ≡ Done (length v)
+pub record Restores (v y : List ℕ) (r : Result ℕ Fault) : Type 0 where
+  pub answer : r ≡ Ok (length v)
   pub left : y ≡ v ++ replicate (length y - length v) 0
 
 abbrev pub EntriesRestore : Type 0
 EntriesRestore =
-    (v x y : List ℕ) (p r : TextAnswer) (m : ℕ) →
+    (v x y : List ℕ) (p r : Result ℕ Fault) (m : ℕ) →
     Says (escaping v (length x)) (length x) x p →
     Says (unescaping (take m x) (length y)) (length y) y r →
-    p ≡ Done m → m ≤ 1048576 → length v ≤ length y →
+    p ≡ Ok m → m ≤ 1048576 → length v ≤ length y →
     Restores v y r

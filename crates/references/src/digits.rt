@@ -5,61 +5,24 @@ ghost use Rattle.references.specs.Unescape.{decimal_digit, hex_digit, digit_valu
 ghost use Rattle.references.specs.Digits.{digit_in, bounded, Base};
 ghost use Rattle.references.specs.Outcome.{reference_of};
 
-use crate::Reference;
-
 // Whether XML allows a character.
+#[tactic(auto, unfolding(crate::specs::Characters::xml_char))]
 fn is_xml_char(c: u32) -> bool
     ensures { result ≡ xml_char c }
 {
-    if c < 0x20 {
-        if c == 9 {
-            return true;
-        }
-        if c == 10 {
-            return true;
-        }
-        return c == 13;
-    }
-    if c <= 0xd7ff {
-        return true;
-    }
-    if c < 0xe000 {
-        return false;
-    }
-    if c <= 0xfffd {
-        return true;
-    }
-    if c < 0x10000 {
-        return false;
-    }
-    c <= 0x10ffff
+    matches!(c, 9 | 10 | 13 | 0x20..=0xd7ff | 0xe000..=0xfffd | 0x10000..=0x10ffff)
 }
 
 fn is_decimal(b: u8) -> bool
     ensures { result ≡ decimal_digit b }
 {
-    if b < 48 {
-        return false;
-    }
-    b <= 57
+    matches!(b, b'0'..=b'9')
 }
 
 fn is_hex(b: u8) -> bool
     ensures { result ≡ hex_digit b }
 {
-    if is_decimal(b) {
-        return true;
-    }
-    if b < 65 {
-        return false;
-    }
-    if b <= 70 {
-        return true;
-    }
-    if b < 97 {
-        return false;
-    }
-    b <= 102
+    matches!(b, b'0'..=b'9' | b'A'..=b'F' | b'a'..=b'f')
 }
 
 // Whether a byte is a digit: of base 16, or of 10.
@@ -97,27 +60,22 @@ fn extended(n: u32, base: u32, d: u32) -> u32
     m
 }
 
-// The character that the digits from a place on write, with any number of zeros before them.
-pub fn of_digits(s: &[u8], from: usize, base: u32) -> Reference
+// The code of the character that the digits from a place on write, with any number of zeros before them, or a fault's number.
+#[tactic(auto, using(crate::proofs::Numbers::numbers))]
+pub fn of_digits(s: &[u8], from: usize, base: u32) -> Result<u32, u32>
     requires { Base base }
     ensures { reference_of result ≡ of_digits base (digit_in base) (drop from s.now) }
 {
     if s.len() <= from {
-        return Reference::Bad(11);
+        return Err(11);
     }
     let mut n = 0u32;
-    let mut at = from;
-    while at < s.len() {
+    for at in from..s.len() {
         let b = s[at];
-        if is_digit(base, b) {
-            n = extended(n, base, digit_value(base, b));
-            at += 1;
-        } else {
-            return Reference::Bad(11);
+        if !is_digit(base, b) {
+            return Err(11);
         }
+        n = extended(n, base, digit_value(base, b));
     }
-    if is_xml_char(n) {
-        return Reference::Character(n);
-    }
-    Reference::Bad(11)
+    if is_xml_char(n) { Ok(n) } else { Err(11) }
 }

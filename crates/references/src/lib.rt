@@ -1,8 +1,7 @@
 // References in attribute values: unescape, char_reference, escape.
 #![tactic(auto)]
 
-ghost use Rattle.std.specs.Prelude.{◌≡◌, ◌+◌, ◌*◌, ◌<◌, ◌^◌, length, drop, get_or};
-ghost use Rattle.scan.specs.Classes.{Classes};
+ghost use Rattle.std.specs.Prelude.{◌≡◌, ◌+◌, ◌*◌, ◌<◌, ◌^◌, length, drop, get_or, Ok};
 ghost use Rattle.answers.specs.Text.{answer_of, left_of};
 ghost use Rattle.answers.specs.Puts.{Puts};
 ghost use Rattle.references.specs.Escape.{escaped, escape};
@@ -12,6 +11,7 @@ ghost use Rattle.references.specs.Entries.{escaping, unescaping};
 ghost use Rattle.references.specs.Admission.{Admits, Reads};
 
 use answers::{TextAnswer, put};
+use scan::ClassTable;
 
 mod digits;
 
@@ -22,26 +22,25 @@ pub struct ValuePlace(pub usize);
 #[derive(Clone, Copy)]
 pub struct DocumentPlace(pub usize);
 
-// What a reference stands for: a character's code, or a fault's number.
+// What is shown: a byte, or a character by its code.
 #[derive(Clone, Copy)]
-pub enum Reference {
-    Character(u32),
-    Bad(u32),
+pub enum Shown {
+    Byte(u8),
+    Char(u32),
 }
 
-// What stands at a place of a value: a byte that is shown, or a character; each with the place after it. Or a fault's number.
+// What stands at a place of a value, and the place after it.
 #[derive(Clone, Copy)]
-pub enum Piece {
-    Byte(u8, usize),
-    Char(u32, usize),
-    Wrong(u32),
+pub struct Piece {
+    pub shown: Shown,
+    pub next: usize,
 }
 
-// Whether a value's references are good, or the first fault's number and place.
+// Why a value is refused: a fault's number, and its place in the value.
 #[derive(Clone, Copy)]
-pub enum Checked {
-    Good,
-    Fault(u32, ValuePlace),
+pub struct ValueFault {
+    pub number: u32,
+    pub place: ValuePlace,
 }
 
 // A place in a value as one in the document, where the value begins at an offset.
@@ -52,138 +51,134 @@ pub fn in_document(value_offset: usize, at: ValuePlace) -> DocumentPlace
     DocumentPlace(value_offset + at.0)
 }
 
-// After `&#`.
-fn of_number(entity: &[u8]) -> Reference
+// After `&#`: a character's code, or a fault's number, as of all that follow.
+fn of_number(entity: &[u8]) -> Result<u32, u32>
     requires { 0 < length entity.now }
     ensures { reference_of result ≡ of_number (drop 1 entity.now) }
 {
     if entity.len() <= 1 {
-        return Reference::Bad(11);
+        return Err(11);
     }
-    let b = entity[1];
-    if b == 120 {
-        return digits::of_digits(entity, 2, 16);
+    match entity[1] {
+        b'x' | b'X' => digits::of_digits(entity, 2, 16),
+        _ => digits::of_digits(entity, 1, 10),
     }
-    if b == 88 {
-        return digits::of_digits(entity, 2, 16);
-    }
-    digits::of_digits(entity, 1, 10)
 }
 
 // What stands between `&` and `;`, where it names none of the five entities.
-fn char_reference(entity: &[u8]) -> Reference
+fn char_reference(entity: &[u8]) -> Result<u32, u32>
     ensures { reference_of result ≡ char_reference entity.now }
 {
-    if entity.len() == 0 {
-        return Reference::Bad(10);
-    }
-    if entity[0] == 35 {
+    if 0 < entity.len() && entity[0] == b'#' {
         return of_number(entity);
     }
-    Reference::Bad(10)
+    Err(10)
 }
 
 // What stands between `&` and `;`.
-fn reference_of(entity: &[u8]) -> Reference
+#[tactic(auto, using(crate::proofs::Entities::entities))]
+fn reference_of(entity: &[u8]) -> Result<u32, u32>
     ensures { reference_of result ≡ reference entity.now }
 {
-    if 0 < entity.len() {
-        if entity[0] == 35 {
-            return char_reference(entity);
-        }
+    if 0 < entity.len() && entity[0] == b'#' {
+        return char_reference(entity);
     }
     if slices::equal(entity, b"amp") {
-        return Reference::Character(38);
+        return Ok(38);
     }
     if slices::equal(entity, b"lt") {
-        return Reference::Character(60);
+        return Ok(60);
     }
     if slices::equal(entity, b"gt") {
-        return Reference::Character(62);
+        return Ok(62);
     }
     if slices::equal(entity, b"quot") {
-        return Reference::Character(34);
+        return Ok(34);
     }
     if slices::equal(entity, b"apos") {
-        return Reference::Character(39);
+        return Ok(39);
     }
     char_reference(entity)
 }
 
-// What stands at a `&`.
-fn reference_at(v: &[u8], at: usize) -> Piece
+// What stands at a `&`, or a fault's number.
+#[tactic(auto, using(crate::proofs::Pieces::pieces))]
+fn reference_at(v: &[u8], at: usize) -> Result<Piece, u32>
     requires { (at < length v.now) × (get_or v.now at 0 ≡ 38) }
     ensures { Pieces v.now at result }
 {
     let from = at + 1;
-    let end = slices::find(v, from, 59);
+    let end = slices::find(v, from, b';');
     if v.len() <= end {
-        return Piece::Wrong(9);
+        return Err(9);
     }
-    match reference_of(&v[from..end]) {
-        Reference::Character(c) => Piece::Char(c, end + 1),
-        Reference::Bad(n) => Piece::Wrong(n),
-    }
+    let c = reference_of(&v[from..end])?;
+    Ok(Piece {
+        shown: Shown::Char(c),
+        next: end + 1,
+    })
 }
 
 // What stands at a CR: it is one line end with a LF after it.
+#[tactic(auto, using(crate::proofs::Pieces::pieces))]
 fn line_end(v: &[u8], at: usize) -> Piece
     requires { (at < length v.now) × (get_or v.now at 0 ≡ 13) }
-    ensures { Pieces v.now at result }
+    ensures { Pieces v.now at (Ok result) }
 {
     let next = at + 1;
-    if v.len() <= next {
-        return Piece::Byte(32, next);
+    let shown = Shown::Byte(b' ');
+    if next < v.len() && v[next] == b'\n' {
+        return Piece {
+            shown,
+            next: at + 2,
+        };
     }
-    if v[next] == 10 {
-        return Piece::Byte(32, at + 2);
-    }
-    Piece::Byte(32, next)
+    Piece { shown, next }
 }
 
-// What stands at a place of a value.
-fn piece_at(v: &[u8], at: usize) -> Piece
+// What stands at a place of a value, or a fault's number.
+#[tactic(auto, using(crate::proofs::Pieces::pieces))]
+fn piece_at(v: &[u8], at: usize) -> Result<Piece, u32>
     requires { at < length v.now }
     ensures { Pieces v.now at result }
 {
-    let b = v[at];
-    if b == 13 {
-        return line_end(v, at);
+    let next = at + 1;
+    match v[at] {
+        b'\r' => Ok(line_end(v, at)),
+        b'&' => reference_at(v, at),
+        b'\n' | b'\t' => Ok(Piece {
+            shown: Shown::Byte(b' '),
+            next,
+        }),
+        b => Ok(Piece {
+            shown: Shown::Byte(b),
+            next,
+        }),
     }
-    if b == 38 {
-        return reference_at(v, at);
-    }
-    if b == 10 {
-        return Piece::Byte(32, at + 1);
-    }
-    if b == 9 {
-        return Piece::Byte(32, at + 1);
-    }
-    Piece::Byte(b, at + 1)
 }
 
 // Whether the references of a value are good. Writes nothing.
-pub fn check(value: &[u8]) -> Checked
+#[tactic(auto, using(crate::proofs::Values::checks))]
+pub fn check(value: &[u8]) -> Result<(), ValueFault>
     ensures { Checks value.now result }
 {
-    let mut at = slices::find(value, 0, 38);
+    let mut at = slices::find(value, 0, b'&');
     while at < value.len() {
         match reference_at(value, at) {
-            Piece::Byte(_, next) => {
-                at = slices::find(value, next, 38);
-            }
-            Piece::Char(_, next) => {
-                at = slices::find(value, next, 38);
-            }
-            Piece::Wrong(number) => {
-                return Checked::Fault(number, ValuePlace(at));
+            Ok(piece) => at = slices::find(value, piece.next, b'&'),
+            Err(number) => {
+                return Err(ValueFault {
+                    number,
+                    place: ValuePlace(at),
+                });
             }
         }
     }
-    Checked::Good
+    Ok(())
 }
 
 // Puts the shown bytes of a value at a count, up to its first fault.
+#[tactic(auto, using(crate::proofs::Values::shown))]
 pub fn put_shown(value: &[u8], out: &mut [u8], n: usize) -> usize
     requires { n + length value.now < 2 ^ 62 }
     ensures { Shows value.now n out.old out.new result }
@@ -192,17 +187,17 @@ pub fn put_shown(value: &[u8], out: &mut [u8], n: usize) -> usize
     let mut m = n;
     while at < value.len() {
         match piece_at(value, at) {
-            Piece::Byte(b, next) => {
-                m = tables::put_byte(out, m, b);
-                at = next;
-            }
-            Piece::Char(c, next) => {
-                m = put::put_char(out, m, c);
-                at = next;
-            }
-            Piece::Wrong(_) => {
-                return m;
-            }
+            Ok(piece) => match piece.shown {
+                Shown::Byte(b) => {
+                    m = tables::put_byte(out, m, b);
+                    at = piece.next;
+                }
+                Shown::Char(c) => {
+                    m = put::put_char(out, m, c);
+                    at = piece.next;
+                }
+            },
+            Err(_) => return m,
         }
     }
     m
@@ -213,75 +208,62 @@ fn put_reference(out: &mut [u8], n: usize, b: u8) -> usize
     requires { n + 6 < 2 ^ 62 }
     ensures { Puts (escaped b) n out.old out.new result }
 {
-    if b == 38 {
-        return put::put_bytes(out, n, b"&amp;");
+    match b {
+        b'&' => put::put_bytes(out, n, b"&amp;"),
+        b'<' => put::put_bytes(out, n, b"&lt;"),
+        b'>' => put::put_bytes(out, n, b"&gt;"),
+        b'"' => put::put_bytes(out, n, b"&quot;"),
+        b'\'' => put::put_bytes(out, n, b"&apos;"),
+        b'\t' => put::put_bytes(out, n, b"&#9;"),
+        b'\n' => put::put_bytes(out, n, b"&#10;"),
+        b'\r' => put::put_bytes(out, n, b"&#13;"),
+        _ => tables::put_byte(out, n, b),
     }
-    if b == 60 {
-        return put::put_bytes(out, n, b"&lt;");
-    }
-    if b == 62 {
-        return put::put_bytes(out, n, b"&gt;");
-    }
-    if b == 34 {
-        return put::put_bytes(out, n, b"&quot;");
-    }
-    if b == 39 {
-        return put::put_bytes(out, n, b"&apos;");
-    }
-    if b == 9 {
-        return put::put_bytes(out, n, b"&#9;");
-    }
-    if b == 10 {
-        return put::put_bytes(out, n, b"&#10;");
-    }
-    if b == 13 {
-        return put::put_bytes(out, n, b"&#13;");
-    }
-    tables::put_byte(out, n, b)
 }
 
 // Puts the escaped bytes of a value at a count.
-pub fn put_escaped(value: &[u8], classes: &[u8; 256], out: &mut [u8], n: usize) -> usize
-    requires { Classes classes.now × (n + 6 * length value.now < 2 ^ 62) }
+pub fn put_escaped(value: &[u8], classes: &ClassTable, out: &mut [u8], n: usize) -> usize
+    requires { n + 6 * length value.now < 2 ^ 62 }
     ensures { Puts (escape value.now) n out.old out.new result }
 {
-    let mut at = 0;
     let mut m = n;
-    while at < value.len() {
-        let b = value[at];
-        if scan::is_escapable(classes, b) {
+    for &b in value {
+        if classes.is_escapable(b) {
             m = put_reference(out, m, b);
-            at += 1;
         } else {
             m = tables::put_byte(out, m, b);
-            at += 1;
         }
     }
     m
 }
 
 // Whether a value is short enough and well-formed.
-fn admit(value: &[u8]) -> Checked
+fn admit(value: &[u8]) -> Result<(), ValueFault>
     ensures { Admits value.now result }
 {
     if 1048576 < value.len() {
-        return Checked::Fault(2, ValuePlace(1048576));
+        return Err(ValueFault {
+            number: 2,
+            place: ValuePlace(1048576),
+        });
     }
     let at = utf8::ill_formed(value);
     if at < value.len() {
-        return Checked::Fault(1, ValuePlace(at));
+        return Err(ValueFault {
+            number: 1,
+            place: ValuePlace(at),
+        });
     }
-    Checked::Good
+    Ok(())
 }
 
 // Whether a value is short enough and well-formed, and its references good.
-fn admit_shown(value: &[u8]) -> Checked
+#[tactic(auto, using(crate::proofs::Answers::steps))]
+fn admit_shown(value: &[u8]) -> Result<(), ValueFault>
     ensures { Reads value.now result }
 {
-    match admit(value) {
-        Checked::Fault(number, place) => Checked::Fault(number, place),
-        Checked::Good => check(value),
-    }
+    admit(value)?;
+    check(value)
 }
 
 // Escapes a value. A value of more than 1,048,576 bytes is refused with 2, an ill-formed one with 1, one that has no room with 21 and the
@@ -292,8 +274,8 @@ pub fn escape(value: &[u8], out: &mut [u8]) -> TextAnswer
         (escaping value.now (length out.old)) }
 {
     match admit(value) {
-        Checked::Fault(number, place) => answers::refuse(out, number, place.0),
-        Checked::Good => {
+        Err(fault) => answers::refuse(out, fault.number, fault.place.0),
+        Ok(()) => {
             let classes = scan::classes();
             let n = put_escaped(value, &classes, out, 0);
             answers::finish(out, n, 21, n)
@@ -308,8 +290,8 @@ pub fn unescape(value: &[u8], out: &mut [u8]) -> TextAnswer
         (unescaping value.now (length out.old)) }
 {
     match admit_shown(value) {
-        Checked::Fault(number, place) => answers::refuse(out, number, place.0),
-        Checked::Good => {
+        Err(fault) => answers::refuse(out, fault.number, fault.place.0),
+        Ok(()) => {
             let n = put_shown(value, out, 0);
             answers::finish(out, n, 18, value.len())
         }

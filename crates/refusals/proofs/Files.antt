@@ -5,14 +5,14 @@ use mathlib.Core.Path.{◌≡◌, refl, sym, ◌∙◌}
 use mathlib.Core.List.{List, [], ◌∷◌}
 use mathlib.Core.Bool.{true}
 use native.Mathlib.Omega.{arith}
-use lib.ListN.{length}
+use Rattle.std.specs.Prelude.{Ok, Err}
 use Rattle.answers.specs.Text.{Text, text, wrong}
 use Rattle.document.specs.Elements.{among}
 use Rattle.document.specs.Refusals.{bare}
 use Rattle.document.specs.Whole.{verdict_of, Says}
 use Rattle.document.specs.declared.Refusal.{Refusal}
-use Rattle.document.specs.declared.Verdict.TheVariants.{Refused, Accepted}
 use Rattle.document.proofs.Tests.{among_all}
+use Rattle.document.specs.Verdict.{counts}
 use Rattle.messages.specs.Message.{message_of}
 use Rattle.files.specs.Files.{document_of, read_text, read_file, document_left}
 use Rattle.files.proofs.Promises.{read_as_document, nothing_read, document_left_lem, accepted_document, decoding_refused}
@@ -28,13 +28,13 @@ pub file_refusals_told : FileRefusalsTold
 unfolding read_file
 file_refusals_told raw rows warnings x decoded room decodedRoom r y s v = go (document_of raw decodedRoom) refl (sym s.verdict ∙ v)
   where
-    go : (o : Text) → document_of raw decodedRoom ≡ o → verdict_of (read_text o room) ≡ Refused y → (out : ℕ) → message_of (document_left raw decoded r.decoded) (told_of y) out ≡ wrong 19 0 → ⊥
+    go : (o : Text) → document_of raw decodedRoom ≡ o → verdict_of (read_text o room) ≡ Err y → (out : ℕ) → message_of (document_left raw decoded r.decoded) (told_of y) out ≡ wrong 19 0 → ⊥
     go (text []) e f =
-        let g : Refused (bare 3 0) ≡ Refused y = rw (nothing_read room) at f in
+        let g : Err (bare 3 0) ≡ Err y = rw (nothing_read room) at f in
         plain_told (document_left raw decoded r.decoded) 3 0 y refl cc
     go (text (b ∷ t)) e f =
         let l : document_left raw decoded r.decoded ≡ b ∷ t = rw (s.decoded_left, s.length) (document_left_lem raw decodedRoom (b ∷ t) e (λ h. absurd (omega arith))) in
-        let p : Says (b ∷ t) room rows warnings x (Refused y) = rw v at (read_as_document raw (b ∷ t) rows warnings x decoded room decodedRoom r e s) in
+        let p : Says (b ∷ t) room rows warnings x (Err y) = rw v at (read_as_document raw (b ∷ t) rows warnings x decoded room decodedRoom r e s) in
         rw l (refusals_told (b ∷ t) rows warnings x room y p)
     go (wrong n p) e f =
         let i : among n silent ≡ true = among_all (λ m. among m silent) n (2 ∷ 18 ∷ 26 ∷ 27 ∷ []) refl (decoding_refused raw decodedRoom n p e) in
@@ -43,5 +43,5 @@ file_refusals_told raw rows warnings x decoded room decodedRoom r y s v = go (do
 pub file_warnings_told : FileWarningsTold
 file_warnings_told raw rows warnings x decoded room decodedRoom r n t w s v =
     let e = accepted_document raw rows warnings x decoded room decodedRoom r n t w s v in
-    let p : Says (document_left raw decoded r.decoded) room rows warnings x (Accepted n t w) = rw v at (read_as_document raw (document_left raw decoded r.decoded) rows warnings x decoded room decodedRoom r e s) in
+    let p : Says (document_left raw decoded r.decoded) room rows warnings x (Ok (counts n t w)) = rw v at (read_as_document raw (document_left raw decoded r.decoded) rows warnings x decoded room decodedRoom r e s) in
     warnings_told (document_left raw decoded r.decoded) rows warnings x room n t w p

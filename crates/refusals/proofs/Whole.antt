@@ -1,13 +1,14 @@
 -- Every refusal and every warning of the reader has a message.
 -- Assumes nothing.
 use Prim.Native.Nat.{ℕ, zero, suc, ◌+◌, ◌-◌, ◌*◌, ◌/◌, ◌<◌}
-use mathlib.Core.Path.{◌≡◌, refl}
+use mathlib.Core.Path.{◌≡◌, refl, ap}
 use mathlib.Core.List.{List, [], ◌∷◌, ◌++◌}
 use mathlib.Core.Bool.{◌||◌}
 use borrow.Author.Tests.{ltb-false}
 use native.Mathlib.Omega.{arith}
 use lib.Dec.{ltb}
 use lib.ListN.{length, replicate}
+use Rattle.std.specs.Prelude.{Ok, Err}
 use Rattle.utf8.specs.WellFormed.{ill_formed}
 use Rattle.utf8.proofs.Texts.{bounded}
 use Rattle.answers.specs.Text.{wrong}
@@ -16,9 +17,10 @@ use Rattle.document.specs.Rows.{Warning, texts, warned}
 use Rattle.document.specs.Reading.{State, begun, reading, accepted, refused, run}
 use Rattle.document.specs.Whole.{Room, meaning, fitted, read, verdict_of, warnings_left}
 use Rattle.document.specs.Outcome.{whole}
-use Rattle.document.specs.declared.Verdict.TheVariants.{Refused, Accepted}
 use Rattle.document.proofs.Tests.{either}
 use Rattle.document.proofs.Steps.{Kept}
+use Rattle.document.specs.declared.Counts.{Counts}
+use Rattle.document.specs.Verdict.{counts}
 use Rattle.messages.specs.Message.{message_of, warning_message_of}
 use Rattle.bounds.specs.Bounds.{lent_refusals, Told}
 use Rattle.bounds.proofs.Whole as bounds
@@ -75,7 +77,7 @@ module _ (doc : List ℕ) where
 pub refusals_told : RefusalsTold
 refusals_told doc rows warnings text room x s = go (read doc room) s.verdict (read_shows doc room) (bounds.read_told doc room)
   where
-    go : (r : State Shown) → Refused x ≡ verdict_of r → Shows doc r → Told lent_refusals (length doc) r → (out : ℕ) → message_of doc (told_of x) out ≡ wrong 19 0 → ⊥
+    go : (r : State Shown) → Err x ≡ verdict_of r → Shows doc r → Told lent_refusals (length doc) r → (out : ℕ) → message_of doc (told_of x) out ≡ wrong 19 0 → ⊥
     go begun e h b = absurd b
     go (reading fs u) e h b = absurd b
     go (accepted u) e h b = let z : ◌≡◌ {A = ℕ} 0 1 = cc in absurd (omega arith)
@@ -84,11 +86,12 @@ refusals_told doc rows warnings text room x s = go (read doc room) s.verdict (re
 pub warnings_told : WarningsTold
 warnings_told doc rows warnings text room n t w s = go (read doc room) s.verdict s.warnings_left_lem (read_shows doc room)
   where
-    go : (r : State Shown) → Accepted n t w ≡ verdict_of r → warnings ≡ warnings_left room r → Shows doc r → (i : ℕ) → i < w → (out : ℕ) → warning_message_of doc (warning_word warnings i 0) (warning_word warnings i 2) (warning_word warnings i 3) out ≡ wrong 19 0 → ⊥
+    go : (r : State Shown) → Ok (counts n t w) ≡ verdict_of r → warnings ≡ warnings_left room r → Shows doc r → (i : ℕ) → i < w → (out : ℕ) → warning_message_of doc (warning_word warnings i 0) (warning_word warnings i 2) (warning_word warnings i 3) out ≡ wrong 19 0 → ⊥
     go begun e f h i l = let z : ◌≡◌ {A = ℕ} 0 1 = cc in absurd (omega arith)
     go (reading fs u) e f h i l = let z : ◌≡◌ {A = ℕ} 0 1 = cc in absurd (omega arith)
     go (accepted u) e f h i l =
-        let m : w ≡ length u.warnings = cc in
+        let k : counts n t w ≡ counts (length u.rows) (length (texts u.rows)) (length u.warnings) = cc in
+        let m : w ≡ length u.warnings = ap (λ (z : Counts). z.warnings) k in
         rw f
         (warning_words doc (λ a b c. (out : ℕ) → warning_message_of doc a b c out ≡ wrong 19 0 → ⊥)
         (λ v g. warning_told doc v.reason (name_in v) g.reason g.name)

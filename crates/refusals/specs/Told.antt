@@ -1,14 +1,14 @@
 -- A refusal of reading and a warning of its tables, as they are told to `messages::message` and `warning_message`; and the theorem that
 -- each of them has a message: with its document it is never answered by 19.
 -- Assumes nothing.
-use Rattle.std.specs.Prelude.{ℕ, ◌+◌, ◌*◌, ◌<◌, ◌≡◌, List, Bool, ltb, get_or}
+use Rattle.std.specs.Prelude.{ℕ, ◌+◌, ◌*◌, ◌<◌, ◌≡◌, List, Bool, ltb, get_or, Ok, Err}
 use Rattle.slices.specs.Bytes.{if}
 use Rattle.answers.specs.Text.{wrong}
 use Rattle.document.specs.Refusals.{shown_by}
 use Rattle.document.specs.Whole.{Room, Says}
 use Rattle.document.specs.declared.Excerpt.{Excerpt}
 use Rattle.document.specs.declared.Refusal.{Refusal}
-use Rattle.document.specs.declared.Verdict.TheVariants.{Refused, Accepted}
+use Rattle.document.specs.Verdict.{counts}
 use Rattle.files.specs.Files.{Reads, document_left}
 use Rattle.files.specs.declared.Reading.{Reading}
 use Rattle.messages.specs.Message.{message_of, warning_message_of}
@@ -31,7 +31,7 @@ told_of x = record {
 abbrev pub RefusalsTold : Type 0
 RefusalsTold =
     (doc rows warnings text : List ℕ) (room : Room) (x : Refusal) →
-    Says doc room rows warnings text (Refused x) →
+    Says doc room rows warnings text (Err x) →
     (out : ℕ) → message_of doc (told_of x) out ≡ wrong 19 0 → ⊥
 
 -- word k of warning i: reason, place, where the element's name begins, how long it is
@@ -42,7 +42,7 @@ warning_word ws i k = get_or ws (i * 4 + k) 0
 abbrev pub WarningsTold : Type 0
 WarningsTold =
     (doc rows warnings text : List ℕ) (room : Room) (n t w : ℕ) →
-    Says doc room rows warnings text (Accepted n t w) →
+    Says doc room rows warnings text (Ok (counts n t w)) →
     (i : ℕ) →
     i < w →
     (out : ℕ) → warning_message_of doc (warning_word warnings i 0) (warning_word warnings i 2) (warning_word warnings i 3) out ≡ wrong 19 0 → ⊥
@@ -53,14 +53,14 @@ abbrev pub FileRefusalsTold : Type 0
 FileRefusalsTold =
     (raw rows warnings text decoded : List ℕ) (room : Room) (decodedRoom : ℕ) (r : Reading) (x : Refusal) →
     Reads raw room decodedRoom rows warnings text decoded r →
-    r.verdict ≡ Refused x →
+    r.verdict ≡ Err x →
     (out : ℕ) → message_of (document_left raw decoded r.decoded) (told_of x) out ≡ wrong 19 0 → ⊥
 
 abbrev pub FileWarningsTold : Type 0
 FileWarningsTold =
     (raw rows warnings text decoded : List ℕ) (room : Room) (decodedRoom : ℕ) (r : Reading) (n t w : ℕ) →
     Reads raw room decodedRoom rows warnings text decoded r →
-    r.verdict ≡ Accepted n t w →
+    r.verdict ≡ Ok (counts n t w) →
     (i : ℕ) →
     i < w →
     (out : ℕ) →

@@ -6,11 +6,11 @@ use mathlib.Core.List.{List, [], ◌∷◌}
 use native.Mathlib.Omega.{arith}
 use lib.Dec.{eqb}
 use lib.ListN.{length, drop}
+use Rattle.std.specs.Prelude.{Result, Ok, Err}
+use Rattle.faults.specs.declared.Fault.{Fault}
 use Rattle.slices.specs.Bytes.{bytes, other, span, past, empty, starts}
 use Rattle.scan.specs.Classes.{white, name_byte}
-use Rattle.scan.specs.Ignorable.{Mode, bare, quoted, quote, changed, ends, declaration_in, markup, seek, further, ignorable_from, ignorable}
-use Rattle.scan.specs.declared.Scan.{Scan}
-use Rattle.scan.specs.declared.Scan.TheVariants.{Fault, At}
+use Rattle.scan.specs.Ignorable.{declared, Mode, bare, quoted, quote, changed, ends, declaration_in, markup, seek, further, ignorable_from, ignorable, ignored}
 use Rattle.scan.specs.declared.Markup.{Markup}
 use Rattle.scan.specs.declared.Markup.TheVariants.{Tag, Ignored}
 use Rattle.answers.specs.Text.{Text, text, wrong}
@@ -34,9 +34,9 @@ Lies from (last (end p)) = Unit {0}
 module _ (from : ℕ) where
   -- ---- what is ignorable
 
-  abbrev Since : Scan → Type 0
-  Since (Fault n p) = from ≤ p
-  Since (At p) = Unit {0}
+  abbrev Since : Result ℕ Fault → Type 0
+  Since (Err f) = from ≤ f.place
+  Since (Ok p) = Unit {0}
 
   seek_since : (n : ℕ) (key : List ℕ) (c : ℕ) (l : List ℕ) (p : ℕ) → from ≤ c → Since (seek n key c l p)
   seek_since n key c [] p h = h
@@ -57,20 +57,25 @@ module _ (from : ℕ) where
   declaration_since m (b ∷ l) p h i =
       either Since (ends m b) (λ t. tt) (λ t. declaration_since (changed m b p) l (suc p) (omega arith) (changed_since m b p h i))
 
-  abbrev MarkSince : Markup → Type 0
-  MarkSince Tag = Unit {0}
-  MarkSince (Ignored r) = Since r
+  abbrev MarkSince : Result Markup Fault → Type 0
+  MarkSince (Ok Tag) = Unit {0}
+  MarkSince (Ok (Ignored p)) = Since (Ok p)
+  MarkSince (Err f) = Since (Err f)
+
+  marked : (x : Result ℕ Fault) → Since x → MarkSince (ignored x)
+  marked (Ok p) h = h
+  marked (Err f) h = h
 
   markup_since : (l : List ℕ) (at : ℕ) → from ≤ at → MarkSince (markup l at)
   markup_since [] at h = tt
   markup_since (b ∷ l) at h =
       either MarkSince (eqb b 33)
-      (λ t. either Since (starts (bytes "--") l)
+      (λ t. marked (declared l at) (either Since (starts (bytes "--") l)
       (λ t. seek_since 22 (bytes "-->") (at + 4) (drop 2 l) (at + 4) (omega arith))
       (λ t. either Since (starts (bytes "[CDATA[") l)
       (λ t. seek_since 23 (bytes "]]>") (at + 9) (drop 7 l) (at + 9) (omega arith))
-      (λ t. declaration_since (bare 0) l (at + 2) (omega arith) tt)))
-      (λ t. either MarkSince (eqb b 63) (λ t. seek_since 24 (bytes "?>") (at + 2) l (at + 2) (omega arith)) (λ t. tt))
+      (λ t. declaration_since (bare 0) l (at + 2) (omega arith) tt))))
+      (λ t. either MarkSince (eqb b 63) (λ t. marked (seek 24 (bytes "?>") (at + 2) l (at + 2)) (seek_since 24 (bytes "?>") (at + 2) l (at + 2) (omega arith))) (λ t. tt))
 
   ignorable_since : (k : ℕ) (l : List ℕ) (at : ℕ) → from ≤ at → Since (ignorable_from k l at)
   ignorable_since k [] at h = tt
@@ -80,10 +85,10 @@ module _ (from : ℕ) where
       (λ t. go (markup l at) (markup_since l at h) (λ k. ignorable_since k l (suc at) (omega arith)))
       (λ t. ignorable_since 0 l (suc at) (omega arith))
     where
-      go : (m : Markup) → MarkSince m → ((k : ℕ) → Since (ignorable_from k l (suc at))) → Since (further m at (λ p. ignorable_from (p - suc at) l (suc at)))
-      go Tag w i = tt
-      go (Ignored (Fault n p)) w i = w
-      go (Ignored (At p)) w i = i (p - suc at)
+      go : (m : Result Markup Fault) → MarkSince m → ((k : ℕ) → Since (ignorable_from k l (suc at))) → Since (further m at (λ p. ignorable_from (p - suc at) l (suc at)))
+      go (Ok Tag) w i = tt
+      go (Err f) w i = w
+      go (Ok (Ignored p)) w i = i (p - suc at)
 
   -- ---- attributes
 
@@ -213,6 +218,6 @@ next_lies l at = go (ignorable l at) (ignorable_since at 0 l at (omega arith)) (
     ends [] p h = tt
     ends (b ∷ m) p h = tag_lies at m p h
 
-    go : (s : Scan) → Since at s → Scanned at (at + length l) s → Lies at (past_ignorable s l at)
-    go (Fault n p) h w = h
-    go (At p) h w = ends (drop (p - at) l) p w.0
+    go : (s : Result ℕ Fault) → Since at s → Scanned at (at + length l) s → Lies at (past_ignorable s l at)
+    go (Err f) h w = h
+    go (Ok p) h w = ends (drop (p - at) l) p w.0

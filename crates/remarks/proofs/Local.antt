@@ -9,30 +9,32 @@ use native.Mathlib.Omega.{arith}
 use lib.Dec.{eqb}
 use lib.ListN.{length, drop, length-drop, length-append}
 use lib.Seq.{drop-append-le}
+use Rattle.std.specs.Prelude.{Result, Ok, Err}
+use Rattle.faults.specs.declared.Fault.{Fault}
 use Rattle.slices.specs.Bytes.{if, bytes, other, all, starts}
 use Rattle.slices.proofs.Runs.{and_both}
-use Rattle.scan.specs.Ignorable.{Mode, bare, quoted, changed, ends, declaration_in, declared, markup, further, seek, ignorable_from, ignorable}
+use Rattle.scan.proofs.Marked.{ignored_place, ignored_no_tag}
+use Rattle.scan.specs.Ignorable.{Mode, bare, quoted, changed, ends, declaration_in, declared, markup, further, seek, ignorable_from, ignorable, ignored}
 use Rattle.document.proofs.Ignorables.{Scanned, ignorable_within}
-use Rattle.scan.specs.declared.Scan.TheVariants.{Fault, At}
 use Rattle.scan.specs.declared.Markup.{Markup}
 use Rattle.scan.specs.declared.Markup.TheVariants.{Tag, Ignored}
 
 -- a key that is found ends past where the search began
-pub seek-after : (n : ℕ) (key : List ℕ) (c : ℕ) (l : List ℕ) (p q : ℕ) → seek n key c l p ≡ At q → p + length key ≤ q
+pub seek-after : (n : ℕ) (key : List ℕ) (c : ℕ) (l : List ℕ) (p q : ℕ) → seek n key c l p ≡ Ok q → p + length key ≤ q
 seek-after n key c [] p q e = let z : ◌≡◌ {A = ℕ} 0 1 = cc in absurd (omega arith)
 seek-after n key c (b ∷ l) p q e = go (starts key (b ∷ l)) e (λ f. seek-after n key c l (suc p) q f)
   where
-    go : (t : Bool) → if t (At (p + length key)) (seek n key c l (suc p)) ≡ At q → (seek n key c l (suc p) ≡ At q → suc p + length key ≤ q) → p + length key ≤ q
+    go : (t : Bool) → if t (Ok (p + length key)) (seek n key c l (suc p)) ≡ Ok q → (seek n key c l (suc p) ≡ Ok q → suc p + length key ≤ q) → p + length key ≤ q
     go true e i = let z : p + length key ≡ q = cc in omega arith
     go false e i = let z = i e in omega arith
 
 -- a declaration ends past where it began
-pub declaration_after : (m : Mode) (l : List ℕ) (p q : ℕ) → declaration_in m l p ≡ At q → p < q
+pub declaration_after : (m : Mode) (l : List ℕ) (p q : ℕ) → declaration_in m l p ≡ Ok q → p < q
 declaration_after (bare d) [] p q e = let z : ◌≡◌ {A = ℕ} 0 1 = cc in absurd (omega arith)
 declaration_after (quoted d b c) [] p q e = let z : ◌≡◌ {A = ℕ} 0 1 = cc in absurd (omega arith)
 declaration_after m (b ∷ l) p q e = go (ends m b) e (λ f. declaration_after (changed m b p) l (suc p) q f)
   where
-    go : (t : Bool) → if t (At (suc p)) (declaration_in (changed m b p) l (suc p)) ≡ At q → (declaration_in (changed m b p) l (suc p) ≡ At q → suc p < q) → p < q
+    go : (t : Bool) → if t (Ok (suc p)) (declaration_in (changed m b p) l (suc p)) ≡ Ok q → (declaration_in (changed m b p) l (suc p) ≡ Ok q → suc p < q) → p < q
     go true e i = let z : suc p ≡ q = cc in omega arith
     go false e i = let z = i e in omega arith
 
@@ -56,11 +58,11 @@ module _ (r r' : List ℕ) where
           i (rw v at h) (rw (← e, v) at g)
 
   module _ (n : ℕ) (key : List ℕ) (c : ℕ) (k : 0 < length key) where
-    pub seek_local : (s : List ℕ) (p q : ℕ) → seek n key c (s ++ r) p ≡ At q → q ≤ p + length s → seek n key c (s ++ r') p ≡ At q
+    pub seek_local : (s : List ℕ) (p q : ℕ) → seek n key c (s ++ r) p ≡ Ok q → q ≤ p + length s → seek n key c (s ++ r') p ≡ Ok q
     seek_local [] p q e h = absurd (let z = seek-after n key c r p q e in omega arith)
     seek_local (b ∷ s) p q e h = go (starts key (b ∷ s ++ r)) refl e (λ f g. seek_local s (suc p) q f g)
       where
-        go : (t : Bool) → starts key (b ∷ s ++ r) ≡ t → if t (At (p + length key)) (seek n key c (s ++ r) (suc p)) ≡ At q → (seek n key c (s ++ r) (suc p) ≡ At q → q ≤ suc p + length s → seek n key c (s ++ r') (suc p) ≡ At q) → seek n key c (b ∷ s ++ r') p ≡ At q
+        go : (t : Bool) → starts key (b ∷ s ++ r) ≡ t → if t (Ok (p + length key)) (seek n key c (s ++ r) (suc p)) ≡ Ok q → (seek n key c (s ++ r) (suc p) ≡ Ok q → q ≤ suc p + length s → seek n key c (s ++ r') (suc p) ≡ Ok q) → seek n key c (b ∷ s ++ r') p ≡ Ok q
         go true f e i =
             let z : p + length key ≡ q = cc in
             rw (sym (starts_local key (b ∷ s) (omega arith)) ∙ f) e
@@ -68,11 +70,11 @@ module _ (r r' : List ℕ) where
             let z = seek-after n key c (s ++ r) (suc p) q e in
             rw (sym (starts_local key (b ∷ s) (omega arith)) ∙ f) (i e (omega arith))
 
-  pub declaration_local : (m : Mode) (s : List ℕ) (p q : ℕ) → declaration_in m (s ++ r) p ≡ At q → q ≤ p + length s → declaration_in m (s ++ r') p ≡ At q
+  pub declaration_local : (m : Mode) (s : List ℕ) (p q : ℕ) → declaration_in m (s ++ r) p ≡ Ok q → q ≤ p + length s → declaration_in m (s ++ r') p ≡ Ok q
   declaration_local m [] p q e h = absurd (let z = declaration_after m r p q e in omega arith)
   declaration_local m (b ∷ s) p q e h = go (ends m b) e (λ f. declaration_local (changed m b p) s (suc p) q f (omega arith))
     where
-      go : (t : Bool) → if t (At (suc p)) (declaration_in (changed m b p) (s ++ r) (suc p)) ≡ At q → (declaration_in (changed m b p) (s ++ r) (suc p) ≡ At q → declaration_in (changed m b p) (s ++ r') (suc p) ≡ At q) → if t (At (suc p)) (declaration_in (changed m b p) (s ++ r') (suc p)) ≡ At q
+      go : (t : Bool) → if t (Ok (suc p)) (declaration_in (changed m b p) (s ++ r) (suc p)) ≡ Ok q → (declaration_in (changed m b p) (s ++ r) (suc p) ≡ Ok q → declaration_in (changed m b p) (s ++ r') (suc p) ≡ Ok q) → if t (Ok (suc p)) (declaration_in (changed m b p) (s ++ r') (suc p)) ≡ Ok q
       go true e i = e
       go false e i = i e
 
@@ -82,7 +84,7 @@ ends_with (bare d) b e = (and_both (eqb d 0) (eqb b 62) e).1
 ends_with (quoted d q c) b e = cc
 
 module _ (r : List ℕ) where
-  pub declaration_has : (m : Mode) (s : List ℕ) (p q : ℕ) → declaration_in m (s ++ r) p ≡ At q → q ≤ p + length s → all (other 62) s ≡ false
+  pub declaration_has : (m : Mode) (s : List ℕ) (p q : ℕ) → declaration_in m (s ++ r) p ≡ Ok q → q ≤ p + length s → all (other 62) s ≡ false
   declaration_has m [] p q e h = absurd (let z = declaration_after m r p q e in omega arith)
   declaration_has m (b ∷ s) p q e h = go (ends m b) refl e (λ f. declaration_has (changed m b p) s (suc p) q f (omega arith))
     where
@@ -90,23 +92,23 @@ module _ (r : List ℕ) where
       test true i = i
       test false i = refl
 
-      go : (t : Bool) → ends m b ≡ t → if t (At (suc p)) (declaration_in (changed m b p) (s ++ r) (suc p)) ≡ At q → (declaration_in (changed m b p) (s ++ r) (suc p) ≡ At q → all (other 62) s ≡ false) → all (other 62) (b ∷ s) ≡ false
+      go : (t : Bool) → ends m b ≡ t → if t (Ok (suc p)) (declaration_in (changed m b p) (s ++ r) (suc p)) ≡ Ok q → (declaration_in (changed m b p) (s ++ r) (suc p) ≡ Ok q → all (other 62) s ≡ false) → all (other 62) (b ∷ s) ≡ false
       go true f e i = rw (ends_with m b f) refl
       go false f e i = test (other 62 b) (i e)
 
-declared_after : (l : List ℕ) (at q : ℕ) → declared l at ≡ At q → at + 2 < q
+declared_after : (l : List ℕ) (at q : ℕ) → declared l at ≡ Ok q → at + 2 < q
 declared_after l at q e = go (starts (bytes "--") l) (starts (bytes "[CDATA[") l) e
   where
-    go : (t u : Bool) → if t (seek 22 (bytes "-->") (at + 4) (drop 2 l) (at + 4)) (if u (seek 23 (bytes "]]>") (at + 9) (drop 7 l) (at + 9)) (declaration_in (bare 0) l (at + 2))) ≡ At q → at + 2 < q
+    go : (t u : Bool) → if t (seek 22 (bytes "-->") (at + 4) (drop 2 l) (at + 4)) (if u (seek 23 (bytes "]]>") (at + 9) (drop 7 l) (at + 9)) (declaration_in (bare 0) l (at + 2))) ≡ Ok q → at + 2 < q
     go true u e = let z = seek-after 22 (bytes "-->") (at + 4) (drop 2 l) (at + 4) q e in omega arith
     go false true e = let z = seek-after 23 (bytes "]]>") (at + 9) (drop 7 l) (at + 9) q e in omega arith
     go false false e = declaration_after (bare 0) l (at + 2) q e
 
 module _ (r r' : List ℕ) where
-  pub declared_local : (s : List ℕ) (at q : ℕ) → declared (s ++ r) at ≡ At q → q ≤ at + 2 + length s → declared (s ++ r') at ≡ At q
+  pub declared_local : (s : List ℕ) (at q : ℕ) → declared (s ++ r) at ≡ Ok q → q ≤ at + 2 + length s → declared (s ++ r') at ≡ Ok q
   declared_local s at q e h = go (starts (bytes "--") (s ++ r)) refl (starts (bytes "[CDATA[") (s ++ r)) refl e
     where
-      go : (t : Bool) → starts (bytes "--") (s ++ r) ≡ t → (u : Bool) → starts (bytes "[CDATA[") (s ++ r) ≡ u → if t (seek 22 (bytes "-->") (at + 4) (drop 2 (s ++ r)) (at + 4)) (if u (seek 23 (bytes "]]>") (at + 9) (drop 7 (s ++ r)) (at + 9)) (declaration_in (bare 0) (s ++ r) (at + 2))) ≡ At q → declared (s ++ r') at ≡ At q
+      go : (t : Bool) → starts (bytes "--") (s ++ r) ≡ t → (u : Bool) → starts (bytes "[CDATA[") (s ++ r) ≡ u → if t (seek 22 (bytes "-->") (at + 4) (drop 2 (s ++ r)) (at + 4)) (if u (seek 23 (bytes "]]>") (at + 9) (drop 7 (s ++ r)) (at + 9)) (declaration_in (bare 0) (s ++ r) (at + 2))) ≡ Ok q → declared (s ++ r') at ≡ Ok q
       go true f u g e =
           let z = seek-after 22 (bytes "-->") (at + 4) (drop 2 (s ++ r)) (at + 4) q e in
           let n : 2 ≤ length s = omega arith in
@@ -122,63 +124,63 @@ module _ (r r' : List ℕ) where
           rw (sym (starts_apart r r' (bytes "--") s refl w) ∙ f, sym (starts_apart r r' (bytes "[CDATA[") s refl w) ∙ g)
           (declaration_local r r' (bare 0) s (at + 2) q e h)
 
-pub markup_after : (l : List ℕ) (at q : ℕ) → markup l at ≡ Ignored (At q) → suc at < q
+pub markup_after : (l : List ℕ) (at q : ℕ) → markup l at ≡ Ok (Ignored q) → suc at < q
 markup_after [] at q e = let z : ◌≡◌ {A = ℕ} 0 1 = cc in absurd (omega arith)
 markup_after (b ∷ l) at q e = go (eqb b 33) (eqb b 63) e
   where
-    go : (t u : Bool) → if t (Ignored (declared l at)) (if u (Ignored (seek 24 (bytes "?>") (at + 2) l (at + 2))) Tag) ≡ Ignored (At q) → suc at < q
-    go true u e = let z : declared l at ≡ At q = cc in let y = declared_after l at q z in omega arith
-    go false true e = let z : seek 24 (bytes "?>") (at + 2) l (at + 2) ≡ At q = cc in let y = seek-after 24 (bytes "?>") (at + 2) l (at + 2) q z in omega arith
+    go : (t u : Bool) → if t (ignored (declared l at)) (if u (ignored (seek 24 (bytes "?>") (at + 2) l (at + 2))) (Ok Tag)) ≡ Ok (Ignored q) → suc at < q
+    go true u e = let z : declared l at ≡ Ok q = ignored_place (declared l at) q e in let y = declared_after l at q z in omega arith
+    go false true e = let z : seek 24 (bytes "?>") (at + 2) l (at + 2) ≡ Ok q = ignored_place (seek 24 (bytes "?>") (at + 2) l (at + 2)) q e in let y = seek-after 24 (bytes "?>") (at + 2) l (at + 2) q z in omega arith
     go false false e = let z : ◌≡◌ {A = ℕ} 0 1 = cc in absurd (omega arith)
 
 module _ (r r' : List ℕ) where
-  pub markup_local : (s : List ℕ) (at q : ℕ) → markup (s ++ r) at ≡ Ignored (At q) → q ≤ suc at + length s → markup (s ++ r') at ≡ Ignored (At q)
+  pub markup_local : (s : List ℕ) (at q : ℕ) → markup (s ++ r) at ≡ Ok (Ignored q) → q ≤ suc at + length s → markup (s ++ r') at ≡ Ok (Ignored q)
   markup_local [] at q e h = absurd (let z = markup_after r at q e in omega arith)
   markup_local (b ∷ s) at q e h = go (eqb b 33) (eqb b 63) e
     where
-      go : (t u : Bool) → if t (Ignored (declared (s ++ r) at)) (if u (Ignored (seek 24 (bytes "?>") (at + 2) (s ++ r) (at + 2))) Tag) ≡ Ignored (At q) → if t (Ignored (declared (s ++ r') at)) (if u (Ignored (seek 24 (bytes "?>") (at + 2) (s ++ r') (at + 2))) Tag) ≡ Ignored (At q)
-      go true u e = let z : declared (s ++ r) at ≡ At q = cc in ap Ignored (declared_local r r' s at q z (omega arith))
-      go false true e = let z : seek 24 (bytes "?>") (at + 2) (s ++ r) (at + 2) ≡ At q = cc in ap Ignored (seek_local r r' 24 (bytes "?>") (at + 2) (omega arith) s (at + 2) q z (omega arith))
+      go : (t u : Bool) → if t (ignored (declared (s ++ r) at)) (if u (ignored (seek 24 (bytes "?>") (at + 2) (s ++ r) (at + 2))) (Ok Tag)) ≡ Ok (Ignored q) → if t (ignored (declared (s ++ r') at)) (if u (ignored (seek 24 (bytes "?>") (at + 2) (s ++ r') (at + 2))) (Ok Tag)) ≡ Ok (Ignored q)
+      go true u e = let z : declared (s ++ r) at ≡ Ok q = ignored_place (declared (s ++ r) at) q e in ap ignored (declared_local r r' s at q z (omega arith))
+      go false true e = let z : seek 24 (bytes "?>") (at + 2) (s ++ r) (at + 2) ≡ Ok q = ignored_place (seek 24 (bytes "?>") (at + 2) (s ++ r) (at + 2)) q e in ap ignored (seek_local r r' 24 (bytes "?>") (at + 2) (omega arith) s (at + 2) q z (omega arith))
       go false false e = cc
 
-  markup_tag : (s : List ℕ) (at : ℕ) → 0 < length s → markup (s ++ r) at ≡ Tag → markup (s ++ r') at ≡ Tag
+  markup_tag : (s : List ℕ) (at : ℕ) → 0 < length s → markup (s ++ r) at ≡ Ok Tag → markup (s ++ r') at ≡ Ok Tag
   markup_tag [] at h e = absurd (omega arith)
   markup_tag (b ∷ s) at h e = go (eqb b 33) (eqb b 63) e
     where
-      go : (t u : Bool) → if t (Ignored (declared (s ++ r) at)) (if u (Ignored (seek 24 (bytes "?>") (at + 2) (s ++ r) (at + 2))) Tag) ≡ Tag → if t (Ignored (declared (s ++ r') at)) (if u (Ignored (seek 24 (bytes "?>") (at + 2) (s ++ r') (at + 2))) Tag) ≡ Tag
-      go true u e = cc
-      go false true e = cc
+      go : (t u : Bool) → if t (ignored (declared (s ++ r) at)) (if u (ignored (seek 24 (bytes "?>") (at + 2) (s ++ r) (at + 2))) (Ok Tag)) ≡ Ok Tag → if t (ignored (declared (s ++ r') at)) (if u (ignored (seek 24 (bytes "?>") (at + 2) (s ++ r') (at + 2))) (Ok Tag)) ≡ Ok Tag
+      go true u e = ignored_no_tag (declared (s ++ r) at) e
+      go false true e = ignored_no_tag (seek 24 (bytes "?>") (at + 2) (s ++ r) (at + 2)) e
       go false false e = refl
 
 -- bytes that are taken lie before the answer
-ignorable_after : (k : ℕ) (l : List ℕ) (at p : ℕ) → ignorable_from k l at ≡ At p → p < at + length l → at + k ≤ p
+ignorable_after : (k : ℕ) (l : List ℕ) (at p : ℕ) → ignorable_from k l at ≡ Ok p → p < at + length l → at + k ≤ p
 unfolding ignorable
-ignorable_after zero l at p e h = let z : Scanned at (at + length l) (At p) = rw e at (ignorable_within l at) in omega (arith, z.0)
+ignorable_after zero l at p e h = let z : Scanned at (at + length l) (Ok p) = rw e at (ignorable_within l at) in omega (arith, z.0)
 ignorable_after (suc k) [] at p e h = absurd (let z : at ≡ p = cc in omega arith)
 ignorable_after (suc k) (b ∷ l) at p e h = let z = ignorable_after k l (suc at) p e (omega arith) in omega arith
 
 module _ (r r' : List ℕ) where
   -- the tag's `<` and the byte after it stand in the part
-  pub ignorable_local : (k : ℕ) (s : List ℕ) (at p : ℕ) → ignorable_from k (s ++ r) at ≡ At p → p + 1 < at + length s → ignorable_from k (s ++ r') at ≡ At p
+  pub ignorable_local : (k : ℕ) (s : List ℕ) (at p : ℕ) → ignorable_from k (s ++ r) at ≡ Ok p → p + 1 < at + length s → ignorable_from k (s ++ r') at ≡ Ok p
   unfolding ignorable
-  ignorable_local zero [] at p e h = absurd (let z : Scanned at (at + length r) (At p) = rw e at (ignorable_within r at) in omega (arith, z.0))
+  ignorable_local zero [] at p e h = absurd (let z : Scanned at (at + length r) (Ok p) = rw e at (ignorable_within r at) in omega (arith, z.0))
   ignorable_local (suc k) [] at p e h = absurd (outside (suc k) r at p e (omega arith))
     where
-      outside : (k : ℕ) (l : List ℕ) (at p : ℕ) → ignorable_from k l at ≡ At p → p < at → ⊥
-      outside zero l at p e h = let z : Scanned at (at + length l) (At p) = rw e at (ignorable_within l at) in absurd (omega (arith, z.0))
+      outside : (k : ℕ) (l : List ℕ) (at p : ℕ) → ignorable_from k l at ≡ Ok p → p < at → ⊥
+      outside zero l at p e h = let z : Scanned at (at + length l) (Ok p) = rw e at (ignorable_within l at) in absurd (omega (arith, z.0))
       outside (suc k) [] at p e h = let z : at ≡ p = cc in absurd (omega arith)
       outside (suc k) (b ∷ l) at p e h = outside k l (suc at) p e (omega arith)
   ignorable_local (suc k) (b ∷ s) at p e h = ignorable_local k s (suc at) p e (omega arith)
   ignorable_local zero (b ∷ s) at p e h = go (eqb b 60) e (λ k f. ignorable_local k s (suc at) p f (omega arith))
     where
-      marked : (m : Markup) → markup (s ++ r) at ≡ m → further m at (λ q. ignorable_from (q - suc at) (s ++ r) (suc at)) ≡ At p → ((k : ℕ) → ignorable_from k (s ++ r) (suc at) ≡ At p → ignorable_from k (s ++ r') (suc at) ≡ At p) → further (markup (s ++ r') at) at (λ q. ignorable_from (q - suc at) (s ++ r') (suc at)) ≡ At p
-      marked Tag f e i = let z : at ≡ p = cc in rw (markup_tag r r' s at (omega arith) f) e
-      marked (Ignored (Fault n x)) f e i = cc
-      marked (Ignored (At q)) f e i =
+      marked : (m : Result Markup Fault) → markup (s ++ r) at ≡ m → further m at (λ q. ignorable_from (q - suc at) (s ++ r) (suc at)) ≡ Ok p → ((k : ℕ) → ignorable_from k (s ++ r) (suc at) ≡ Ok p → ignorable_from k (s ++ r') (suc at) ≡ Ok p) → further (markup (s ++ r') at) at (λ q. ignorable_from (q - suc at) (s ++ r') (suc at)) ≡ Ok p
+      marked (Ok Tag) f e i = let z : at ≡ p = cc in rw (markup_tag r r' s at (omega arith) f) e
+      marked (Err x) f e i = cc
+      marked (Ok (Ignored q)) f e i =
           let a = markup_after (s ++ r) at q f in
           let y = ignorable_after (q - suc at) (s ++ r) (suc at) p e (rw length-append (omega arith)) in
           rw (markup_local r r' s at q f (omega arith)) (i (q - suc at) e)
 
-      go : (t : Bool) → if t (further (markup (s ++ r) at) at (λ q. ignorable_from (q - suc at) (s ++ r) (suc at))) (ignorable_from 0 (s ++ r) (suc at)) ≡ At p → ((k : ℕ) → ignorable_from k (s ++ r) (suc at) ≡ At p → ignorable_from k (s ++ r') (suc at) ≡ At p) → if t (further (markup (s ++ r') at) at (λ q. ignorable_from (q - suc at) (s ++ r') (suc at))) (ignorable_from 0 (s ++ r') (suc at)) ≡ At p
+      go : (t : Bool) → if t (further (markup (s ++ r) at) at (λ q. ignorable_from (q - suc at) (s ++ r) (suc at))) (ignorable_from 0 (s ++ r) (suc at)) ≡ Ok p → ((k : ℕ) → ignorable_from k (s ++ r) (suc at) ≡ Ok p → ignorable_from k (s ++ r') (suc at) ≡ Ok p) → if t (further (markup (s ++ r') at) at (λ q. ignorable_from (q - suc at) (s ++ r') (suc at))) (ignorable_from 0 (s ++ r') (suc at)) ≡ Ok p
       go true e i = marked (markup (s ++ r) at) refl e i
       go false e i = i 0 e

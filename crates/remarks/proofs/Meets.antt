@@ -8,10 +8,10 @@ use mathlib.Core.Logic.{◌⊎◌, inl, inr}
 use native.Mathlib.Omega.{arith}
 use lib.ListN.{length, drop, length-drop, length-append}
 use lib.Seq.{drop-drop, drop-append-add}
+use Rattle.std.specs.Prelude.{Result, Ok, Err}
+use Rattle.faults.specs.declared.Fault.{Fault}
 use Rattle.slices.specs.Bytes.{if, bytes}
 use Rattle.scan.specs.Ignorable.{seek, ignorable_from, ignorable}
-use Rattle.scan.specs.declared.Scan.{Scan}
-use Rattle.scan.specs.declared.Scan.TheVariants.{Fault, At}
 use Rattle.document.specs.Elements.{among}
 use Rattle.document.specs.Tokens.{Token, start, close, fault, end, Next, more, last, past_ignorable, next, joined, tokens_from}
 use Rattle.document.proofs.Runs.{taken}
@@ -91,9 +91,9 @@ module _ (c e : ℕ) where
 -- ---- the same tokens
 
 -- past what is ignorable, from a place before e or from e itself
-past_rest : (l rest : List ℕ) (at e top : ℕ) (x : Scan) → at ≤ e → drop (e - at) l ≡ rest → Scanned e top x → past_ignorable x l at ≡ past_ignorable x rest e
-past_rest l rest at e top (Fault n p) h y w = refl
-past_rest l rest at e top (At p) h y w =
+past_rest : (l rest : List ℕ) (at e top : ℕ) (x : Result ℕ Fault) → at ≤ e → drop (e - at) l ≡ rest → Scanned e top x → past_ignorable x l at ≡ past_ignorable x rest e
+past_rest l rest at e top (Err f) h y w = refl
+past_rest l rest at e top (Ok p) h y w =
     let n : e - at + (p - e) ≡ p - at = omega (arith, w.0) in
     let z : drop (p - at) l ≡ drop (p - e) rest = rw (← y, drop-drop (p - e) (e - at) l, n) in
     rw z
@@ -109,7 +109,7 @@ tokens_rest l rest at e q h y i j =
     let z : drop (q - at) l ≡ drop (q - e) rest = rw (← y, drop-drop (q - e) (e - at) l, n) in
     taken (q - at) l at (omega arith) ∙ rw (z, m)
 
-module _ (c e : ℕ) (r r' rest : List ℕ) (o : seek 22 (bytes "-->") (c + 4) r (c + 4) ≡ At e) (o' : seek 22 (bytes "-->") (c + 4) r' (c + 4) ≡ At e) (h : c + 7 ≤ e) (m : e ≤ c + 4 + length r) (m' : e ≤ c + 4 + length r') (y : drop (e - (c + 4)) r ≡ rest) (y' : drop (e - (c + 4)) r' ≡ rest) where
+module _ (c e : ℕ) (r r' rest : List ℕ) (o : seek 22 (bytes "-->") (c + 4) r (c + 4) ≡ Ok e) (o' : seek 22 (bytes "-->") (c + 4) r' (c + 4) ≡ Ok e) (h : c + 7 ≤ e) (m : e ≤ c + 4 + length r) (m' : e ≤ c + 4 + length r') (y : drop (e - (c + 4)) r ≡ rest) (y' : drop (e - (c + 4)) r' ≡ rest) where
   left : (s x : List ℕ) (at : ℕ) → at + length s ≡ c + 4 → drop (e - (c + 4)) x ≡ rest → drop (e - at) (s ++ x) ≡ rest
   left s x at l z =
       let n : e - at ≡ length s + (e - (c + 4)) = omega arith in

@@ -15,7 +15,7 @@ use Rattle.document.specs.Tokens.{Tag, Token, start, close, fault, end}
 use Rattle.document.specs.Rows.{Doc, Row, Warning, Tables, documented}
 use Rattle.document.specs.Refusals.{fault_in}
 use Rattle.document.specs.declared.Refusal.{Refusal}
-use Rattle.document.specs.Elements.{among, attr, Opened, opens, refuses, opens_as}
+use Rattle.document.specs.Elements.{among, Opened, opens, refuses, opens_as}
 use Rattle.document.specs.Reading.{Name, Purpose, ignored, captures, Frame, element, definition, passing, State, name_of, noted_in, noted, frame_of, with_row, step, fold}
 use Rattle.document.specs.Outcome.{whole}
 use Rattle.document.proofs.Tests.{either}

@@ -9,6 +9,7 @@ use mathlib.Core.Logic.{◌⊎◌, inl, inr}
 use native.Mathlib.Omega.{arith}
 use lib.Dec.{leb, ltb}
 use lib.ListN.{length, take, drop, get_or, replicate}
+use Rattle.std.specs.Prelude.{Ok, Err}
 use Rattle.slices.specs.Bytes.{if}
 use Rattle.scan.specs.Classes.{name_byte}
 use Rattle.utf8.specs.WellFormed.{ill_formed}
@@ -21,11 +22,12 @@ use Rattle.document.specs.Refusals.{bare}
 use Rattle.document.specs.Reading.{State, begun, reading, accepted, refused, run}
 use Rattle.document.specs.Outcome.{whole}
 use Rattle.document.specs.Whole.{Room, meaning, fitted, read, verdict_of, rows_left_lem, warnings_left}
-use Rattle.document.specs.declared.Verdict.TheVariants.{Refused, Accepted}
 use Rattle.document.proofs.Tests.{either}
 use Rattle.document.proofs.Steps.{Kept}
 use Rattle.items.specs.Words.{RowWords}
 use Rattle.document.proofs.Places.{span_left}
+use Rattle.document.specs.declared.Counts.{Counts}
+use Rattle.document.specs.Verdict.{counts}
 use Rattle.accepted.proofs.Tokens as standing
 use Rattle.accepted.proofs.Tokens.{AllHeld, AllCome, tokens_come}
 use Rattle.accepted.proofs.Triples.{doc_of}
@@ -187,13 +189,14 @@ module _ (c e : ℕ) (d d' : List ℕ) (w : Differ c e d d') where
 pub shows_unsteered : ShowsUnsteered
 shows_unsteered c e d d' w room rows warnings text n x k s = go (read d room) refl (read_told c e d d' w room) s.verdict s.rows_left s.warnings_left_lem
   where
-    go : (r : State Shown) → read d room ≡ r → Told c e d d' r → Accepted n x k ≡ verdict_of r → rows ≡ rows_left_lem room r → warnings ≡ warnings_left room r → ShownAlike c e d d' rows warnings text n k
+    go : (r : State Shown) → read d room ≡ r → Told c e d d' r → Ok (counts n x k) ≡ verdict_of r → rows ≡ rows_left_lem room r → warnings ≡ warnings_left room r → ShownAlike c e d d' rows warnings text n k
     go begun q h v f g = let z : ◌≡◌ {A = ℕ} 0 1 = cc in absurd (omega arith)
     go (reading fs u) q h v f g = let z : ◌≡◌ {A = ℕ} 0 1 = cc in absurd (omega arith)
     go (refused y) q h v f g = let z : ◌≡◌ {A = ℕ} 0 1 = cc in absurd (omega arith)
     go (accepted u) q h v f g =
-        let i : n ≡ length u.rows = cc in
-        let j : k ≡ length u.warnings = cc in
+        let m : counts n x k ≡ counts (length u.rows) (length (texts u.rows)) (length u.warnings) = cc in
+        let i : n ≡ length u.rows = ap (λ (z : Counts). z.rows) m in
+        let j : k ≡ length u.warnings = ap (λ (z : Counts). z.warnings) m in
         let o = unsteered c e d d' w room in
         let p = left_shown d room u q in
         let p' = left_shown d' room u (sym o ∙ q) in
@@ -206,7 +209,7 @@ shows_unsteered c e d d' w room rows warnings text n x k s = go (read d room) re
 pub messages_unsteered : MessagesUnsteered
 messages_unsteered c e d d' w room rows warnings text x s = go (read d room) (read_told c e d d' w room) s.verdict
   where
-    go : (r : State Shown) → Told c e d d' r → Refused x ≡ verdict_of r → FaultSame d d' x
+    go : (r : State Shown) → Told c e d d' r → Err x ≡ verdict_of r → FaultSame d d' x
     go begun h v = let y : x ≡ bare 0 0 = cc in rw y (refl, refl)
     go (reading fs u) h v = let y : x ≡ bare 0 0 = cc in rw y (refl, refl)
     go (accepted u) h v = let z : ◌≡◌ {A = ℕ} 0 1 = cc in absurd (omega arith)

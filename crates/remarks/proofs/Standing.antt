@@ -9,9 +9,10 @@ use native.Mathlib.Omega.{arith}
 use native.Mathlib.Nat.{sub_self}
 use lib.Dec.{eqb}
 use lib.ListN.{length, drop}
+use Rattle.std.specs.Prelude.{Result, Ok, Err}
+use Rattle.faults.specs.declared.Fault.{Fault}
 use Rattle.slices.specs.Bytes.{if, bytes, starts}
 use Rattle.scan.specs.Ignorable.{seek, markup}
-use Rattle.scan.specs.declared.Scan.TheVariants.{Fault, At}
 use Rattle.scan.specs.declared.Markup.{Markup}
 use Rattle.scan.specs.declared.Markup.TheVariants.{Tag, Ignored}
 use Rattle.document.specs.Elements.{among}
@@ -44,11 +45,11 @@ pub record Found (key l : List ℕ) (p q : ℕ) : Type 0 where
   pub is : l ≡ front ++ (key ++ rest)
   pub long : p + length front + length key ≡ q
 
-pub seek_split : (n : ℕ) (key : List ℕ) (c : ℕ) (l : List ℕ) (p q : ℕ) → seek n key c l p ≡ At q → Found key l p q
+pub seek_split : (n : ℕ) (key : List ℕ) (c : ℕ) (l : List ℕ) (p q : ℕ) → seek n key c l p ≡ Ok q → Found key l p q
 seek_split n key c [] p q e = let z : ◌≡◌ {A = ℕ} 0 1 = cc in absurd (omega arith)
 seek_split n key c (b ∷ l) p q e = go (starts key (b ∷ l)) refl e (λ f. seek_split n key c l (suc p) q f)
   where
-    go : (t : Bool) → starts key (b ∷ l) ≡ t → if t (At (p + length key)) (seek n key c l (suc p)) ≡ At q → (seek n key c l (suc p) ≡ At q → Found key l (suc p) q) → Found key (b ∷ l) p q
+    go : (t : Bool) → starts key (b ∷ l) ≡ t → if t (Ok (p + length key)) (seek n key c l (suc p)) ≡ Ok q → (seek n key c l (suc p) ≡ Ok q → Found key l (suc p) q) → Found key (b ∷ l) p q
     go true f e i =
         let r = starts_split key (b ∷ l) f in
         let z : p + length key ≡ q = cc in
@@ -88,10 +89,10 @@ module _ (c : ℕ) where
       begins k f true g e i = first k f g (eqb c at) refl e i
       begins k f false g e i = later k e i
 
-      marked : (x : Markup) → b ≡ 60 → among c (beyond x l at (λ p. passed_from (p - suc at) l (suc at))) ≡ true → Further → Stands (b ∷ l) at
-      marked Tag f e i = never e
-      marked (Ignored (Fault n p)) f e i = never e
-      marked (Ignored (At p)) f e i = begins (p - suc at) f (starts (bytes "!--") l) refl e i
+      marked : (x : Result Markup Fault) → b ≡ 60 → among c (beyond x l at (λ p. passed_from (p - suc at) l (suc at))) ≡ true → Further → Stands (b ∷ l) at
+      marked (Ok Tag) f e i = never e
+      marked (Err x) f e i = never e
+      marked (Ok (Ignored p)) f e i = begins (p - suc at) f (starts (bytes "!--") l) refl e i
 
       go : (t : Bool) → eqb b 60 ≡ t → among c (if t (beyond (markup l at) l at (λ p. passed_from (p - suc at) l (suc at))) (passed_from 0 l (suc at))) ≡ true → Further → Stands (b ∷ l) at
       go true f e i = marked (markup l at) (eqb-true b 60 f) e i

@@ -9,9 +9,10 @@ use native.Mathlib.Omega.{arith}
 use lib.Dec.{eqb}
 use lib.ListN.{length, take, drop, length-drop, take-append-drop}
 use lib.Seq.{length-take-le, drop-append-le}
+use Rattle.std.specs.Prelude.{Result, Ok, Err}
+use Rattle.faults.specs.declared.Fault.{Fault}
 use Rattle.slices.specs.Bytes.{if, bytes, starts}
-use Rattle.scan.specs.Ignorable.{seek, markup}
-use Rattle.scan.specs.declared.Scan.TheVariants.{Fault, At}
+use Rattle.scan.specs.Ignorable.{seek, markup, ignored}
 use Rattle.scan.specs.declared.Markup.{Markup}
 use Rattle.scan.specs.declared.Markup.TheVariants.{Tag, Ignored}
 use Rattle.document.specs.Elements.{among}
@@ -40,7 +41,7 @@ among_here c l at cs e = go (starts (bytes "!--") l)
 
 -- ---- on the way to a tag
 
-module _ (c e : ℕ) (r r' : List ℕ) (o' : seek 22 (bytes "-->") (c + 4) r' (c + 4) ≡ At e) where
+module _ (c e : ℕ) (r r' : List ℕ) (o' : seek 22 (bytes "-->") (c + 4) r' (c + 4) ≡ Ok e) where
   -- the comment itself
   met_here : (s : List ℕ) (at : ℕ) → suc at + length s ≡ c + 4 → eqb c at ≡ true → starts (bytes "!--") (s ++ r) ≡ true → among c (beyond (markup (s ++ r') at) (s ++ r') at (λ p. passed_from (p - suc at) (s ++ r') (suc at))) ≡ true
   met_here [] at l z f = let w = eqb-true c at z in absurd (omega arith)
@@ -49,7 +50,7 @@ module _ (c e : ℕ) (r r' : List ℕ) (o' : seek 22 (bytes "-->") (c + 4) r' (c
   met_here (p ∷ q ∷ t ∷ u ∷ s) at l z f = let w = eqb-true c at z in absurd (omega arith)
   met_here (p ∷ q ∷ t ∷ []) at l z f =
       let w = comment_bytes p q t r f in
-      let m : markup (p ∷ q ∷ t ∷ r') at ≡ Ignored (At e) = rw (w.0, w.1, w.2, ← eqb-true c at z) (ap Ignored o') in
+      let m : markup (p ∷ q ∷ t ∷ r') at ≡ Ok (Ignored e) = rw (w.0, w.1, w.2, ← eqb-true c at z) (ap ignored o') in
       rw (m, w.0, w.1, w.2, z)
 
   met_passed : (k : ℕ) (s : List ℕ) (at : ℕ) → at + length s ≡ c + 4 → among c (passed_from k (s ++ r) at) ≡ true → among c (passed_from k (s ++ r') at) ≡ true
@@ -63,23 +64,23 @@ module _ (c e : ℕ) (r r' : List ℕ) (o' : seek 22 (bytes "-->") (c + 4) r' (c
       Met : Type 0
       Met = among c (beyond (markup (s ++ r') at) (s ++ r') at (λ p. passed_from (p - suc at) (s ++ r') (suc at))) ≡ true
 
-      later : (p : ℕ) → markup (s ++ r) at ≡ Ignored (At p) → among c (passed_from (p - suc at) (s ++ r) (suc at)) ≡ true → Further → Met
+      later : (p : ℕ) → markup (s ++ r) at ≡ Ok (Ignored p) → among c (passed_from (p - suc at) (s ++ r) (suc at)) ≡ true → Further → Met
       later p f a i =
           let z = passed_since c (p - suc at) (s ++ r) (suc at) a in
           rw (markup_local r r' s at p f (omega arith)) (among_here c (s ++ r') at (passed_from (p - suc at) (s ++ r') (suc at)) (i (p - suc at) a))
 
-      first : (p : ℕ) → markup (s ++ r) at ≡ Ignored (At p) → starts (bytes "!--") (s ++ r) ≡ true → (t : Bool) → eqb c at ≡ t → if t true (among c (passed_from (p - suc at) (s ++ r) (suc at))) ≡ true → Further → Met
+      first : (p : ℕ) → markup (s ++ r) at ≡ Ok (Ignored p) → starts (bytes "!--") (s ++ r) ≡ true → (t : Bool) → eqb c at ≡ t → if t true (among c (passed_from (p - suc at) (s ++ r) (suc at))) ≡ true → Further → Met
       first p f g true w a i = met_here s at (omega arith) w g
       first p f g false w a i = later p f a i
 
-      begins : (p : ℕ) → markup (s ++ r) at ≡ Ignored (At p) → (t : Bool) → starts (bytes "!--") (s ++ r) ≡ t → among c (if t (at ∷ passed_from (p - suc at) (s ++ r) (suc at)) (passed_from (p - suc at) (s ++ r) (suc at))) ≡ true → Further → Met
+      begins : (p : ℕ) → markup (s ++ r) at ≡ Ok (Ignored p) → (t : Bool) → starts (bytes "!--") (s ++ r) ≡ t → among c (if t (at ∷ passed_from (p - suc at) (s ++ r) (suc at)) (passed_from (p - suc at) (s ++ r) (suc at))) ≡ true → Further → Met
       begins p f true g a i = first p f g (eqb c at) refl a i
       begins p f false g a i = later p f a i
 
-      marked : (x : Markup) → markup (s ++ r) at ≡ x → among c (beyond x (s ++ r) at (λ p. passed_from (p - suc at) (s ++ r) (suc at))) ≡ true → Further → Met
-      marked Tag f a i = never a
-      marked (Ignored (Fault n p)) f a i = never a
-      marked (Ignored (At p)) f a i = begins p f (starts (bytes "!--") (s ++ r)) refl a i
+      marked : (x : Result Markup Fault) → markup (s ++ r) at ≡ x → among c (beyond x (s ++ r) at (λ p. passed_from (p - suc at) (s ++ r) (suc at))) ≡ true → Further → Met
+      marked (Ok Tag) f a i = never a
+      marked (Err x) f a i = never a
+      marked (Ok (Ignored p)) f a i = begins p f (starts (bytes "!--") (s ++ r)) refl a i
 
       go : (t : Bool) → among c (if t (beyond (markup (s ++ r) at) (s ++ r) at (λ p. passed_from (p - suc at) (s ++ r) (suc at))) (passed_from 0 (s ++ r) (suc at))) ≡ true → Further → among c (if t (beyond (markup (s ++ r') at) (s ++ r') at (λ p. passed_from (p - suc at) (s ++ r') (suc at))) (passed_from 0 (s ++ r') (suc at))) ≡ true
       go true a i = marked (markup (s ++ r) at) refl a i

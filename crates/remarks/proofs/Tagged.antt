@@ -9,11 +9,11 @@ use native.Mathlib.Omega.{arith}
 use lib.Dec.{eqb}
 use lib.ListN.{length, take, drop, length-drop, take-append-drop}
 use lib.Seq.{length-take-le, drop-append-le}
+use Rattle.std.specs.Prelude.{Result, Ok, Err}
+use Rattle.faults.specs.declared.Fault.{Fault}
 use Rattle.slices.specs.Bytes.{if, other, span, past, empty}
 use Rattle.scan.specs.Classes.{white, name_byte}
 use Rattle.scan.specs.Ignorable.{quote, ignorable}
-use Rattle.scan.specs.declared.Scan.{Scan}
-use Rattle.scan.specs.declared.Scan.TheVariants.{Fault, At}
 use Rattle.document.specs.Tags.{Attr, Found, absent, found, close_quote, open_quote, equals, named, spaced, attribute, Gathered, gathered, too_many, with, another, no_more, gather, Shown, Checked, good, check}
 use Rattle.document.specs.Tags as tags
 use Rattle.document.specs.Tokens.{Token, close, fault, more, last, tagged, slash_end, tag_end, with_shown, with_attrs, opening, close_end, closing, tag, tag_or_end, past_ignorable, next}
@@ -382,12 +382,12 @@ pub next_part : (r r' : List ℕ) (at : ℕ) (t : Token) (q : ℕ) (s : List ℕ
 unfolding next ignorable
 next_part r r' at t q s e h = go (ignorable (s ++ r) at) refl (ignorable_within (s ++ r) at) e
   where
-    go : (x : Scan) → ignorable (s ++ r) at ≡ x → Scanned at (at + length (s ++ r)) x → past_ignorable x (s ++ r) at ≡ more t q → past_ignorable (ignorable (s ++ r') at) (s ++ r') at ≡ more t q
-    go (Fault n x) f w e = cc
-    go (At p) f w e =
+    go : (x : Result ℕ Fault) → ignorable (s ++ r) at ≡ x → Scanned at (at + length (s ++ r)) x → past_ignorable x (s ++ r) at ≡ more t q → past_ignorable (ignorable (s ++ r') at) (s ++ r') at ≡ more t q
+    go (Err x) f w e = cc
+    go (Ok p) f w e =
         let z = reached (drop (p - at) (s ++ r)) p t q e in
         let n : p - at ≤ length s = omega (arith, w.0) in
-        let i : ignorable (s ++ r') at ≡ At p = ignorable_local r r' 0 s at p f (omega (arith, w.0)) in
+        let i : ignorable (s ++ r') at ≡ Ok p = ignorable_local r r' 0 s at p f (omega (arith, w.0)) in
         rw (i, drop-append-le (p - at) s r' n)
         (reached_local r r' p t q (drop (p - at) s) (rw (← drop-append-le (p - at) s r n) e) (rw length-drop (omega (arith, w.0))))
 

@@ -1,12 +1,12 @@
 -- What the answers of two documents that differ inside a comment show: the same bytes, but for a docstring around the comment.
 -- Assumes nothing.
-use Rattle.std.specs.Prelude.{ℕ, ◌+◌, ◌*◌, ◌≤◌, ◌<◌, ◌≡◌, List, ◌⊎◌, take, drop, get_or}
+use Rattle.std.specs.Prelude.{ℕ, ◌+◌, ◌*◌, ◌≤◌, ◌<◌, ◌≡◌, List, ◌⊎◌, take, drop, get_or, Ok, Err}
 use Rattle.tables.specs.Triple.{shown}
 use Rattle.tables.specs.declared.Triple.{Triple}
 use Rattle.document.specs.Whole.{Room, Says}
-use Rattle.document.specs.declared.Verdict.TheVariants.{Refused, Accepted}
 use Rattle.document.specs.declared.Excerpt.{Excerpt}
 use Rattle.document.specs.declared.Refusal.{Refusal}
+use Rattle.document.specs.Verdict.{counts}
 use Rattle.items.specs.Words.{triple_at, rows_shown}
 use Rattle.remarks.specs.Differing.{Differ}
 
@@ -35,7 +35,7 @@ ShowsUnsteered =
     (c e : ℕ) (d d' : List ℕ) →
     Differ c e d d' →
     (room : Room) (rows warnings text : List ℕ) (n x w : ℕ) →
-    Says d room rows warnings text (Accepted n x w) →
+    Says d room rows warnings text (Ok (counts n x w)) →
     ShownAlike c e d d' rows warnings text n w
 
 -- an excerpt that a message shows has the same bytes
@@ -48,5 +48,5 @@ MessagesUnsteered =
     (c e : ℕ) (d d' : List ℕ) →
     Differ c e d d' →
     (room : Room) (rows warnings text : List ℕ) (x : Refusal) →
-    Says d room rows warnings text (Refused x) →
+    Says d room rows warnings text (Err x) →
     SameIn d d' x.first × SameIn d d' x.second

@@ -2,7 +2,7 @@
 -- between `<!--` and `-->` does steer.
 -- Assumes nothing.
 use Prim.Native.String as string
-use Rattle.std.specs.Prelude.{◌≡◌, refl, List, [], ◌∷◌, map, Bool, false}
+use Rattle.std.specs.Prelude.{◌≡◌, refl, List, [], ◌∷◌, map, Bool, false, Ok, Err}
 use Rattle.slices.specs.Bytes.{bytes}
 use Rattle.utf8.specs.WellFormed.{sequence, ill_formed}
 use Rattle.utf8.specs.WhiteSpace.{characters, trim_start, trim_end}
@@ -14,8 +14,7 @@ use Rattle.document.specs.Refusals.{bare, fault_in}
 use Rattle.document.specs.Elements.{among, kind_of, may_hold, opens_as}
 use Rattle.document.specs.Reading.{step, begins, unsupported, docstring_in, run}
 use Rattle.document.specs.Whole.{Room, meaning, read, verdict_of}
-use Rattle.document.specs.declared.Verdict.{Verdict}
-use Rattle.document.specs.declared.Verdict.TheVariants.{Refused, Accepted}
+use Rattle.document.specs.Verdict.{Verdict, counts}
 use Rattle.met.specs.Passed.{passed_over}
 use Rattle.met.specs.Met.{met_tokens, met_comments}
 use Rattle.remarks.specs.Differing.{Differ}
@@ -42,7 +41,7 @@ abbrev pub room : Room
 room = record { rows = 16; warnings = 0; text = 0 }
 
 abbrev pub declarations : List (string.String × Bool × Verdict)
-declarations = ("<!x [<!--'-->]><a/>", false, Refused (bare 25 10)) ∷ ("<!x [<!-- -->]><a/>", false, Accepted 1 0 0) ∷ []
+declarations = ("<!x [<!--'-->]><a/>", false, Err (bare 25 10)) ∷ ("<!x [<!-- -->]><a/>", false, Ok (counts 1 0 0)) ∷ []
 
 pub steers : map (λ c. among 5 (met_comments (bytes c.0))) declarations ≡ map (λ c. c.1) declarations
 unfolding met_tokens passed_over tokens next ignorable opening closing gather attribute step begins opens_as kind_of may_hold fault_in

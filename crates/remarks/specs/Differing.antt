@@ -1,13 +1,12 @@
 -- Two documents that differ only inside a comment that reading meets, and what is then said of their answers.
 -- Assumes nothing.
-use Rattle.std.specs.Prelude.{ℕ, ◌+◌, ◌≡◌, List, true, length, take, drop}
+use Rattle.std.specs.Prelude.{ℕ, ◌+◌, ◌≡◌, List, true, length, take, drop, Ok}
 use Rattle.slices.specs.Bytes.{bytes}
 use Rattle.utf8.specs.WellFormed.{ill_formed}
 use Rattle.scan.specs.Ignorable.{seek}
-use Rattle.scan.specs.declared.Scan.TheVariants.{At}
 use Rattle.document.specs.Elements.{among}
 use Rattle.document.specs.Whole.{Room, read, Says}
-use Rattle.document.specs.declared.Verdict.{Verdict}
+use Rattle.document.specs.Verdict.{Verdict}
 use Rattle.met.specs.Met.{met_comments}
 
 -- the comment begins at c, is one that reading the first document meets, and closes at its first `-->`, which ends at e in both; they
@@ -15,8 +14,8 @@ use Rattle.met.specs.Met.{met_comments}
 pub record Differ (c e : ℕ) (d d' : List ℕ) : Type 0 where
   pub met : among c (met_comments d) ≡ true
   pub before : take (c + 4) d ≡ take (c + 4) d'
-  pub closes : seek 22 (bytes "-->") (c + 4) (drop (c + 4) d) (c + 4) ≡ At e
-  pub also : seek 22 (bytes "-->") (c + 4) (drop (c + 4) d') (c + 4) ≡ At e
+  pub closes : seek 22 (bytes "-->") (c + 4) (drop (c + 4) d) (c + 4) ≡ Ok e
+  pub also : seek 22 (bytes "-->") (c + 4) (drop (c + 4) d') (c + 4) ≡ Ok e
   pub after : drop e d ≡ drop e d'
   pub utf8 : ill_formed d ≡ length d
   pub utf8_also : ill_formed d' ≡ length d'

@@ -9,13 +9,12 @@ use mathlib.Core.Bool.{Bool, true, false, ◌||◌}
 use lib.Dec.{ltb}
 use lib.ListN.{length, take, replicate}
 use lib.Seq.{take_at}
+use Rattle.std.specs.Prelude.{Ok}
 use Rattle.slices.specs.Bytes.{if}
 use Rattle.answers.specs.Text.{Text, text, wrong, answer_of, left_of}
-use Rattle.answers.specs.declared.TextAnswer.TheVariants.{Done}
 use Rattle.document.specs.Rows.{words_from, texts}
 use Rattle.document.specs.Whole.{Room, verdict_of, filled, Says}
-use Rattle.document.specs.declared.Verdict.{Verdict}
-use Rattle.document.specs.declared.Verdict.TheVariants.{Accepted}
+use Rattle.document.specs.Verdict.{Verdict, counts}
 use Rattle.accepted.proofs.Accepted.{words_shown}
 use Rattle.items.specs.Words.{rows_shown}
 use Rattle.items.specs.Sound.{Soundness, sound, unsound, soundness}
@@ -50,13 +49,13 @@ module _ {doc : List ℕ} {room : Room} {name : List ℕ} {c : Item} (a : Answer
 module _ {doc rows' warnings text' name : List ℕ} {c : Item} {lent : Room} {r : Verdict} (a : Answers doc lent name c) (p : Says doc lent rows' warnings text' r) where
   pub returns : Returns doc rows' text' name c r
   returns = record {
-    verdict = p.verdict ∙ ap verdict_of a.reads ∙ counts;
+    verdict = p.verdict ∙ ap verdict_of a.reads ∙ counted;
     gives = gives;
     same = ap (λ t. content t 2) gives ∙ table_back name c;
   }
     where
-      counts : Accepted (length a.tables.rows) (length (texts a.tables.rows)) (length a.tables.warnings) ≡ Accepted (2 + length (rows 2 2 c)) (referenced (values c)) 0
-      counts = rw (a.many, a.text, a.silent)
+      counted : ◌≡◌ {A = Verdict} (Ok (counts (length a.tables.rows) (length (texts a.tables.rows)) (length a.tables.warnings))) (Ok (counts (2 + length (rows 2 2 c)) (referenced (values c)) 0))
+      counted = rw (a.many, a.text, a.silent)
 
       rows_are : rows' ≡ filled lent.rows (words_from 0 a.tables.rows)
       rows_are = rw a.reads at p.rows_left
@@ -72,7 +71,7 @@ module _ {doc rows' warnings text' name : List ℕ} {c : Item} {lent : Room} {r 
 
 -- ---- the bytes that `write` leaves
 
-text_of : (m : ℕ) (o : Text) → Done m ≡ answer_of o → (t : List ℕ) × (o ≡ text t) × (length t ≡ m)
+text_of : (m : ℕ) (o : Text) → Ok m ≡ answer_of o → (t : List ℕ) × (o ≡ text t) × (length t ≡ m)
 text_of m (text t) e = (t, refl, cc)
 text_of m (wrong k p) e = let z : ◌≡◌ {A = ℕ} 0 1 = cc in absurd (omega arith)
 
@@ -98,7 +97,7 @@ pub record Leaves (document text ws : List ℕ) (n i : ℕ) (b : List ℕ) : Typ
   pub is_item : content_at document text ws n i ≡ some item
   pub bytes : b ≡ written item
 
-pub leaves : (document x ws out : List ℕ) (n i room m : ℕ) → Writes document x ws n i room out (Done m) → Leaves document x ws n i (take m out)
+pub leaves : (document x ws out : List ℕ) (n i room m : ℕ) → Writes document x ws n i room out (Ok m) → Leaves document x ws n i (take m out)
 unfolding writing
 leaves document x ws out n i room m w =
     let t = text_of m (writing document x ws n i room) w.says.answer in

@@ -1,13 +1,11 @@
 -- The same of the code: in the records that the contracts of `writers::write` and `reader::parse_with_warnings` cite.
 -- Assumes nothing.
-use Rattle.std.specs.Prelude.{ℕ, ◌+◌, ◌≡◌, List, [], ◌∷◌, true, length, take}
+use Rattle.std.specs.Prelude.{ℕ, ◌+◌, ◌≡◌, List, [], ◌∷◌, true, length, take, Ok}
 use Rattle.std.proofs.Math.Option.{some}
 use Rattle.names.specs.Names.{interface_name}
-use Rattle.answers.specs.declared.TextAnswer.TheVariants.{Done}
 use Rattle.document.specs.Elements.{among}
 use Rattle.document.specs.Whole.{Room, Says}
-use Rattle.document.specs.declared.Verdict.{Verdict}
-use Rattle.document.specs.declared.Verdict.TheVariants.{Accepted}
+use Rattle.document.specs.Verdict.{Verdict, counts}
 use Rattle.items.specs.Words.{rows_of, rows_shown}
 use Rattle.items.specs.Sound.{kind_at}
 use Rattle.items.specs.Written.{Item}
@@ -18,7 +16,7 @@ use Rattle.roundtrip.specs.Statement.{around, Fits, Told}
 
 -- the verdict and the rows left are those of that node, that interface and that item
 pub record Returns (doc rows' text : List ℕ) (name : List ℕ) (c : Item) (r : Verdict) : Type 0 where
-  pub verdict : r ≡ Accepted (2 + length (rows 2 2 c)) (referenced (values c)) 0
+  pub verdict : r ≡ Ok (counts (2 + length (rows 2 2 c)) (referenced (values c)) 0)
   pub gives : rows_shown doc text rows' (2 + length (rows 2 2 c)) ≡ node_row ∷ interface_row name ∷ rows 2 2 c
   pub same : content_at doc text rows' (2 + length (rows 2 2 c)) 2 ≡ some c
 
@@ -26,7 +24,7 @@ pub record Returns (doc rows' text : List ℕ) (name : List ℕ) (c : Item) (r :
 abbrev pub EntriesAgree : Type 0
 EntriesAgree =
     (document text ws out : List ℕ) (n i room m : ℕ) →
-    Writes document text ws n i room out (Done m) →
+    Writes document text ws n i room out (Ok m) →
     among (kind_at (rows_of n ws) i) (3 ∷ 5 ∷ 6 ∷ []) ≡ true →
     (c : Item)
     × (content_at document text ws n i ≡ some c)
@@ -40,8 +38,8 @@ EntriesAgree =
 abbrev pub EntriesTell : Type 0
 EntriesTell =
     (document text ws out document' text' ws' out' : List ℕ) (n i room m n' i' room' m' : ℕ) →
-    Writes document text ws n i room out (Done m) →
-    Writes document' text' ws' n' i' room' out' (Done m') →
+    Writes document text ws n i room out (Ok m) →
+    Writes document' text' ws' n' i' room' out' (Ok m') →
     (c : Item)
     × (c' : Item)
     × (content_at document text ws n i ≡ some c)

@@ -11,11 +11,13 @@ use native.Mathlib.Omega.{arith}
 use lib.Dec.{eqb}
 use lib.ListN.{length, drop, get_or, drop_of_length-le}
 use lib.Seq.{drop-cons}
+use Rattle.std.proofs.Common.{Ok, Err}
+use Rattle.faults.specs.Fault.{fault}
+use Rattle.faults.specs.declared.Fault.{Fault}
 use Rattle.slices.specs.Bytes.{if, other}
 use Rattle.slices.specs.Run.{Run}
 use Rattle.slices.proofs.Runs.{by_byte, run_past, run_stop}
 use Rattle.scan.specs.Ignorable.{Scans, bare, quoted, quote, ends, declaration_in}
-use Rattle.scan.specs.declared.Scan.TheVariants.{Fault, At}
 
 -- the tests of the two functions on bytes
 pub nest_open : (b d : ℕ) → b ≡ 91 → d + 1 ≡ if (eqb b 91) (suc d) (if (eqb b 93) (pred d) d)
@@ -60,8 +62,8 @@ pub declare_begins : {s : List ℕ} {from : ℕ} → from ≤ length s → Decla
 declare_begins h = record { left = refl; since = omega arith; inside = h; nested = omega arith }
 
 module _ {s : List ℕ} {from at depth : ℕ} (g : Declaring s from at depth) where
-  pub declare_ended : length s ≤ at → Scans (declaration_in (bare 0)) s from (Fault 25 at)
-  declare_ended h = record { is = sym (g.left ∙ rw (drop_of_length-le s h)); onward = tt }
+  pub declare_ended : {f : Fault} → length s ≤ at → f ≡ fault 25 at → Scans (declaration_in (bare 0)) s from (Err f)
+  declare_ended h e = record { is = rw e (sym (g.left ∙ rw (drop_of_length-le s h))); onward = tt }
 
   module _ (h : at < length s) where
     -- a quote: up to the same one
@@ -75,8 +77,8 @@ module _ {s : List ℕ} {from at depth : ℕ} (g : Declaring s from at depth) wh
           (run_past (declaration_in (quoted depth (get_or s at 0) (at + 1))) (other (get_or s at 0))
           (λ b l p o. rw (not-true (eqb b (get_or s at 0)) o)) s (at + 1) n))
 
-      pub declare_unclosed : length s ≤ close → Scans (declaration_in (bare 0)) s from (Fault 25 (at + 1))
-      declare_unclosed c = record { is = sym (to_close ∙ rw (drop_of_length-le s c)); onward = tt }
+      pub declare_unclosed : {x : Fault} → length s ≤ close → x ≡ fault 25 (at + 1) → Scans (declaration_in (bare 0)) s from (Err x)
+      declare_unclosed c i = record { is = rw i (sym (to_close ∙ rw (drop_of_length-le s c))); onward = tt }
 
       pub declare_quote : close < length s → Declaring s from (close + 1) depth
       declare_quote c =
@@ -89,7 +91,7 @@ module _ {s : List ℕ} {from at depth : ℕ} (g : Declaring s from at depth) wh
           }
 
     module _ {t : Bool} (e : t ≡ quote (get_or s at 0)) (f : t ≡ false) where
-      pub declare_ends : {u : Bool} → u ≡ ends (bare depth) (get_or s at 0) → u ≡ true → Scans (declaration_in (bare 0)) s from (At (at + 1))
+      pub declare_ends : {u : Bool} → u ≡ ends (bare depth) (get_or s at 0) → u ≡ true → Scans (declaration_in (bare 0)) s from (Ok (at + 1))
       declare_ends v o = record { is = sym (g.left ∙ rw (drop-cons s at 0 h, sym v ∙ o, add-one)); onward = (omega arith, omega arith) }
 
       pub declare_more : {u : Bool} {r : ℕ} → u ≡ ends (bare depth) (get_or s at 0) → u ≡ false → r ≡ if (eqb (get_or s at 0) 91) (suc depth) (if (eqb (get_or s at 0) 93) (pred depth) depth) → Declaring s from (at + 1) r

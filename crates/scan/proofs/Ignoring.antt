@@ -12,19 +12,19 @@ use native.Mathlib.Omega.{arith}
 use lib.Dec.{eqb}
 use lib.ListN.{length, drop, get_or, length-drop, drop_of_length-le}
 use lib.Seq.{drop-cons, drop-drop}
+use Rattle.std.proofs.Common.{Result, Ok, Err}
 use Rattle.slices.specs.Bytes.{bytes, other, starts}
 use Rattle.slices.specs.Run.{Run}
 use Rattle.slices.proofs.Runs.{run_past, run_stop, starts_fits}
-use Rattle.scan.specs.Ignorable.{Scans, Ignores, Marks, Onward, OnwardPast, bare, seek, declaration_in, declared, further, ignorable_from, ignorable}
-use Rattle.scan.specs.declared.Scan.{Scan}
-use Rattle.scan.specs.declared.Scan.TheVariants.{Fault, At}
+use Rattle.scan.specs.Ignorable.{Scans, Ignores, Marks, Onward, OnwardPast, bare, seek, declaration_in, declared, ignored, further, ignorable_from, ignorable}
+use Rattle.faults.specs.declared.Fault.{Fault}
 use Rattle.scan.specs.declared.Markup.{Markup}
 use Rattle.scan.specs.declared.Markup.TheVariants.{Tag, Ignored}
 
 -- a scan from further on is past the place
-past_it : (s : List ℕ) (from : ℕ) (r : Scan) (at : ℕ) → at < from → Onward s from r → OnwardPast s at (Ignored r)
-past_it s from (Fault n p) at h o = tt
-past_it s from (At p) at h o = (omega (arith, o.0), o.1)
+past_it : (s : List ℕ) (from : ℕ) (r : Result ℕ Fault) (at : ℕ) → at < from → Onward s from r → OnwardPast s at (ignored r)
+past_it s from (Err f) at h o = tt
+past_it s from (Ok p) at h o = (omega (arith, o.0), o.1)
 
 -- a key that stands two places on, and n bytes long, leaves n places
 key_fits : (s : List ℕ) (at : ℕ) (key : List ℕ) {t : Bool} → at + 2 ≤ length s → t ≡ starts key (drop (at + 2) s) → t ≡ true → at + (2 + length key) ≤ length s
@@ -37,23 +37,23 @@ pub cdata_fits : (s : List ℕ) (at : ℕ) {t : Bool} → at + 2 ≤ length s �
 cdata_fits s at = key_fits s at (bytes "[CDATA[")
 
 module _ (s : List ℕ) (at : ℕ) {t : Bool} (e : t ≡ starts (bytes "--") (drop (at + 2) s)) where
-  pub declared_comment : {r : Scan} → t ≡ true → Scans (seek 22 (bytes "-->") (at + 4)) s (at + 4) r → Ignores declared s at r
+  pub declared_comment : {r : Result ℕ Fault} → t ≡ true → Scans (seek 22 (bytes "-->") (at + 4)) s (at + 4) r → Ignores declared s at r
   declared_comment {r} f c =
       let n : at + 2 + 2 ≡ at + 4 = omega arith in
       record { is = c.is ∙ rw (sym e ∙ f, drop-drop 2 (at + 2) s, n); onward = past_it s (at + 4) r at (omega arith) c.onward }
 
   module _ (f : t ≡ false) {u : Bool} (d : u ≡ starts (bytes "[CDATA[") (drop (at + 2) s)) where
-    pub declared_cdata : {r : Scan} → u ≡ true → Scans (seek 23 (bytes "]]>") (at + 9)) s (at + 9) r → Ignores declared s at r
+    pub declared_cdata : {r : Result ℕ Fault} → u ≡ true → Scans (seek 23 (bytes "]]>") (at + 9)) s (at + 9) r → Ignores declared s at r
     declared_cdata {r} g c =
         let n : at + 2 + 7 ≡ at + 9 = omega arith in
         record { is = c.is ∙ rw (sym e ∙ f, sym d ∙ g, drop-drop 7 (at + 2) s, n); onward = past_it s (at + 9) r at (omega arith) c.onward }
 
-    pub declared_other : {r : Scan} → u ≡ false → Scans (declaration_in (bare 0)) s (at + 2) r → Ignores declared s at r
+    pub declared_other : {r : Result ℕ Fault} → u ≡ false → Scans (declaration_in (bare 0)) s (at + 2) r → Ignores declared s at r
     declared_other {r} g c = record { is = c.is ∙ rw (sym e ∙ f, sym d ∙ g); onward = past_it s (at + 2) r at (omega arith) c.onward }
 
 -- what begins at a `<`
 module _ (s : List ℕ) (at : ℕ) where
-  pub markup_last : length s ≤ at + 1 → Marks s at Tag
+  pub markup_last : length s ≤ at + 1 → Marks s at (Ok Tag)
   markup_last h = record { is = rw (drop_of_length-le s (rw add-one at h)); onward = tt }
 
   module _ (h : at + 1 < length s) where
@@ -63,16 +63,24 @@ module _ (s : List ℕ) (at : ℕ) where
         e : at + 1 + 1 ≡ at + 2
         e = omega arith
 
-    pub markup_declared : {r : Scan} → get_or s (at + 1) 0 ≡ 33 → Ignores declared s at r → Marks s at (Ignored r)
+    pub markup_declared : {r : Result ℕ Fault} → get_or s (at + 1) 0 ≡ 33 → Ignores declared s at r → Marks s at (ignored r)
     markup_declared b c = record { is = rw (after, b, c.is); onward = c.onward }
 
-    pub markup_instruction : {r : Scan} → get_or s (at + 1) 0 ≡ 63 → Scans (seek 24 (bytes "?>") (at + 2)) s (at + 2) r → Marks s at (Ignored r)
+    pub markup_instruction : {r : Result ℕ Fault} → get_or s (at + 1) 0 ≡ 63 → Scans (seek 24 (bytes "?>") (at + 2)) s (at + 2) r → Marks s at (ignored r)
     markup_instruction {r} b c = record { is = rw (after, b, c.is); onward = past_it s (at + 2) r at (omega arith) c.onward }
 
-    pub markup_tag : (get_or s (at + 1) 0 ≡ 33 → ⊥) → (get_or s (at + 1) 0 ≡ 63 → ⊥) → Marks s at Tag
+    pub markup_tag : (get_or s (at + 1) 0 ≡ 33 → ⊥) → (get_or s (at + 1) 0 ≡ 63 → ⊥) → Marks s at (Ok Tag)
     markup_tag f g = record { is = rw (after, ne_eqb _ _ f, ne_eqb _ _ g); onward = tt }
 
 pub ruleset pieces = (comment_fits, declared_comment, cdata_fits, declared_cdata, declared_other, markup_last, markup_declared, markup_instruction, markup_tag, rules)
+
+-- the same, for a fault and for a place
+module _ (s : List ℕ) (at : ℕ) where
+  pub marks_place : {r : Result ℕ Fault} {p : ℕ} → Marks s at (ignored r) → r ≡ Ok p → Marks s at (Ok (Ignored p))
+  marks_place c e = rw e at c
+
+  pub marks_fault : {r : Result ℕ Fault} {f : Fault} → Marks s at (ignored r) → r ≡ Err f → Marks s at (Err f)
+  marks_fault c e = rw e at c
 
 -- bytes that are taken already are dropped
 taken : (k : ℕ) (l : List ℕ) (at : ℕ) → k ≤ length l → ignorable_from k l at ≡ ignorable_from 0 (drop k l) (at + k)
@@ -103,36 +111,36 @@ pub ignore_begins : {s : List ℕ} {from r : ℕ} → Run (other 60) s from r �
 ignore_begins n = to_tag (omega arith) refl n
 
 module _ {s : List ℕ} {from at : ℕ} (g : Ignoring s from at) where
-  pub ignore_ended : length s ≤ at → Scans ignorable s from (At at)
+  pub ignore_ended : length s ≤ at → Scans ignorable s from (Ok at)
   unfolding ignorable
   ignore_ended h = record { is = sym (g.left ∙ rw (drop_of_length-le s h)); onward = (g.since, g.inside) }
 
-  module _ (h : at < length s) {m : Markup} (c : Marks s at m) where
+  module _ (h : at < length s) {m : Result Markup Fault} (c : Marks s at m) where
     -- what the `<` comes to
     at_tag : ignorable (drop from s) from ≡ further m at (λ p. ignorable_from (p - suc at) (drop (suc at) s) (suc at))
     unfolding ignorable
     at_tag = g.left ∙ rw (drop-cons s at 0 h, g.tag h, c.is)
 
-    pub ignore_tag : m ≡ Tag → Scans ignorable s from (At at)
+    pub ignore_tag : m ≡ Ok Tag → Scans ignorable s from (Ok at)
     ignore_tag e = record { is = sym (at_tag ∙ rw e); onward = (g.since, g.inside) }
 
-    pub ignore_fault : {x : Scan} {n p : ℕ} → m ≡ Ignored x → x ≡ Fault n p → Scans ignorable s from (Fault n p)
-    ignore_fault e f = record { is = sym (at_tag ∙ rw (e, f)); onward = tt }
+    pub ignore_fault : {f : Fault} → m ≡ Err f → Scans ignorable s from (Err f)
+    ignore_fault e = record { is = sym (at_tag ∙ rw e); onward = tt }
 
-    pub ignore_more : {x : Scan} {p r : ℕ} → m ≡ Ignored x → x ≡ At p → Run (other 60) s p r → Ignoring s from r
+    pub ignore_more : {p r : ℕ} → m ≡ Ok (Ignored p) → Run (other 60) s p r → Ignoring s from r
     unfolding ignorable
-    ignore_more {x} {p} {r} e f n =
-        let d : Marks s at (Ignored (At p)) = rw f at (rw e at c) in
+    ignore_more {p} {r} e n =
+        let d : Marks s at (Ok (Ignored p)) = rw e at c in
         let q : suc at + (p - suc at) ≡ p = omega (arith, d.onward) in
-        to_tag (omega (arith, g.since, d.onward)) (at_tag ∙ rw (e, f) (go q (omega (arith, d.onward)))) n
+        to_tag (omega (arith, g.since, d.onward)) (at_tag ∙ rw e (go q (omega (arith, d.onward)))) n
       where
         go : suc at + (p - suc at) ≡ p → p - suc at ≤ length s - suc at → ignorable_from (p - suc at) (drop (suc at) s) (suc at) ≡ ignorable (drop p s) p
         go q b = taken (p - suc at) (drop (suc at) s) (suc at) (rw length-drop b) ∙ rw (drop-drop (p - suc at) (suc at) s, q)
 
-    pub ignore_onward : {x : Scan} {p : ℕ} → m ≡ Ignored x → x ≡ At p → p ≤ length s
-    ignore_onward {x} {p} e f = let d : Marks s at (Ignored (At p)) = rw f at (rw e at c) in d.onward.1
+    pub ignore_onward : {p : ℕ} → m ≡ Ok (Ignored p) → p ≤ length s
+    ignore_onward {p} e = let d : Marks s at (Ok (Ignored p)) = rw e at c in d.onward.1
 
-    pub ignore_less : {x : Scan} {p r : ℕ} → m ≡ Ignored x → x ≡ At p → Run (other 60) s p r → length s - r < length s - at
-    ignore_less {x} {p} {r} e f n = let d : Marks s at (Ignored (At p)) = rw f at (rw e at c) in omega (arith, d.onward, n.onward)
+    pub ignore_less : {p r : ℕ} → m ≡ Ok (Ignored p) → Run (other 60) s p r → length s - r < length s - at
+    ignore_less {p} {r} e n = let d : Marks s at (Ok (Ignored p)) = rw e at c in omega (arith, d.onward, n.onward)
 
 pub ruleset ignores = (ignore_begins, ignore_ended, ignore_tag, ignore_fault, ignore_more, ignore_onward, ignore_less, rules)

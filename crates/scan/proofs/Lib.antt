@@ -5,3 +5,4 @@ pub mod Prefixes
 pub mod Seek
 pub mod Declarations
 pub mod Ignoring
+pub mod Marked

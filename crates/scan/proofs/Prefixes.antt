@@ -13,30 +13,30 @@ use native.Mathlib.Omega.{arith}
 use lib.Dec.{eqb}
 use lib.ListN.{length, take, drop, get_or, drop_of_length-le}
 use lib.Seq.{take-nil, drop-cons, drop-drop}
+use Rattle.std.proofs.Common.{Option, Some, None}
 use Rattle.slices.specs.Bytes.{if, span}
 use Rattle.slices.specs.Run.{Run}
 use Rattle.slices.proofs.Runs.{run_past, run_stop}
 use Rattle.slices.proofs.Ends.{run_span}
 use Rattle.scan.specs.Classes.{name_byte, nc_name_byte}
-use Rattle.scan.specs.Colons.{colon_at, colons_from, Scanned}
+use Rattle.scan.specs.Colons.{colons, colon_at, colons_from, Scanned}
 use Rattle.scan.specs.declared.Colons.{Colons}
-use Rattle.scan.specs.declared.Colons.TheVariants.{Absent, Between}
 use Rattle.scan.specs.declared.Name.{Name}
 
 -- the colons of a name stand in it
-abbrev pub Within : ℕ → ℕ → Colons → Type 0
-Within from to Absent = Unit {0}
-Within from to (Between first last) = (from ≤ first) × (first ≤ last) × (last < to)
+abbrev pub Within : ℕ → ℕ → Option Colons → Type 0
+Within from to None = Unit {0}
+Within from to (Some c) = (from ≤ c.first) × (c.first ≤ c.last) × (c.last < to)
 
 pub colons_within : (n : List ℕ) (p : ℕ) → Within p (p + length n) (colons_from n p)
 colons_within [] p = tt
 colons_within (b ∷ n) p = go (eqb b 58) (colons_from n (suc p)) (colons_within n (suc p))
   where
-    go : (t : Bool) (c : Colons) → Within (suc p) (suc p + length n) c → Within p (p + suc (length n)) (if t (colon_at p c) c)
-    go true Absent h = (omega arith, omega arith, omega arith)
-    go true (Between first last) h = (omega arith, omega (arith, h.0, h.1), omega (arith, h.2))
-    go false Absent h = tt
-    go false (Between first last) h = (omega (arith, h.0), h.1, omega (arith, h.2))
+    go : (t : Bool) (c : Option Colons) → Within (suc p) (suc p + length n) c → Within p (p + suc (length n)) (if t (colon_at p c) c)
+    go true None h = (omega arith, omega arith, omega arith)
+    go true (Some c) h = (omega arith, omega (arith, h.0, h.1), omega (arith, h.2))
+    go false None h = tt
+    go false (Some c) h = (omega (arith, h.0), h.1, omega (arith, h.2))
 
 -- a name's byte that is no colon, and a byte that is neither
 nc_name : (b : ℕ) → nc_name_byte b ≡ true → (name_byte b ≡ true) × (eqb b 58 ≡ false)
@@ -79,16 +79,16 @@ module _ {s : List ℕ} {from at : ℕ} (r : Run nc_name_byte s from at) where
 
 -- the end of a name, and its colons, where a part without one ends and none follows
 module _ {s : List ℕ} {from at : ℕ} (r : Run nc_name_byte s from at) where
-  bare : span name_byte (drop at s) ≡ [] → Scanned s from (record { end = at; colons = Absent })
+  bare : span name_byte (drop at s) ≡ [] → Scanned s from (record { end = at; colons = None })
   bare e = record {
     run = record { ends = sym (part_end r ∙ rw e (add-zero at)); onward = r.onward; within = r.within };
     colons = sym (part_colons r ∙ rw e);
   }
 
-  pub name_ends : length s ≤ at → Scanned s from (record { end = at; colons = Absent })
+  pub name_ends : length s ≤ at → Scanned s from (record { end = at; colons = None })
   name_ends h = bare (none_left r (λ l. absurd (omega arith)))
 
-  pub name_stops : (get_or s at 0 ≡ 58 → ⊥) → Scanned s from (record { end = at; colons = Absent })
+  pub name_stops : (get_or s at 0 ≡ 58 → ⊥) → Scanned s from (record { end = at; colons = None })
   name_stops e = bare (none_left r (λ l. ne_eqb _ _ e))
 
   -- a colon follows: the name goes on
@@ -114,17 +114,17 @@ name_from {s} {from} {at} {n} g h l =
 -- ---- a loop from colon to colon
 
 -- those of what is left, after a first and a last
-abbrev pub after : ℕ → ℕ → Colons → Colons
-after first last Absent = Between first last
-after first last (Between f l) = Between first l
+abbrev pub after : ℕ → ℕ → Option Colons → Option Colons
+after first last None = Some (colons first last)
+after first last (Some c) = Some (colons first c.last)
 
-after_one : (p : ℕ) (c : Colons) → colon_at p c ≡ after p p c
-after_one p Absent = refl
-after_one p (Between f l) = refl
+after_one : (p : ℕ) (c : Option Colons) → colon_at p c ≡ after p p c
+after_one p None = refl
+after_one p (Some c) = refl
 
-after_more : (first last p : ℕ) (c : Colons) → after first last (colon_at p c) ≡ after first p c
-after_more first last p Absent = refl
-after_more first last p (Between f l) = refl
+after_more : (first last p : ℕ) (c : Option Colons) → after first last (colon_at p c) ≡ after first p c
+after_more first last p None = refl
+after_more first last p (Some c) = refl
 
 -- from the first colon on, the last so far, and the end of the part after it: what is left of the name is what was asked
 pub record Prefixed (s : List ℕ) (first last at : ℕ) : Type 0 where
@@ -168,16 +168,16 @@ module _ {s : List ℕ} {p : ℕ} (h : p < length s) (e : get_or s p 0 ≡ 58) {
   prefixed_less = omega (arith, r.onward)
 
 module _ {s : List ℕ} {first last at : ℕ} (g : Prefixed s first last at) where
-  done : span name_byte (drop at s) ≡ [] → Scanned s first (record { end = at; colons = Between first last })
+  done : span name_byte (drop at s) ≡ [] → Scanned s first (record { end = at; colons = Some (colons first last) })
   done e = record {
     run = record { ends = sym (g.left ∙ rw e (add-zero at)); onward = g.since; within = g.inside };
     colons = sym (g.colons ∙ rw e);
   }
 
-  pub prefixed_ends : length s ≤ at → Scanned s first (record { end = at; colons = Between first last })
+  pub prefixed_ends : length s ≤ at → Scanned s first (record { end = at; colons = Some (colons first last) })
   prefixed_ends h = done (rw (drop_of_length-le s {i = at} h))
 
-  pub prefixed_stops : at < length s → (get_or s at 0 ≡ 58 → ⊥) → Scanned s first (record { end = at; colons = Between first last })
+  pub prefixed_stops : at < length s → (get_or s at 0 ≡ 58 → ⊥) → Scanned s first (record { end = at; colons = Some (colons first last) })
   prefixed_stops h e = done (rw (drop-cons s at 0 h, no_name (get_or s at 0) (g.stop h) (ne_eqb _ _ e)))
 
 -- what answers every need of `name_at` and `prefixed`

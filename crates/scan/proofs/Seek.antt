@@ -11,11 +11,12 @@ use native.Mathlib.Omega.{arith}
 use lib.Dec.{eqb}
 use lib.ListN.{length, drop, get_or, length-drop, drop_of_length-le}
 use lib.Seq.{drop-cons}
+use Rattle.std.proofs.Common.{Ok, Err}
+use Rattle.faults.specs.Fault.{fault}
 use Rattle.slices.specs.Bytes.{other, starts}
 use Rattle.slices.specs.Run.{Run}
 use Rattle.slices.proofs.Runs.{run_past, starts_fits}
 use Rattle.scan.specs.Ignorable.{Scans, seek}
-use Rattle.scan.specs.declared.Scan.TheVariants.{Fault, At}
 
 -- a key does not stand where another byte does than its first
 other_start : (f b : ℕ) (k l : List ℕ) → other f b ≡ true → starts (f ∷ k) (b ∷ l) ≡ false
@@ -49,7 +50,7 @@ module _ {number : ℕ} {key s : List ℕ} {from at : ℕ} (g : Seeking number k
   pub seek_again : {t : Bool} {r : ℕ} → 0 < length key → at < length s → t ≡ starts key (drop at s) → t ≡ false → Run (other (get_or key 0 0)) s (at + 1) r → Seeking number key s from r
   seek_again k h e f n = seek_first (seek_next h (sym e ∙ f)) k n
 
-  pub seek_found : {t : Bool} → at < length s → t ≡ starts key (drop at s) → t ≡ true → Scans (seek number key from) s from (At (at + length key))
+  pub seek_found : {t : Bool} → at < length s → t ≡ starts key (drop at s) → t ≡ true → Scans (seek number key from) s from (Ok (at + length key))
   seek_found h e f =
       let b : starts key (drop at s) ≡ true = sym e ∙ f in
       record {
@@ -57,7 +58,7 @@ module _ {number : ℕ} {key s : List ℕ} {from at : ℕ} (g : Seeking number k
         onward = (omega (arith, g.since), omega (arith, simp length-drop at (starts_fits key (drop at s) b)));
       }
 
-  pub seek_ends : length s ≤ at → Scans (seek number key from) s from (Fault number from)
+  pub seek_ends : length s ≤ at → Scans (seek number key from) s from (Err (fault number from))
   seek_ends h = record { is = sym (g.left ∙ rw (drop_of_length-le s h)); onward = tt }
 
 pub ruleset seeks = (seek_begins, seek_first, seek_again, seek_found, seek_ends, rules)

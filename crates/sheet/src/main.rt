@@ -1,123 +1,98 @@
 // The sheet program: reads names of files from standard input, reads each file, and writes what came of them, added up (docs/FORMAT.md, The sheet program).
 #![tactic(auto)]
 
-ghost use Rattle.std.specs.Prelude.{◌≡◌, ◌≤◌, length, take};
+ghost use Rattle.std.specs.Prelude.{◌≤◌, false, length, IfOk};
 ghost use Rattle.sheets.specs.Counts.{Adds};
 ghost use Rattle.sheets.specs.Files.{document_outcome, file_outcome, AddsFile, AddsName, Sums, PrintsList};
 
-use sheets::file_names::NextName;
+use output::failure::Failure;
 use std::io::{Error, ErrorKind, Read, Result};
 use std::rt::Files;
 use std::{fs, str};
 
-// Room for 1,024 rows, or for 4,096 warnings.
-fn table() -> [u32; 16384]
-    ensures { 16384 ≡ length result }
-{
-    [0; 16384]
-}
-
 // Reads a file's bytes, and adds what came of them.
-fn add_document(counts: &mut [u32], document: &[u8])
-    requires { length counts.old ≡ 128 }
+fn add_document(counts: &mut [u32; 128], document: &[u8])
     ensures { Adds (document_outcome document.now) counts.old counts.new }
 {
-    let mut rows = table();
-    let mut warnings = table();
-    let mut text = output::large_buffer();
-    let mut decoded = output::large_buffer();
+    let mut rows: [u32; 16384] = output::filled(0);
+    let mut warnings: [u32; 16384] = output::filled(0);
+    let mut text: [u8; 65536] = output::filled(0);
+    let mut decoded: [u8; 65536] = output::filled(0);
     let reading = reader::read(document, &mut rows, &mut warnings, &mut text, &mut decoded);
-    let verdict = reading.verdict;
-    sheets::add(counts, verdict, &rows, &warnings);
+    sheets::add(counts, reading.verdict, &rows, &warnings);
 }
 
-// Adds a file of which so many bytes are in the buffer, or whose reading failed; more than the program takes are over-long.
-fn add_read(counts: &mut [u32], document: &[u8], failed: bool, end: usize)
-    requires fact_1 { length counts.old ≡ 128 }
-    requires fact_2 { end ≤ length document.now }
-    ensures { Adds (file_outcome failed (take end document.now)) counts.old counts.new }
+// Adds a file that was read; one of more bytes than the program takes is over-long.
+#[tactic(auto, using(sheets::proofs::Filing::filing), unfolding(sheets::specs::Files::file_outcome))]
+fn add_read(counts: &mut [u32; 128], document: &[u8])
+    ensures { Adds (file_outcome false document.now) counts.old counts.new }
 {
-    if failed {
-        sheets::add_unreadable(counts);
-        return;
-    }
-    if 65536 < end {
+    if 65536 < document.len() {
         sheets::add_refused(counts, 2);
-        return;
+    } else {
+        add_document(counts, document);
     }
-    add_document(counts, &document[..end]);
 }
 
-// Room for a file, and one byte more.
-fn buffer() -> [u8; 65537]
-    ensures { 65537 ≡ length result }
+// Reads what the buffer can hold of a file, if it could be opened.
+fn read<F: Read + Drop>(file: Result<F>, document: &mut [u8]) -> Result<usize>
+    ensures { IfOk result (λ n. n ≤ length document.old) }
 {
-    [0; 65537]
+    let mut file = file?;
+    output::input::read_all(&mut file, document)
 }
 
-// Reads what the buffer can hold of a file, if it could be opened, and adds what came of it.
-fn add_file<F: Read + Drop>(counts: &mut [u32], file: Result<F>)
-    requires { length counts.old ≡ 128 }
+// Adds what came of a file. The buffer has room for one byte more than the program takes.
+#[tactic(auto, using(sheets::proofs::Filing::filing))]
+fn add_file<F: Read + Drop>(counts: &mut [u32; 128], file: Result<F>)
     ensures { AddsFile counts.old counts.new }
 {
-    match file {
+    let mut document: [u8; 65537] = output::filled(0);
+    match read(file, &mut document) {
         Err(_) => sheets::add_unreadable(counts),
-        Ok(mut file) => {
-            let mut document = buffer();
-            let came = output::input::read_all(&mut file, &mut document);
-            add_read(counts, &document, came.failed.is_some(), came.end);
-        }
+        Ok(end) => add_read(counts, &document[..end]),
     }
 }
 
 // Opens the file of a name, which std takes as text alone.
 fn open<R: Files>(rt: &R, name: &[u8]) -> Result<R::File> {
-    match str::from_utf8(name) {
-        Ok(name) => fs::open(rt, name),
-        Err(_) => Err(Error::from(ErrorKind::InvalidFilename)),
-    }
+    let name = str::from_utf8(name).map_err(|_| Error::from(ErrorKind::InvalidFilename))?;
+    fs::open(rt, name)
 }
 
 // Adds the file of a name.
-fn add_name<R: Files>(rt: &R, counts: &mut [u32], name: &[u8])
-    requires { length counts.old ≡ 128 }
+fn add_name<R: Files>(rt: &R, counts: &mut [u32; 128], name: &[u8])
     ensures { AddsName name.now counts.old counts.new }
 {
     if sheets::file_names::is_openable(name) {
         add_file(counts, open(rt, name));
-        return;
+    } else {
+        sheets::add_unreadable(counts);
     }
-    sheets::add_unreadable(counts);
 }
 
 // Adds the files of the first 512 names, and answers whether there are more.
-fn add_names<R: Files>(rt: &R, counts: &mut [u32], list: &[u8]) -> bool
-    requires { length counts.old ≡ 128 }
+fn add_names<R: Files>(rt: &R, counts: &mut [u32; 128], list: &[u8]) -> bool
     ensures { Sums list.now counts.old counts.new result }
 {
     let mut at = 0;
     let mut names: usize = 0;
-    loop {
-        match sheets::file_names::next(list, at) {
-            NextName::Nothing => {
-                return false;
-            }
-            NextName::At(from, to) => {
-                if names == 512 {
-                    return true;
-                }
-                add_name(rt, counts, &list[from..to]);
-                names += 1;
-                at = to;
-            }
+    while let Some(place) = sheets::file_names::next(list, at) {
+        if names == 512 {
+            return true;
         }
+        add_name(rt, counts, &list[place.from..place.to]);
+        names += 1;
+        at = place.to;
     }
+    false
 }
 
 // Puts the sheet of the files named in a list.
+#[tactic(auto, using(sheets::proofs::Filing::printing))]
 fn put_sheet<R: Files>(rt: &R, out: &mut [u8], list: &[u8]) -> usize
-    requires fact_1 { 8192 ≤ length out.old }
-    requires fact_2 { length list.now ≤ 262144 }
+    requires room { 8192 ≤ length out.old }
+    requires short { length list.now ≤ 262144 }
     ensures { PrintsList list.now out.new result }
 {
     let mut counts = [0u32; 128];
@@ -136,29 +111,19 @@ fn put_answer<R: Files>(rt: &R, out: &mut [u8], list: &[u8]) -> usize
     put_sheet(rt, out, list)
 }
 
-// Writes the sheet of the names on standard input, of which the buffer holds as many bytes as it has room for; where that cannot be read or
-// the sheet not be written, says so and why on standard error.
-fn run(rt: &HostRuntime, list: &mut [u8]) {
-    let came = output::input::read_all(&mut rt.stdin(), list);
-    if let Some(why) = came.failed {
-        output::failure::fail(&rt.stderr(), b"sheet: cannot read standard input", why);
-        return;
-    }
-    let mut out = output::large_buffer();
-    let n = put_answer(rt, &mut out, output::front(list, came.end));
-    if let Err(why) = output::flush(rt, &out, n) {
-        output::failure::fail(&rt.stderr(), b"sheet: cannot write standard output", why);
-    }
+// Writes the sheet of the names on standard input, of which the buffer holds as many bytes as it has room for.
+fn run(rt: &HostRuntime, list: &mut [u8]) -> std::result::Result<(), Failure> {
+    let end = output::input::read_all(&mut rt.stdin(), list).map_err(Failure::Reading)?;
+    let mut out: [u8; 65536] = output::filled(0);
+    let n = put_answer(rt, &mut out, &list[..end]);
+    rt.write_all(output::front(&out, n))
+        .map_err(Failure::Writing)
 }
 
-// Room for a list of names, and one byte more.
-fn list_buffer() -> [u8; 262145]
-    ensures { 262145 ≡ length result }
-{
-    [0; 262145]
-}
-
+// The buffer has room for one byte more than a list may have.
 fn main(rt: HostRuntime) {
-    let mut list = list_buffer();
-    run(&rt, &mut list);
+    let mut list: [u8; 262145] = output::filled(0);
+    if let Err(failure) = run(&rt, &mut list) {
+        failure.tell(&rt.stderr(), b"sheet");
+    }
 }

@@ -1,9 +1,10 @@
 -- A file's outcome added to the counts of a sheet.
 -- Assumes nothing.
+use Rattle.std.specs.Prelude.{Ok, Err}
 use Rattle.std.proofs.Common.{◌≡◌, ℕ, ◌+◌, ◌<◌, ◌≤◌, List, [], ◌∷◌, length, get_or, arith, rules}
 use Rattle.document.specs.declared.Refusal.{Refusal}
-use Rattle.document.specs.declared.Verdict.{Verdict}
-use Rattle.document.specs.declared.Verdict.TheVariants.{Refused, Accepted}
+use Rattle.document.specs.Verdict.{Verdict}
+use Rattle.document.specs.declared.Counts.{Counts}
 use Rattle.sheets.specs.Sheet.{Outcome, unreadable, refused, accepted, occurs, Sheet, added}
 use Rattle.sheets.specs.Answer.{firsts, outcome_of}
 use Rattle.sheets.specs.Counts.{Counted, Bounded, Stands, Adds}
@@ -117,10 +118,10 @@ adds_accepted rows warnings r w h k =
 
 -- the outcome of the reader's answer
 module _ {v : Verdict} (rows warnings : List ℕ) {c c' : List ℕ} where
-  pub adds_refusal : {x : Refusal} → v ≡ Refused x → Adds (refused x.number) c c' → Adds (outcome_of v rows warnings) c c'
+  pub adds_refusal : {x : Refusal} → v ≡ Err x → Adds (refused x.number) c c' → Adds (outcome_of v rows warnings) c c'
   adds_refusal e a = rw e a
 
-  pub adds_tables : {r t w : ℕ} → v ≡ Accepted r t w → Adds (accepted (firsts 16 r rows) (firsts 4 w warnings)) c c' → Adds (outcome_of v rows warnings) c c'
+  pub adds_tables : {n : Counts} → v ≡ Ok n → Adds (accepted (firsts 16 n.rows rows) (firsts 4 n.warnings warnings)) c c' → Adds (outcome_of v rows warnings) c c'
   adds_tables e a = rw e a
 
 pub ruleset adds = (adds_unreadable, adds_refused, adds_accepted, adds_refusal, adds_tables, rules)

@@ -1,6 +1,7 @@
 -- Words counted at their places: one, and word 0 of each of n records.
 -- Assumes nothing.
-use Rattle.std.proofs.Common.{◌≡◌, ℕ, zero, suc, ◌+◌, ◌-◌, ◌%◌, ◌^◌, ◌<◌, ◌≤◌, Bool, true, false, eqb, List, [], ◌∷◌, length, get_or, drop, set, sym, refl, ap, ◌∙◌, subst, add-zero, arith, length-drop, length-set, drop_of_length-le, drop-cons, get_or-set_other, get_or-set_same, drop-drop, rules, eq-eqb, ne_eqb, eqb-true}
+use Rattle.std.proofs.Common.{◌≡◌, ℕ, zero, suc, ◌+◌, ◌-◌, ◌%◌, ◌^◌, ◌<◌, ◌≤◌, min, Bool, true, false, eqb, List, [], ◌∷◌, ◌++◌, length, get_or, drop, set, sym, refl, ap, ◌∙◌, subst, add-zero, append-nil, arith, length-append, length-drop, length-set, drop_of_length-le, drop_at, get_or-set_other, get_or-set_same, rules, eq-eqb, ne_eqb, eqb-true}
+use native.Mathlib.Decide.{dec_lt}
 use borrow.Author.Tests.{eqb-false}
 use Rattle.slices.specs.Bytes.{if}
 use Rattle.sheets.specs.Sheet.{occurs}
@@ -70,58 +71,75 @@ firsts_none : (w n : ℕ) → firsts w n [] ≡ []
 firsts_none w zero = refl
 firsts_none w (suc n) = refl
 
-firsts_more : (w n at : ℕ) (words : List ℕ) → 0 < w → 0 < n → at < length words → firsts w n (drop at words) ≡ get_or words at 0 ∷ firsts w (n - 1) (drop (at + w) words)
-firsts_more w zero at words p q h = absurd (omega arith)
-firsts_more w (suc n) at words p q h =
-    let e : suc at + (w - 1) ≡ at + w = omega arith in
-    let d : suc n - 1 ≡ n = omega arith in
-    rw (drop-cons words at 0 h, d, ← e) (ap (λ (l : List ℕ). get_or words at 0 ∷ firsts w n l) (drop-drop (w - 1) (suc at) words))
+empty_list : (r : List ℕ) → length r ≡ 0 → r ≡ []
+empty_list [] e = refl
+empty_list (x ∷ r) e = absurd (omega arith)
+
+-- the first of them, and those after it
+firsts_more : (w n : ℕ) (xs record₀ rest : List ℕ) → 0 < w → xs ≡ record₀ ++ rest → length record₀ ≡ min w (length xs) → 0 < length xs → firsts w (suc n) xs ≡ get_or record₀ 0 0 ∷ firsts w n rest
+firsts_more w n xs [] rest p e l h = absurd (omega arith)
+firsts_more w n xs (y ∷ ys) rest p e l h =
+    let many : length xs ≡ suc (length ys) + length rest = ap length e ∙ length-append (y ∷ ys) rest in
+    let d : drop (w - 1) (ys ++ rest) ≡ rest = go (dec_lt (length xs) w) many in
+    rw e (ap (λ (z : List ℕ). y ∷ firsts w n z) d)
+  where
+    go : Dec (length xs < w) → length xs ≡ suc (length ys) + length rest → drop (w - 1) (ys ++ rest) ≡ rest
+    go (yes b) m =
+        let z : length rest ≡ 0 = omega arith in
+        let q : rest ≡ [] = empty_list rest z in
+        rw q (drop_of_length-le (ys ++ []) (rw append-nil (omega arith)))
+    go (no b) m = drop_at ys rest (w - 1) (omega arith)
 
 pub length_firsts : (w n : ℕ) (words : List ℕ) → length (firsts w n words) ≤ length words
 length_firsts w zero words = omega arith
 length_firsts w (suc n) [] = omega arith
 length_firsts w (suc n) (x ∷ words) = let i = length_firsts w n (drop (w - 1) words) in omega (arith, i, length-drop (w - 1) words)
 
--- a loop that counts, with so many records left from a place on
-pub record Counting (base w n : ℕ) (words c₀ c : List ℕ) (left at : ℕ) : Type 0 where
+-- a loop that counts, with so many records of the rest left
+pub record Counting (base w n : ℕ) (words c₀ c : List ℕ) (left size : ℕ) (rest : List ℕ) : Type 0 where
   pub long : length c ≡ 128
   pub same : length c ≡ length c₀
-  pub here : (k : ℕ) → k < 32 → get_or c₀ (base + k) 0 + occurs k (firsts w n words) < 2 ^ 32 → get_or c (base + k) 0 + occurs k (firsts w left (drop at words)) ≡ get_or c₀ (base + k) 0 + occurs k (firsts w n words)
+  pub by : size ≡ w
+  pub here : (k : ℕ) → k < 32 → get_or c₀ (base + k) 0 + occurs k (firsts w n words) < 2 ^ 32 → get_or c (base + k) 0 + occurs k (firsts w left rest) ≡ get_or c₀ (base + k) 0 + occurs k (firsts w n words)
   pub below : (p : ℕ) → p < base → get_or c p 0 ≡ get_or c₀ p 0
   pub above : (p : ℕ) → base + 32 ≤ p → get_or c p 0 ≡ get_or c₀ p 0
 
-pub counting_begins : {base w n : ℕ} {words c : List ℕ} → length c ≡ 128 → Counting base w n words c c n 0
-counting_begins l = record { long = l; same = refl; here = λ k h s. refl; below = λ p h. refl; above = λ p h. refl }
+pub counting_begins : {base w n left size : ℕ} {words c rest : List ℕ} → length c ≡ 128 → left ≡ n → size ≡ w → rest ≡ words → Counting base w n words c c left size rest
+counting_begins l e s r = record { long = l; same = refl; by = s; here = λ k h b. rw (e, r); below = λ p h. refl; above = λ p h. refl }
 
-module _ {base w n left at : ℕ} {words c₀ c : List ℕ} (g : Counting base w n words c₀ c left at) where
-  pub counting_more : {c' : List ℕ} → 0 < w → (left ≡ 0 → ⊥) → at < length words → Counted base (get_or words at 0 ∷ []) c c' → Counting base w n words c₀ c' (left - 1) (at + w)
-  counting_more {c'} p q h a = record {
-    long = a.same ∙ g.long;
-    same = a.same ∙ g.same;
-    here = λ k m s.
-        let rest = firsts w (left - 1) (drop (at + w) words) in
-        let e : occurs k (firsts w left (drop at words)) ≡ occurs k (get_or words at 0 ∷ []) + occurs k rest =
-        ap (occurs k) (firsts_more w left at words p (omega arith) h) ∙ occurs_cons k (get_or words at 0) rest
-        in
-        let o = g.here k m s in
-        let i = a.here k m (omega (arith, e, o, s)) in
-        omega (arith, e, o, i);
-    below = λ j m. a.below j m ∙ g.below j m;
-    above = λ j m. a.above j m ∙ g.above j m;
-  }
+module _ {base w n left size : ℕ} {words c₀ c rest : List ℕ} (g : Counting base w n words c₀ c left size rest) where
+  pub counting_more : (row : List ℕ) {c' rest' : List ℕ} {left' size' : ℕ} → 0 < w → left' + 1 ≡ left → size' ≡ size → rest ≡ row ++ rest' → length row ≡ min size (length rest) → 0 < length rest → Counted base (get_or row 0 0 ∷ []) c c' → Counting base w n words c₀ c' left' size' rest'
+  counting_more row {c'} {rest'} {left'} {size'} p o z e l h a =
+      let m : length row ≡ min w (length rest) = rw g.by at l in
+      let v : suc left' ≡ left = omega arith in
+      let f : firsts w left rest ≡ get_or row 0 0 ∷ firsts w left' rest' = rw (← v) (firsts_more w left' rest row rest' p e m h) in
+      record {
+        long = a.same ∙ g.long;
+        same = a.same ∙ g.same;
+        by = z ∙ g.by;
+        here = λ k b s.
+            let u : occurs k (firsts w left rest) ≡ occurs k (get_or row 0 0 ∷ []) + occurs k (firsts w left' rest') =
+            ap (occurs k) f ∙ occurs_cons k (get_or row 0 0) (firsts w left' rest')
+            in
+            let i = g.here k b s in
+            let j = a.here k b (omega (arith, u, i, s)) in
+            omega (arith, u, i, j);
+        below = λ j b. a.below j b ∙ g.below j b;
+        above = λ j b. a.above j b ∙ g.above j b;
+      }
 
-  counted : ((k : ℕ) → occurs k (firsts w left (drop at words)) ≡ 0) → Counted base (firsts w n words) c₀ c
-  counted z = record {
+  -- nothing is left: no record, or no word
+  pub counting_ends : (0 < left → length rest ≡ 0) → Counted base (firsts w n words) c₀ c
+  counting_ends h = record {
     same = g.same;
-    here = λ k m s. omega (arith, z k, g.here k m s);
+    here = λ k m s. omega (arith, nothing left rest h k, g.here k m s);
     below = g.below;
     above = g.above;
   }
+    where
+      nothing : (a : ℕ) (r : List ℕ) → (0 < a → length r ≡ 0) → (k : ℕ) → occurs k (firsts w a r) ≡ 0
+      nothing zero r b k = refl
+      nothing (suc a) [] b k = refl
+      nothing (suc a) (x ∷ r) b k = let z = b (omega arith) in absurd (omega (arith, z))
 
-  pub counting_ends : length words ≤ at → Counted base (firsts w n words) c₀ c
-  counting_ends h = counted (λ k. rw (drop_of_length-le words h, firsts_none w left))
-
-  pub counting_done : left ≡ 0 → Counted base (firsts w n words) c₀ c
-  counting_done e = counted (λ k. rw e)
-
-pub ruleset counting = (counting_begins, counting_more, counting_ends, counting_done, rules)
+pub ruleset counting = (counting_begins, counting_more, counting_ends, rules)

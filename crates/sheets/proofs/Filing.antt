@@ -1,9 +1,9 @@
 -- Files and names added, a list of them, and what is printed.
 -- Assumes nothing.
-use Rattle.std.proofs.Common.{◌≡◌, ℕ, suc, ◌+◌, ◌-◌, ◌<◌, ◌≤◌, Bool, true, false, ltb, List, [], ◌∷◌, ◌++◌, length, take, drop, replicate, sym, refl, ap, ◌∙◌, subst, append_assoc, append-nil, arith, length-append, length-take-le, take_all, take_at, rules, le-ltb, lt-ltb}
+use Rattle.std.proofs.Common.{◌≡◌, ℕ, suc, ◌+◌, ◌-◌, ◌<◌, ◌≤◌, Bool, true, false, ltb, List, [], ◌∷◌, ◌++◌, length, take, drop, replicate, Option, Some, None, sym, refl, ap, ◌∙◌, subst, append_assoc, append-nil, arith, length-append, length-take-le, take_all, take_at, rules, le-ltb, lt-ltb}
 use lib.ListN.{get_or-replicate}
 use Rattle.document.specs.Whole.{Room, verdict_of, rows_left_lem, room_of}
-use Rattle.document.specs.declared.Verdict.{Verdict}
+use Rattle.document.specs.Verdict.{Verdict}
 use Rattle.files.specs.Files.{read_file, Reads}
 use Rattle.files.specs.declared.Reading.{Reading}
 use Rattle.sheets.specs.Sheet.{Outcome, unreadable, refused, Sheet, blank, added, summed, sheet_of}
@@ -13,8 +13,7 @@ use Rattle.sheets.specs.Lines.{lines_of, more_line, long_line}
 use Rattle.sheets.specs.Counts.{Stands, Adds}
 use Rattle.sheets.specs.Printed.{Prints}
 use Rattle.sheets.specs.Files.{program_room, program_decoded, document_outcome, file_outcome, name_outcome, Came, AddsFile, AddsName, Sums, PrintsList}
-use Rattle.sheets.specs.declared.file_names.NextName.{NextName}
-use Rattle.sheets.specs.declared.file_names.NextName.TheVariants.{Nothing, At}
+use Rattle.sheets.specs.declared.file_names.NamePlace.{NamePlace}
 
 -- ---- a document
 
@@ -114,25 +113,25 @@ going_begins l = record {
   stands = λ t. ([], tt, t);
 }
 
-module _ {s before c : List ℕ} {at names : ℕ} {r : NextName} (g : Going s before c at names) (n : Next s at r) where
-  next_is : (x : NextName) → r ≡ x → IsNext s at x
-  next_is x e = subst (λ (y : NextName). IsNext s at y) e n.is
+module _ {s before c : List ℕ} {at names : ℕ} {r : Option NamePlace} (g : Going s before c at names) (n : Next s at r) where
+  next_is : (x : Option NamePlace) → r ≡ x → IsNext s at x
+  next_is x e = subst (λ (y : Option NamePlace). IsNext s at y) e n.is
 
   -- the names that were added, the next and the rest
-  going_rest : (a b : ℕ) → r ≡ At a b → names_of s ≡ g.front ++ (take (b - a) (drop a s) ∷ names_of (drop b s))
-  going_rest a b e = g.rest ∙ ap (λ (l : List (List ℕ)). g.front ++ l) (next_is (At a b) e).2
+  going_rest : (p : NamePlace) → r ≡ Some p → names_of s ≡ g.front ++ (take (p.to - p.from) (drop p.from s) ∷ names_of (drop p.to s))
+  going_rest p e = g.rest ∙ ap (λ (l : List (List ℕ)). g.front ++ l) (next_is (Some p) e).2
 
-  pub going_more : (a b : ℕ) {c' : List ℕ} → r ≡ At a b → (names ≡ 512 → ⊥) → length c' ≡ length c → AddsName (take (b - a) (drop a s)) c c' → Going s before c' b (names + 1)
-  going_more a b {c'} e h l w =
-      let m : List ℕ = take (b - a) (drop a s) in
+  pub going_more : (p : NamePlace) {c' : List ℕ} → r ≡ Some p → (names ≡ 512 → ⊥) → length c' ≡ length c → AddsName (take (p.to - p.from) (drop p.from s)) c c' → Going s before c' p.to (names + 1)
+  going_more p {c'} e h l w =
+      let m : List ℕ = take (p.to - p.from) (drop p.from s) in
       let o : Outcome = name_outcome m w.failed w.bytes in
       record {
         long = l ∙ g.long;
-        within = (next_is (At a b) e).1;
+        within = (next_is (Some p) e).1;
         few = omega (arith, g.few);
         front = g.front ++ (m ∷ []);
         many = length-append g.front (m ∷ []) ∙ omega (arith, g.many);
-        rest = going_rest a b e ∙ sym (append_assoc g.front (m ∷ []) (names_of (drop b s)));
+        rest = going_rest p e ∙ sym (append_assoc g.front (m ∷ []) (names_of (drop p.to s)));
         stands = λ t.
             let u = g.stands t in
             let v = w.adds.stands names (sheet_of u.0) (omega (arith, g.few)) u.2 in (
@@ -155,16 +154,16 @@ module _ {s before c : List ℕ} {at names : ℕ} {r : NextName} (g : Going s be
         );
   }
 
-  pub going_ends : r ≡ Nothing → Sums s before c false
+  pub going_ends : r ≡ None → Sums s before c false
   going_ends e =
-      let p : names_of s ≡ g.front = g.rest ∙ ap (λ (l : List (List ℕ)). g.front ++ l) (next_is Nothing e) ∙ append-nil g.front in
+      let p : names_of s ≡ g.front = g.rest ∙ ap (λ (l : List (List ℕ)). g.front ++ l) (next_is None e) ∙ append-nil g.front in
       ended (ap (take 512) p ∙ take_all 512 g.front (omega (arith, g.many, g.few)))
       (sym (ap (λ (l : List (List ℕ)). ltb 512 (length l)) p ∙ le-ltb 512 (length g.front) (omega (arith, g.many, g.few))))
 
-  pub going_full : (a b : ℕ) → r ≡ At a b → names ≡ 512 → Sums s before c true
-  going_full a b e h =
-      let p = going_rest a b e in
-      let q : List (List ℕ) = take (b - a) (drop a s) ∷ names_of (drop b s) in
+  pub going_full : (n : NamePlace) → r ≡ Some n → names ≡ 512 → Sums s before c true
+  going_full n e h =
+      let p = going_rest n e in
+      let q : List (List ℕ) = take (n.to - n.from) (drop n.from s) ∷ names_of (drop n.to s) in
       let l : 512 < length (g.front ++ q) = omega (arith, length-append g.front q, g.many, h) in
       ended (ap (take 512) p ∙ take_at g.front q 512 (omega (arith, g.many, h)))
       (sym (ap (λ (x : List (List ℕ)). ltb 512 (length x)) p ∙ lt-ltb 512 (length (g.front ++ q)) l))

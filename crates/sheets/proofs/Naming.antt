@@ -1,13 +1,13 @@
 -- The next name of a list, and names that are opened.
 -- Assumes nothing.
-use Rattle.std.proofs.Common.{◌≡◌, ℕ, suc, ◌+◌, ◌-◌, ◌<◌, ◌≤◌, Bool, true, false, eqb, List, [], ◌∷◌, length, get_or, take, drop, sym, refl, ap, ◌∙◌, add-one, arith, length-drop, drop_of_length-le, drop-cons, rules, le-leb}
+use Rattle.std.proofs.Common.{◌≡◌, ℕ, suc, ◌+◌, ◌-◌, ◌<◌, ◌≤◌, Bool, true, false, ◌&&◌, eqb, leb, List, [], ◌∷◌, length, get_or, take, drop, sym, refl, ap, ◌∙◌, add-one, arith, length-drop, drop_of_length-le, drop-cons, Some, None, rules, le-leb, eq-eqb, ne_eqb}
+use native.Mathlib.Decide.{dec_lt}
 use borrow.Author.Tests.{not-false, lt-leb}
 use Rattle.slices.specs.Bytes.{if, other, span, past, all, empty}
 use Rattle.slices.specs.Run.{Run}
 use Rattle.slices.proofs.Runs.{span_end}
 use Rattle.slices.proofs.Ends.{run_length, run_span, run_rest, run_some}
 use Rattle.sheets.specs.Names.{later_lines, named, names_of, openable, Next}
-use Rattle.sheets.specs.declared.file_names.NextName.TheVariants.{Nothing, At}
 
 -- ---- lines
 
@@ -82,10 +82,10 @@ module _ {s : List ℕ} {from at r : ℕ} (g : Seeking s from at) where
   pub seek_more : Run (other 10) s at r → at < length s → r ≤ at → Seeking s from (r + 1)
   seek_more n h l = record { same = g.same ∙ line_empty n l h; within = omega (arith, n.onward) }
 
-  pub seek_found : Run (other 10) s at r → at < r → Next s from (At at r)
+  pub seek_found : Run (other 10) s at r → at < r → Next s from (Some (record { from = at; to = r }))
   seek_found n h = record { is = (h, n.within, g.same ∙ name_here n h) }
 
-pub seek_ends : {s : List ℕ} {from at : ℕ} → Seeking s from at → length s ≤ at → Next s from Nothing
+pub seek_ends : {s : List ℕ} {from at : ℕ} → Seeking s from at → length s ≤ at → Next s from None
 unfolding names_of
 seek_ends {s} g h = record { is = g.same ∙ rw (drop_of_length-le s h) }
 
@@ -114,12 +114,12 @@ unfolding openable
 open_long s h = rw (lt-leb (length s) 255 h)
 
 module _ (s : List ℕ) {r : ℕ} (h : length s ≤ 255) (n : Run (other 0) s 0 r) where
-  pub open_zero : r < length s → false ≡ openable s
+  pub open_short : eqb r (length s) ≡ openable s
   unfolding openable
-  open_zero l = rw (le-leb (length s) 255 h, all_short (other 0) s (omega (arith, n.ends)))
+  open_short = go (dec_lt r (length s))
+    where
+      go : Dec (r < length s) → eqb r (length s) ≡ leb (length s) 255 && all (other 0) s
+      go (yes l) = rw (ne_eqb r (length s) (λ e. omega (arith, e)), le-leb (length s) 255 h, all_short (other 0) s (omega (arith, n.ends)))
+      go (no l) = rw (eq-eqb r (length s) (omega (arith, n.within)), le-leb (length s) 255 h, all_long (other 0) s (omega (arith, n.ends)))
 
-  pub open_good : length s ≤ r → true ≡ openable s
-  unfolding openable
-  open_good l = rw (le-leb (length s) 255 h, all_long (other 0) s (omega (arith, n.ends)))
-
-pub ruleset opening = (open_long, open_zero, open_good, rules)
+pub ruleset opening = (open_long, open_short, rules)

@@ -1,9 +1,8 @@
 -- The names of a list of files, and which of them are opened (docs/FORMAT.md, Sheets).
 -- Assumes nothing.
-use Rattle.std.specs.Prelude.{◌≡◌, ℕ, ◌-◌, ◌<◌, ◌≤◌, Bool, ◌&&◌, List, [], ◌∷◌, length, take, drop, ◌==◌, nat_le, nat_lt}
+use Rattle.std.specs.Prelude.{◌≡◌, ℕ, ◌-◌, ◌<◌, ◌≤◌, Bool, ◌&&◌, List, [], ◌∷◌, length, take, drop, ◌==◌, nat_le, nat_lt, Option, None, Some}
 use Rattle.slices.specs.Bytes.{if, other, span, all, empty}
-use Rattle.sheets.specs.declared.file_names.NextName.{NextName}
-use Rattle.sheets.specs.declared.file_names.NextName.TheVariants.{Nothing, At}
+use Rattle.sheets.specs.declared.file_names.NamePlace.{NamePlace}
 
 -- a line begins at the start and after each LF, and goes up to the next LF or to the end
 abbrev pub later_lines : List ℕ → List (List ℕ)
@@ -33,9 +32,10 @@ unfoldable pub openable : List ℕ → Bool
 openable n = nat_le (length n) 255 && all (other 0) n
 
 -- what looking for the next name from a place on comes to: there is none; or it stands between two places
-abbrev pub IsNext : List ℕ → ℕ → NextName → Type 0
-IsNext s from Nothing = names_of (drop from s) ≡ []
-IsNext s from (At a b) = (a < b) × (b ≤ length s) × (names_of (drop from s) ≡ take (b - a) (drop a s) ∷ names_of (drop b s))
+abbrev pub IsNext : List ℕ → ℕ → Option NamePlace → Type 0
+IsNext s from None = names_of (drop from s) ≡ []
+IsNext s from (Some p) =
+    (p.from < p.to) × (p.to ≤ length s) × (names_of (drop from s) ≡ take (p.to - p.from) (drop p.from s) ∷ names_of (drop p.to s))
 
-pub record Next (s : List ℕ) (from : ℕ) (r : NextName) : Type 0 where
+pub record Next (s : List ℕ) (from : ℕ) (r : Option NamePlace) : Type 0 where
   pub is : IsNext s from r

@@ -2,15 +2,16 @@
 ghost use Rattle.std.specs.Prelude.{◌≡◌, ◌≤◌, length};
 ghost use Rattle.sheets.specs.Names.{openable, Next};
 
-// The places where a name begins and ends, or that there is none.
+// Where a name stands in a list: from its first byte up to its end.
 #[derive(Clone, Copy)]
-pub enum NextName {
-    Nothing,
-    At(usize, usize),
+pub struct NamePlace {
+    pub from: usize,
+    pub to: usize,
 }
 
 // The first name from a place on, past empty lines.
-pub fn next(list: &[u8], from: usize) -> NextName
+#[tactic(auto, using(crate::proofs::Naming::seeking))]
+pub fn next(list: &[u8], from: usize) -> Option<NamePlace>
     requires { from ≤ length list.now }
     ensures { Next list.now from result }
 {
@@ -18,22 +19,17 @@ pub fn next(list: &[u8], from: usize) -> NextName
     while at < list.len() {
         let end = slices::find(list, at, 10);
         if at < end {
-            return NextName::At(at, end);
+            return Some(NamePlace { from: at, to: end });
         }
         at = end + 1;
     }
-    NextName::Nothing
+    None
 }
 
 // Whether a name is short enough, and has no zero byte.
+#[tactic(auto, using(crate::proofs::Naming::opening))]
 pub fn is_openable(name: &[u8]) -> bool
     ensures { result ≡ openable name.now }
 {
-    if 255 < name.len() {
-        return false;
-    }
-    if slices::find(name, 0, 0) < name.len() {
-        return false;
-    }
-    true
+    name.len() <= 255 && slices::find(name, 0, 0) == name.len()
 }

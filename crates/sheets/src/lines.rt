@@ -14,6 +14,7 @@ fn put_number(out: &mut [u8], n: usize, x: u32) -> usize
 }
 
 // Puts a space and a number.
+#[tactic(auto, using(crate::proofs::Lining::parts))]
 fn put_spaced(out: &mut [u8], n: usize, x: u32) -> usize
     requires { n + 1 < 2 ^ 40 }
     ensures { PutsFew 11 (spaced x) n out.old out.new result }
@@ -38,18 +39,15 @@ fn put_line(out: &mut [u8], n: usize, letter: u8, number: u32, count: u32) -> us
 
 // Puts the lines of 32 numbers, whose counts stand from `base` on.
 fn put_lines(out: &mut [u8], n: usize, letter: u8, counts: &[u32], base: usize) -> usize
-    requires fact_1 { n + 4096 < 2 ^ 40 }
-    requires fact_2 { base ≤ 96 }
-    requires fact_3 { length counts.now ≡ 128 }
+    requires room { n + 4096 < 2 ^ 40 }
+    requires inside { base ≤ 96 }
+    requires long { length counts.now ≡ 128 }
     ensures { PutsFew 768 (lines_by letter (counts_from counts.now base)) n out.old
         out.new result }
 {
     let mut m = n;
-    let mut k = 0;
-    while k < 32 {
-        let place = base + k as usize;
-        m = put_line(out, m, letter, k, counts[place]);
-        k += 1;
+    for k in 0..32 {
+        m = put_line(out, m, letter, k, counts[base + k as usize]);
     }
     m
 }
@@ -71,15 +69,17 @@ fn put_more(out: &mut [u8], n: usize, more: bool) -> usize
     ensures { PutsFew 5 (more_line more) n out.old out.new result }
 {
     if more {
-        return answers::put::put_bytes(out, n, b"more\n");
+        answers::put::put_bytes(out, n, b"more\n")
+    } else {
+        n
     }
-    n
 }
 
 // Puts the lines by number, kind and reason.
+#[tactic(auto, using(crate::proofs::Lining::all_lines))]
 fn put_all_lines(out: &mut [u8], n: usize, counts: &[u32]) -> usize
-    requires fact_1 { n + 8192 < 2 ^ 40 }
-    requires fact_2 { length counts.now ≡ 128 }
+    requires room { n + 8192 < 2 ^ 40 }
+    requires long { length counts.now ≡ 128 }
     ensures { PutsFew 2304 (all_lines_lem counts.now) n out.old out.new result }
 {
     let a = put_lines(out, n, b'r', counts, 32);
@@ -89,8 +89,8 @@ fn put_all_lines(out: &mut [u8], n: usize, counts: &[u32]) -> usize
 
 // Puts the lines of a sheet whose counts these are.
 pub fn put_sheet(out: &mut [u8], counts: &[u32], more: bool) -> usize
-    requires fact_1 { length counts.now ≡ 128 }
-    requires fact_2 { 8192 ≤ length out.old }
+    requires long { length counts.now ≡ 128 }
+    requires room { 8192 ≤ length out.old }
     ensures { Prints counts.now more out.new result }
 {
     let a = put_files(out, counts);
@@ -99,6 +99,7 @@ pub fn put_sheet(out: &mut [u8], counts: &[u32], more: bool) -> usize
 }
 
 // Puts the only line where a list of names is over-long.
+#[tactic(auto, using(crate::proofs::Lining::over_long))]
 pub fn put_long(out: &mut [u8]) -> usize
     requires { 8192 ≤ length out.old }
     ensures { take result out.new ≡ long_line }

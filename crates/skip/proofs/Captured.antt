@@ -12,6 +12,7 @@ use mir.Val.{Fits}
 use lib.Dec.{ltb}
 use lib.ListN.{length, take, drop, get_or, length-drop}
 use lib.Seq.{length-take-le}
+use Rattle.std.specs.Prelude.{Result, Ok, Err}
 use Rattle.utf8.specs.WellFormed.{ill_formed}
 use Rattle.utf8.specs.WhiteSpace.{Trims, trim_start, trim_end}
 use Rattle.utf8.specs.declared.Trimmed.{Trimmed}
@@ -27,8 +28,7 @@ use Rattle.document.specs.Outcome.{name_at, Bounded, Ready, TagIs, Passes, Captu
 use Rattle.document.specs.declared.Refusal.{Refusal}
 use Rattle.document.specs.declared.StartTag.{StartTag}
 use Rattle.document.specs.declared.Fill.{Fill}
-use Rattle.document.specs.declared.Answer.{Answer}
-use Rattle.document.specs.declared.Passed.{Passed}
+use Rattle.document.specs.declared.Closing.{Closing}
 use Rattle.document.proofs.Loops.{moved_stands, name_inside}
 use Rattle.document.proofs.Openings.{tag_named}
 use Rattle.rows.proofs.Tables.{docstring_put}
@@ -90,7 +90,7 @@ module _ {doc : List ℕ} {c : StartTag} {f : Fill} (r : Ready doc c f) where
   unfolding docstring_in
   self i t fs u z x = rw (r.at, sym z.closes ∙ x)
 
-  pub captured_self : {i : ℕ} {rows : List ℕ} → c.closes ≡ true → Captures doc c i f rows rows (Answer.Done f)
+  pub captured_self : {i : ℕ} {rows : List ℕ} → c.closes ≡ true → Captures doc c i f rows rows (Ok f)
   captured_self {i} x = record {
     onward = (omega arith, omega arith, bounded f.at (omega (arith, r.at)) (omega (arith, r.at, r.fits.within)));
     ends = λ t fs u w bytes z s. (u, s, self i t fs u z x, refl);
@@ -105,38 +105,38 @@ module _ {doc : List ℕ} {c : StartTag} {f : Fill} (r : Ready doc c f) where
       (rw e at (cut_after_ascii doc (c.end - 1) r.sound.utf8 (omega (arith, r.fits.inside, r.fits.within)) (omega (arith, r.fits.ends))))
       (rw n (cut_ascii doc r.sound.utf8 lt l (omega (arith, b))))
 
-  module _ {d : Passed} (x : c.closes ≡ false) (l : Passes doc c.end c.at c.len 1 d) where
+  module _ {d : Result Closing Refusal} (x : c.closes ≡ false) (l : Passes doc c.end c.at c.len 1 d) where
     opens : (i : ℕ) (t : Tag) (fs : List Frame) (u : Tables Shown) → TagIs doc c t → runs doc c.end (docstring_in whole doc t fs i u) ≡ runs doc c.end (reading (passing (captures c.end i) (name_at doc c.at c.len ∷ []) ∷ fs) u)
     unfolding docstring_in
     opens i t fs u z = rw (sym z.closes ∙ x) (ap (λ (n : Name). runs doc c.end (reading (passing (captures t.after i) (n ∷ []) ∷ fs) u)) (tag_named z) ∙ ap (λ e. runs doc c.end (reading (passing (captures e i) (name_at doc c.at c.len ∷ []) ∷ fs) u)) (sym z.end))
 
-    pub captured_fault : {i : ℕ} {y : Refusal} {rows : List ℕ} → d ≡ Passed.Fault y → Captures doc c i f rows rows (Answer.Fault y)
+    pub captured_fault : {i : ℕ} {y : Refusal} {rows : List ℕ} → d ≡ Err y → Captures doc c i f rows rows (Err y)
     captured_fault {i} e = record {
       onward = tt;
       ends = λ t fs u w bytes z s. opens i t fs u z ∙ (rw e at l).leads (captures c.end i) [] fs u refl;
     }
 
-    module _ {lt end : ℕ} (e : d ≡ Passed.Closed lt end) where
-      closes : Passes doc c.end c.at c.len 1 (Passed.Closed lt end)
+    module _ {q : Closing} (e : d ≡ Ok q) where
+      closes : Passes doc c.end c.at c.len 1 (Ok q)
       closes = rw e at l
 
-      pub captured_from : c.end ≤ lt
+      pub captured_from : c.end ≤ q.lt
       captured_from = closes.onward.0
 
-      pub captured_inside : lt ≤ length doc
+      pub captured_inside : q.lt ≤ length doc
       captured_inside = omega (arith, closes.onward)
 
-      pub captured_formed : ill_formed (take (lt - c.end) (drop c.end doc)) ≡ length (take (lt - c.end) (drop c.end doc))
+      pub captured_formed : ill_formed (take (q.lt - c.end) (drop c.end doc)) ≡ length (take (q.lt - c.end) (drop c.end doc))
       captured_formed = content_formed closes.onward.0 (omega (arith, closes.onward)) closes.onward.3
 
-      pub captured_closed : {i : ℕ} {m : Fill} {rows rows' : List ℕ} → i < f.rows → Puts doc c.end lt i rows rows' → m ≡ moved f end → Captures doc c i f rows rows' (Answer.Done m)
-      captured_closed {i} o p q = rw q record {
-        onward = (omega (arith, r.at, closes.onward), omega arith, bounded end (omega (arith, closes.onward)) closes.onward.2);
+      pub captured_closed : {i : ℕ} {m : Fill} {rows rows' : List ℕ} → i < f.rows → Puts doc c.end q.lt i rows rows' → m ≡ moved f q.end → Captures doc c i f rows rows' (Ok m)
+      captured_closed {i} o p y = rw y record {
+        onward = (omega (arith, r.at, closes.onward), omega arith, bounded q.end (omega (arith, closes.onward)) closes.onward.2);
         ends = λ t fs u w bytes z s. (
-          captured (take (lt - c.end) (drop c.end doc)) c.end i u,
-          moved_stands end (p.stands u f w bytes (omega (arith, s.many)) s),
+          captured (take (q.lt - c.end) (drop c.end doc)) c.end i u,
+          moved_stands q.end (p.stands u f w bytes (omega (arith, s.many)) s),
           opens i t fs u z ∙ closes.leads (captures c.end i) [] fs u refl,
-          rows-kept (take (lt - c.end) (drop c.end doc)) c.end i u,
+          rows-kept (take (q.lt - c.end) (drop c.end doc)) c.end i u,
         );
       }
 

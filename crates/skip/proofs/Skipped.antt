@@ -8,6 +8,7 @@ use borrow.Author.Rules.{rules}
 use native.Mathlib.Omega.{arith}
 use lib.ListN.{length, take}
 use lib.Seq.{take_all}
+use Rattle.std.specs.Prelude.{Result, Ok, Err}
 use Rattle.document.specs.Tags.{Shown}
 use Rattle.document.specs.Tokens.{Tag}
 use Rattle.document.specs.Rows.{Tables}
@@ -16,8 +17,7 @@ use Rattle.document.specs.Outcome.{lent, name_at, Stands, Bounded, Ready, TagIs,
 use Rattle.document.specs.declared.Refusal.{Refusal}
 use Rattle.document.specs.declared.StartTag.{StartTag}
 use Rattle.document.specs.declared.Fill.{Fill}
-use Rattle.document.specs.declared.Answer.{Answer}
-use Rattle.document.specs.declared.Passed.{Passed}
+use Rattle.document.specs.declared.Closing.{Closing}
 use Rattle.document.proofs.Loops.{moved_stands, name_inside}
 use Rattle.document.proofs.Openings.{tag_named}
 use Rattle.rows.specs.Outcome.{WarningPut, WarningFits}
@@ -61,36 +61,36 @@ module _ {doc : List ℕ} {c : StartTag} {f g : Fill} {w w' : List ℕ} (r : Rea
   unfolding unsupported
   self t fs u z x = rw (at-end, sym z.closes ∙ x)
 
-  pub skipped_self : c.closes ≡ true → Ignores doc c f w w' (Answer.Done g)
+  pub skipped_self : c.closes ≡ true → Ignores doc c f w w' (Ok g)
   skipped_self x = record {
     onward = (omega (arith, p.at), omega (arith, p.rows), bounded g refl refl refl (omega (arith, at-end)) (omega (arith, at-end, r.fits.within)));
     ends = λ t fs u rows bytes z s. (with_warning 1 t.at t.name u, warns t u rows bytes z s, self t fs u z x, kept t u rows bytes z s);
   }
 
-  module _ (x : c.closes ≡ false) {d : Passed} (l : Passes doc c.end c.at c.len 1 d) where
+  module _ (x : c.closes ≡ false) {d : Result Closing Refusal} (l : Passes doc c.end c.at c.len 1 d) where
     opens : (t : Tag) (fs : List Frame) (u : Tables Shown) → TagIs doc c t → runs doc c.end (unsupported whole doc t fs u) ≡ runs doc c.end (reading (passing ignored (name_at doc c.at c.len ∷ []) ∷ fs) (with_warning 1 t.at t.name u))
     unfolding unsupported
     opens t fs u z = rw (sym z.closes ∙ x) (ap (λ (n : Name). runs doc c.end (reading (passing ignored (n ∷ []) ∷ fs) (with_warning 1 t.at t.name u))) (tag_named z))
 
-    pub skipped_fault : {y : Refusal} → d ≡ Passed.Fault y → Ignores doc c f w w' (Answer.Fault y)
+    pub skipped_fault : {y : Refusal} → d ≡ Err y → Ignores doc c f w w' (Err y)
     skipped_fault e = record {
       onward = tt;
       ends = λ t fs u rows bytes z s. opens t fs u z ∙ (rw e at l).leads ignored [] fs (with_warning 1 t.at t.name u) refl;
     }
 
-    pub skipped_closed : {lt end : ℕ} {m : Fill} → d ≡ Passed.Closed lt end → m ≡ moved g end → Ignores doc c f w w' (Answer.Done m)
-    skipped_closed {lt} {end} e q =
-        let y : Passes doc c.end c.at c.len 1 (Passed.Closed lt end) = rw e at l in
-        rw q
+    pub skipped_closed : {q : Closing} {m : Fill} → d ≡ Ok q → m ≡ moved g q.end → Ignores doc c f w w' (Ok m)
+    skipped_closed {q} e h =
+        let y : Passes doc c.end c.at c.len 1 (Ok q) = rw e at l in
+        rw h
         record {
           onward = (
             omega (arith, r.at, y.onward),
             omega (arith, p.rows),
-            bounded (moved g end) refl refl refl (omega (arith, y.onward)) y.onward.2,
+            bounded (moved g q.end) refl refl refl (omega (arith, y.onward)) y.onward.2,
           );
           ends = λ t fs u rows bytes z s. (
             with_warning 1 t.at t.name u,
-            moved_stands end (warns t u rows bytes z s),
+            moved_stands q.end (warns t u rows bytes z s),
             opens t fs u z ∙ y.leads ignored [] fs (with_warning 1 t.at t.name u) refl,
             kept t u rows bytes z s,
           );

@@ -3,49 +3,42 @@
 
 ghost use Rattle.std.specs.Prelude.{◌≡◌, ◌+◌, ◌-◌, ◌≤◌, ◌<◌, length, take, drop};
 ghost use Rattle.utf8.specs.WellFormed.{ill_formed};
-ghost use Rattle.scan.specs.Classes.{Classes};
 ghost use Rattle.document.specs.Outcome.{Passes, Ready, Ignores, Captures, Others};
 ghost use Rattle.skip.specs.Outcome.{Puts};
 
-use document::{Answer, Fill, Next, Passed, StartTag, kinds};
+use document::{Closing, Fill, Next, Refusal, StartTag, kinds};
+use scan::ClassTable;
 use tags::step;
 
 // Passes over the rest of an element whose name stands at a place, when so many elements are open in what is passed over.
+#[tactic(auto, using(crate::proofs::Passing::deep))]
 pub fn skip_element(
     doc: &[u8],
-    classes: &[u8; 256],
+    classes: &ClassTable,
     from: usize,
     at: usize,
     len: usize,
     depth: usize,
-) -> Passed
-    requires { (from ≤ length doc.now) × ((at + len ≤ length doc.now) × ((length doc.now ≤ 1048576) × ((depth ≤ 1024) × (Classes classes.now)))) }
+) -> Result<Closing, Refusal>
+    requires inside { from ≤ length doc.now }
+    requires named { at + len ≤ length doc.now }
+    requires small { length doc.now ≤ 1048576 }
+    requires deep { depth ≤ 1024 }
     ensures { Passes doc.now from at len depth result }
 {
     let mut here = from;
     loop {
-        match step(doc, classes, here, at, len) {
-            Next::Fault(refusal) => {
-                return Passed::Fault(refusal);
-            }
-            Next::Close(lt, end) => {
-                return Passed::Closed(lt, end);
-            }
+        match step(doc, classes, here, at, len)? {
+            Next::Close(closing) => return Ok(closing),
             Next::Start(t) => {
                 if t.closes {
                     here = t.end;
                 } else {
                     if depth == 1024 {
-                        return Passed::Fault(document::bare(7, t.end));
+                        return Err(document::bare(7, t.end));
                     }
-                    match skip_element(doc, classes, t.end, t.at, t.len, depth + 1) {
-                        Passed::Fault(refusal) => {
-                            return Passed::Fault(refusal);
-                        }
-                        Passed::Closed(_, end) => {
-                            here = end;
-                        }
-                    }
+                    let inner = skip_element(doc, classes, t.end, t.at, t.len, depth + 1)?;
+                    here = inner.end;
                 }
             }
         }
@@ -55,32 +48,30 @@ pub fn skip_element(
 // An element that nobody asked for: its warning, then its content.
 pub fn skip_unsupported(
     doc: &[u8],
-    classes: &[u8; 256],
+    classes: &ClassTable,
     warnings: &mut [u32],
     c: StartTag,
     f: Fill,
-) -> Answer
-    requires fact_1 { Ready doc.now c f }
-    requires fact_2 { Classes classes.now }
+) -> Result<Fill, Refusal>
+    requires ready { Ready doc.now c f }
     ensures { Ignores doc.now c f warnings.old warnings.new result }
 {
     let g = rows::put_warning(warnings, 1, c.at, c.len, f);
     if c.closes {
-        return Answer::Done(g);
+        return Ok(g);
     }
-    match skip_element(doc, classes, c.end, c.at, c.len, 1) {
-        Passed::Fault(refusal) => Answer::Fault(refusal),
-        Passed::Closed(_, end) => Answer::Done(g.moved(end)),
-    }
+    let closing = skip_element(doc, classes, c.end, c.at, c.len, 1)?;
+    Ok(g.moved(closing.end))
 }
 
 // Puts the trimmed content between two places into row i, unless it is empty.
+#[tactic(auto, using(crate::proofs::Captured::capturing))]
 fn capture(doc: &[u8], rows: &mut [u32], from: usize, lt: usize, i: usize)
-    requires fact_1 { from ≤ lt }
-    requires fact_2 { lt ≤ length doc.now }
-    requires fact_3 { length doc.now ≤ 1048576 }
-    requires fact_4 { i < 1048576 }
-    requires fact_5 { ill_formed (take (lt - from) (drop from doc.now)) ≡ length (take (lt - from) (drop from doc.now)) }
+    requires ordered { from ≤ lt }
+    requires within { lt ≤ length doc.now }
+    requires small { length doc.now ≤ 1048576 }
+    requires row_small { i < 1048576 }
+    requires formed { ill_formed (take (lt - from) (drop from doc.now)) ≡ length (take (lt - from) (drop from doc.now)) }
     ensures { Puts doc.now from lt i rows.old rows.new }
 {
     let s = utf8::trim(&doc[from..lt]);
@@ -93,45 +84,40 @@ fn capture(doc: &[u8], rows: &mut [u32], from: usize, lt: usize, i: usize)
 }
 
 // A docstring for row i.
+#[tactic(auto, using(crate::proofs::Captured::documents))]
 pub fn docstring(
     doc: &[u8],
-    classes: &[u8; 256],
+    classes: &ClassTable,
     rows: &mut [u32],
     c: StartTag,
     i: usize,
     f: Fill,
-) -> Answer
-    requires fact_1 { Ready doc.now c f }
-    requires fact_2 { i < f.rows }
-    requires fact_3 { Classes classes.now }
+) -> Result<Fill, Refusal>
+    requires ready { Ready doc.now c f }
+    requires owner { i < f.rows }
     ensures { Captures doc.now c i f rows.old rows.new result }
 {
     if c.closes {
-        return Answer::Done(f);
+        return Ok(f);
     }
     let from = c.end;
-    match skip_element(doc, classes, from, c.at, c.len, 1) {
-        Passed::Fault(refusal) => Answer::Fault(refusal),
-        Passed::Closed(lt, end) => {
-            capture(doc, rows, from, lt, i);
-            Answer::Done(f.moved(end))
-        }
-    }
+    let closing = skip_element(doc, classes, from, c.at, c.len, 1)?;
+    capture(doc, rows, from, closing.lt, i);
+    Ok(f.moved(closing.end))
 }
 
 // A docstring for row i, or an element that nobody asked for.
 pub fn docstring_or_skip(
     doc: &[u8],
-    classes: &[u8; 256],
+    classes: &ClassTable,
     rows: &mut [u32],
     warnings: &mut [u32],
     c: StartTag,
     i: usize,
     f: Fill,
-) -> Answer
-    requires fact_1 { Ready doc.now c f }
-    requires fact_2 { i < f.rows }
-    requires fact_3 { Classes classes.now }
+) -> Result<Fill, Refusal>
+    requires ready { Ready doc.now c f }
+    requires owner { i < f.rows }
     ensures { Others doc.now c i f rows.old rows.new warnings.old
         warnings.new result }
 {

@@ -3,7 +3,7 @@
 use Rattle.std.proofs.Common.{◌≡◌, ℕ, zero, suc, ◌+◌, ◌-◌, ◌*◌, ◌<◌, ◌≤◌, Bool, true, false, T, List, length, get_or, sym, refl, ap, ◌∙◌, subst, arith, rules}
 use native.Mathlib.Decide.{dec_lt}
 use Rattle.slices.specs.Bytes.{other}
-use Rattle.slices.specs.Run.{Run, Told, Without, Sought}
+use Rattle.slices.specs.Run.{Blocks, Run, Told, Without, Sought}
 use Rattle.slices.specs.Word.{Equal}
 use Rattle.slices.proofs.Runs.{Running, run_begins, run_more, run_stops, run_ends, other_false, other_true}
 
@@ -31,14 +31,29 @@ pub ruleset tells = (told_none, told_hit, told_other, told_all, rules)
 pub without_none : {s : List ℕ} {b from : ℕ} → from ≤ length s → Without s b from from
 without_none h = record { onward = omega arith; within = h; none = λ i a l. absurd (omega (arith, a, l)) }
 
-pub without_block : {s : List ℕ} {b from at : ℕ} {t : Bool} → Without s b from at → at + 32 ≤ length s → Told s at 32 b t → t ≡ false → Without s b from (at + 32)
-without_block {s} {b} {from} {at} g h k e = record { onward = omega (arith, g.onward); within = h; none = λ i a l x. go i a l x (dec_lt i at) }
+-- ---- blocks that pass a test
+
+pub blocks_none : {answers : ℕ → Bool → Type 0} {s : List ℕ} {from n : ℕ} → from ≤ length s → Blocks answers s from n from
+blocks_none h = record { onward = omega arith; within = h; each = λ i a l. absurd (omega (arith, a, l)) }
+
+pub blocks_more : {answers : ℕ → Bool → Type 0} {s : List ℕ} {from n at : ℕ} {r : Bool} → Blocks answers s from n at → n ≤ length s - at → answers at r → r ≡ true → Blocks answers s from n (at + n)
+blocks_more {answers} {s} {from} {n} {at} g h p e = record {
+  onward = omega (arith, g.onward);
+  within = omega (arith, g.within);
+  each = λ i a l. go i a l (dec_lt i at);
+}
   where
-    go : (i : ℕ) → from ≤ i → i < at + 32 → get_or s i 0 ≡ b → Dec (i < at) → ⊥
-    go i a l x (yes j) = g.none i a j x
-    go i a l x (no j) =
-        let z : at + (i - at) ≡ i = omega (arith, j) in
-        k.none e (i - at) (omega (arith, l, j)) (ap (λ o. get_or s o 0) z ∙ x)
+    go : (i : ℕ) → from ≤ i → i < at + n → Dec (i < at) → (k : ℕ) × (k ≤ i) × (i < k + n) × (k + n ≤ length s) × answers k true
+    go i a l (yes j) = g.each i a j
+    go i a l (no j) = (at, omega (arith, j), l, omega (arith, g.within), subst (answers at) e p)
+
+pub without_blocks : {answers : ℕ → Bool → Type 0} {s : List ℕ} {b from r : ℕ} → Blocks answers s from 32 r → ((at : ℕ) → at + 32 ≤ length s → answers at true → Told s at 32 b false) → Without s b from r
+without_blocks {answers} {s} {b} {from} {r} g f = record { onward = g.onward; within = g.within; none = λ i a l. go i (g.each i a l) }
+  where
+    go : (i : ℕ) → (k : ℕ) × (k ≤ i) × (i < k + 32) × (k + 32 ≤ length s) × answers k true → get_or s i 0 ≡ b → ⊥
+    go i (k, m, l, h, p) x =
+        let z : k + (i - k) ≡ i = omega (arith, m) in
+        (f k h p).none refl (i - k) (omega (arith, l, m)) (ap (λ o. get_or s o 0) z ∙ x)
 
 -- past the bytes of a word before b
 without_word : {s : List ℕ} {b from at n : ℕ} → Without s b from at → at + 8 ≤ length s → Equal s at b n → Without s b from (at + n)
@@ -50,32 +65,20 @@ without_word {s} {b} {from} {at} {n} g h k = record { onward = omega (arith, g.o
         let z : at + (i - at) ≡ i = omega (arith, j) in
         k.others (i - at) (omega (arith, l, j)) (ap (λ o. get_or s o 0) z ∙ x)
 
--- a search by words, of which some are left
-pub record Seeking (s : List ℕ) (b from n at left : ℕ) : Type 0 where
-  pub without : Without s b from at
-  pub ahead : at + 8 * left ≡ from + 8 * n
-  pub room : from + 8 * n ≤ length s
+-- b stands in the word at a place
+pub sought_found : {s : List ℕ} {b from at k end : ℕ} → Without s b from at → at + 8 ≤ length s → Equal s at b k → k < 8 → Sought s b from end (at + k)
+sought_found g h e l = record { without = without_word g h e; found = λ j. e.stops l }
 
-pub seek_begins : {s : List ℕ} {b from n : ℕ} → from + 8 * n ≤ length s → Seeking s b from n from n
-seek_begins h = record { without = without_none (omega arith); ahead = refl; room = h }
+-- or it does not
+pub sought_more : {s : List ℕ} {b from k : ℕ} (i : ℕ) → Without s b from (from + 8 * i) → from + 8 * i + 8 ≤ length s → Equal s (from + 8 * i) b k → 8 ≤ k → Without s b from (from + 8 * (i + 1))
+sought_more {s} {b} {from} {k} i g h e l =
+    let z : from + 8 * i + k ≡ from + 8 * (i + 1) = omega (arith, e.within) in
+    subst (Without s b from) z (without_word g h e)
 
-module _ {s : List ℕ} {b from n at left : ℕ} (g : Seeking s b from n at left) where
-  pub seek_ends : left ≤ 0 → Sought s b from (from + 8 * n) at
-  seek_ends h = record { without = g.without; found = λ l. absurd (omega (arith, l, g.ahead)) }
+pub sought_ends : {s : List ℕ} {b from r end : ℕ} → Without s b from r → end ≤ r → Sought s b from end r
+sought_ends g h = record { without = g; found = λ l. absurd (omega (arith, h, l)) }
 
-  module _ {k : ℕ} (h : 0 < left) (e : Equal s at b k) where
-    past : Without s b from (at + k)
-    past = without_word g.without (omega (arith, g.ahead, g.room)) e
-
-    pub seek_found : k < 8 → Sought s b from (from + 8 * n) (at + k)
-    seek_found l = record { without = past; found = λ j. e.stops l }
-
-    pub seek_more : 8 ≤ k → Seeking s b from n (at + 8) (left - 1)
-    seek_more l =
-        let z : k ≡ 8 = omega (arith, e.within) in
-        record { without = subst (λ o. Without s b from (at + o)) z past; ahead = omega (arith, g.ahead); room = g.room }
-
-pub ruleset skips = (without_none, without_block, seek_begins, seek_ends, seek_found, seek_more, rules)
+pub ruleset skips = (sought_found, sought_more, sought_ends, rules)
 
 without_join : {s : List ℕ} {b from at r : ℕ} → Without s b from at → Without s b at r → Without s b from r
 without_join {s} {b} {from} {at} {r} g k = record { onward = omega (arith, g.onward, k.onward); within = k.within; none = λ i a l x. go i a l x (dec_lt i at) }

@@ -1,10 +1,11 @@
 -- Laws of 8 bytes taken as one number: the trailing zeros of a mask count the bytes before the first that is below a bound.
 -- Assumes nothing.
-use Rattle.std.proofs.Common.{◌≡◌, ℕ, zero, suc, ◌+◌, ◌-◌, ◌*◌, ◌/◌, ◌%◌, ◌^◌, ◌<◌, ◌≤◌, Bool, ◌⊎◌, List, length, get_or, take, drop, sym, refl, ap, ◌∙◌, subst, inl, inr, add-zero, suc-add, zero-add, mul-one, arith, length-drop, take_all, w64, Fits, rules}
+use Rattle.std.proofs.Common.{◌≡◌, ℕ, zero, suc, ◌+◌, ◌-◌, ◌*◌, ◌/◌, ◌%◌, ◌^◌, ◌<◌, ◌≤◌, Bool, true, ◌⊎◌, List, length, get_or, take, drop, sym, refl, ap, ◌∙◌, subst, inl, inr, add-zero, suc-add, zero-add, mul-one, arith, length-drop, take_all, w64, Fits, rules}
 use native.Mathlib.Nat.{mul-add-mod_self_right}
 use native.Mathlib.Decide.{dec_lt}
 use lib.Bits.{bit_and, bit_xor, xor_block, xor_add_and, xor_self, xor_lt, and_shr, and_mod, and_high, and_le_l, and_le_r, shifted_even, shifted_half}
 use lib.Count.{count_trailing_zeros, trailing_le}
+use Rattle.slices.specs.Run.{Blocks}
 use Rattle.slices.specs.Word.{word_of, Byte, Word, Leads, Below, Equal, Agrees}
 use Rattle.slices.specs.Bytes.{same, starts}
 use Rattle.slices.proofs.Runs.{Matching, match_begins, match_more, same_long, same_short}
@@ -181,21 +182,27 @@ equal_bytes (suc n) f g h k e (suc i) l =
     let rest : word_of n (λ i. f (suc i)) ≡ word_of n (λ i. g (suc i)) = omega (arith, h 0, k 0) in
     equal_bytes n (λ i. f (suc i)) (λ i. g (suc i)) (λ i. h (suc i)) (λ i. k (suc i)) rest i (omega arith)
 
-pub agrees_none : {a b : List ℕ} → Agrees a b 0
-agrees_none = record { within = omega arith; bytes = λ i l. absurd (omega (arith, l)) }
+-- two words that are equal
+pub record Twin (a b : List ℕ) (at : ℕ) : Type 0 where
+  pub first : ℕ
+  pub second : ℕ
+  pub of_first : Word a at first
+  pub of_second : Word b at second
+  pub equal : first ≡ second
 
-pub agrees_more : {a b : List ℕ} {at x y : ℕ} → Agrees a b at → at + 8 ≤ length b → Word a at x → Word b at y → x ≡ y → Agrees a b (at + 8)
-agrees_more {a} {b} {at} {x} {y} g h v w e = record { within = h; bytes = λ i l. go i l (dec_lt i at) }
+pub twin : {a b : List ℕ} {at x y : ℕ} → Word a at x → Word b at y → x ≡ y → Twin a b at
+twin {a} {b} {at} {x} {y} v w e = record { first = x; second = y; of_first = v; of_second = w; equal = e }
+
+pub agrees_blocks : {answers : ℕ → Bool → Type 0} {a b : List ℕ} {r : ℕ} → Blocks answers b 0 8 r → ((at : ℕ) → at + 8 ≤ length b → answers at true → Twin a b at) → Agrees a b r
+agrees_blocks {answers} {a} {b} {r} g f = record { within = g.within; bytes = λ i l. go i (g.each i (omega arith) l) }
   where
-    words : word_of 8 (λ i. get_or a (at + i) 0) ≡ word_of 8 (λ i. get_or b (at + i) 0)
-    words = sym v.value ∙ e ∙ w.value
-
-    go : (i : ℕ) → i < at + 8 → Dec (i < at) → get_or a i 0 ≡ get_or b i 0
-    go i l (yes j) = g.bytes i j
-    go i l (no j) =
-        let z : at + (i - at) ≡ i = omega (arith, j) in
-        let t = equal_bytes 8 (λ i. get_or a (at + i) 0) (λ i. get_or b (at + i) 0) (λ i. v.bytes (at + i)) (λ i. w.bytes (at + i)) words (i - at) (omega (arith, l, j)) in
-        subst (λ o. get_or a o 0 ≡ get_or b o 0) z t
+    go : (i : ℕ) → (k : ℕ) × (k ≤ i) × (i < k + 8) × (k + 8 ≤ length b) × answers k true → get_or a i 0 ≡ get_or b i 0
+    go i (k, m, l, h, p) =
+        let t = f k h p in
+        let z : k + (i - k) ≡ i = omega (arith, m) in
+        let words : word_of 8 (λ i. get_or a (k + i) 0) ≡ word_of 8 (λ i. get_or b (k + i) 0) = sym t.of_first.value ∙ t.equal ∙ t.of_second.value in
+        let e = equal_bytes 8 (λ i. get_or a (k + i) 0) (λ i. get_or b (k + i) 0) (λ i. t.of_first.bytes (k + i)) (λ i. t.of_second.bytes (k + i)) words (i - k) (omega (arith, l, m)) in
+        subst (λ o. get_or a o 0 ≡ get_or b o 0) z e
 
 -- past what agrees, the one is the other where it begins with it
 agreeing : (a b : List ℕ) (r : ℕ) → r ≤ length b → length a ≡ length b → ((i : ℕ) → i < r → get_or a i 0 ≡ get_or b i 0) → Matching a 0 b r
@@ -217,4 +224,4 @@ agrees_rest {a} {b} {r} {t} e g h =
 pub ruleset worded = (word_of_lem, zeros_fit, lead_word, below_of, equal_of, rules)
 
 -- what answers every need of a comparison by words
-pub ruleset agrees = (agrees_none, agrees_more, agrees_rest, same_short, rules)
+pub ruleset agrees = (agrees_rest, same_short, rules)

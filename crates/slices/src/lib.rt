@@ -1,10 +1,10 @@
 // Byte slices: the first place of a byte, whether a key stands at a place, whether two slices are equal, a hash.
 #![tactic(auto)]
 
-ghost use Rattle.std.specs.Prelude.{◌≡◌, ℕ, ◌+◌, ◌*◌, ◌<◌, ◌≤◌, length, drop};
+ghost use Rattle.std.specs.Prelude.{◌≡◌, ℕ, ◌+◌, ◌*◌, ◌<◌, ◌≤◌, Bool, length, drop};
 ghost use Rattle.slices.specs.Bytes.{other, same, starts};
 ghost use Rattle.slices.specs.Hash.{mixed, HashIs};
-ghost use Rattle.slices.specs.Run.{Run, Sought, Told, Without};
+ghost use Rattle.slices.specs.Run.{Blocks, Run, Sought, Tells, Told, Without};
 ghost use Rattle.slices.specs.Word.{Agrees, Below, Byte, Equal, Leads, Word, word_of};
 
 // The byte at a place, as a number of 64 bits.
@@ -16,6 +16,7 @@ fn byte(s: &[u8], at: usize) -> u64
 }
 
 // The 8 bytes from a place as one number, the first the lowest.
+#[tactic(auto, using(crate::proofs::Words::worded))]
 fn word(s: &[u8], at: usize) -> u64
     requires { at + 8 ≤ length s.now }
     ensures { Word s.now «at» result }
@@ -47,35 +48,58 @@ pub fn first_below(s: &[u8], at: usize, n: u64) -> usize
     leading(word(s, at), n)
 }
 
+// The end of the run from a place on of bytes of which the test is true.
+pub fn run_end<F: Fn(u8) -> bool>(s: &[u8], from: usize, test: F) -> usize
+    requires in_bounds { from ≤ length s.now }
+    requires callable { F.IsAlwaysCallable test }
+    ensures { (p : ℕ → Bool) → Tells (F.post test) p → Run p s.now from result }
+{
+    for at in from..s.len() {
+        if !test(s[at]) {
+            return at;
+        }
+    }
+    s.len()
+}
+
+// Past whole blocks of n bytes, of whose places the test is true.
+
+pub fn blocks<F: Fn(usize) -> bool>(s: &[u8], from: usize, n: usize, test: F) -> usize
+    requires in_bounds { from ≤ length s.now }
+    requires nonempty { 0 < n }
+    requires callable { (at : ℕ) → at + n ≤ length s.now → F.pre test at }
+    ensures { Blocks (F.post test) s.now from n result }
+{
+    let mut at = from;
+    while n <= s.len() - at {
+        if !test(at) {
+            return at;
+        }
+        at += n;
+    }
+    at
+}
+
 // Whether one of the 32 bytes from a place is b.
 fn has(s: &[u8], from: usize, b: u8) -> bool
     requires { from + 32 ≤ length s.now }
     ensures { Told s.now from 32 b result }
 {
     let mut hit = false;
-    let mut i = 0;
-    while i < 32 {
+    for i in 0..32 {
         if s[from + i] == b {
             hit = true;
         }
-        i += 1;
     }
     hit
 }
 
 // Past whole blocks without b.
-fn blocks(s: &[u8], from: usize, b: u8) -> usize
+fn past_blocks(s: &[u8], from: usize, b: u8) -> usize
     requires { from ≤ length s.now }
     ensures { Without s.now b from result }
 {
-    let mut at = from;
-    while at + 32 <= s.len() {
-        if has(s, at, b) {
-            return at;
-        }
-        at += 32;
-    }
-    at
+    blocks(s, from, 32, |at| !has(s, at, b))
 }
 
 // How many of the 8 bytes from a place come before the first that is b: 8 where none is.
@@ -87,21 +111,19 @@ fn first_equal(s: &[u8], at: usize, b: u8) -> usize
 }
 
 // Past n words without b, or to b in one of them.
+#[tactic(auto, using(crate::proofs::Skips::skips))]
 fn by_words(s: &[u8], from: usize, n: usize, b: u8) -> usize
     requires { from + 8 * n ≤ length s.now }
     ensures { Sought s.now b from (from + 8 * n) result }
 {
-    let mut at = from;
-    let mut left = n;
-    while 0 < left {
+    for i in 0..n {
+        let at = from + 8 * i;
         let k = first_equal(s, at, b);
         if k < 8 {
             return at + k;
         }
-        at += 8;
-        left -= 1;
     }
-    at
+    from + 8 * n
 }
 
 // The first place of b from `from` on, or the length.
@@ -109,15 +131,9 @@ pub fn find(s: &[u8], from: usize, b: u8) -> usize
     requires { from ≤ length s.now }
     ensures { Run (other b) s.now from result }
 {
-    let start = blocks(s, from, b);
-    let mut at = by_words(s, start, (s.len() - start) / 8, b);
-    while at < s.len() {
-        if s[at] == b {
-            return at;
-        }
-        at += 1;
-    }
-    at
+    let start = past_blocks(s, from, b);
+    let near = by_words(s, start, (s.len() - start) / 8, b);
+    run_end(s, near, |x| x != b)
 }
 
 // The same for a byte that is near as a rule: 4 words first.
@@ -136,6 +152,7 @@ pub fn find_near(s: &[u8], from: usize, b: u8) -> usize
 }
 
 // Whether the key stands at a place.
+#[tactic(auto, using(crate::proofs::Runs::matches))]
 pub fn starts_at(s: &[u8], from: usize, key: &[u8]) -> bool
     requires { from ≤ length s.now }
     ensures { result ≡ starts key.now (drop from s.now) }
@@ -143,24 +160,20 @@ pub fn starts_at(s: &[u8], from: usize, key: &[u8]) -> bool
     if s.len() - from < key.len() {
         return false;
     }
-    let mut i = 0;
-    while i < key.len() {
+    for i in 0..key.len() {
         if s[from + i] != key[i] {
             return false;
         }
-        i += 1;
     }
     true
 }
 
 // Whether two slices hold the same bytes.
+#[tactic(auto, using(crate::proofs::Runs::equals))]
 pub fn equal(a: &[u8], b: &[u8]) -> bool
     ensures { result ≡ same a.now b.now }
 {
-    if a.len() != b.len() {
-        return false;
-    }
-    starts_at(a, 0, b)
+    a.len() == b.len() && starts_at(a, 0, b)
 }
 
 // How many bytes of two slices of one length agree, by words.
@@ -168,17 +181,11 @@ fn agreed(a: &[u8], b: &[u8]) -> usize
     requires { length a.now ≡ length b.now }
     ensures { Agrees a.now b.now result }
 {
-    let mut i = 0;
-    while i + 8 <= b.len() {
-        if word(a, i) != word(b, i) {
-            return i;
-        }
-        i += 8;
-    }
-    i
+    blocks(b, 0, 8, |at| word(a, at) == word(b, at))
 }
 
 // Whether two slices hold the same bytes, where they may be long: by words first.
+#[tactic(auto, using(crate::proofs::Words::agrees))]
 pub fn equal_long(a: &[u8], b: &[u8]) -> bool
     ensures { result ≡ same a.now b.now }
 {
@@ -197,14 +204,13 @@ fn mix(h: u32, b: u8) -> u32
 }
 
 // The hash of bytes.
+#[tactic(auto, using(crate::proofs::Hashing::hashing))]
 pub fn hash(s: &[u8]) -> u32
     ensures { HashIs s.now result }
 {
     let mut h: u32 = 0;
-    let mut i = 0;
-    while i < s.len() {
-        h = mix(h, s[i]);
-        i += 1;
+    for &b in s {
+        h = mix(h, b);
     }
     h
 }

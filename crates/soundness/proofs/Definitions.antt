@@ -4,12 +4,13 @@ use Prim.Native.Nat.{ℕ, zero, suc, ◌+◌, ◌*◌, ◌-◌, ◌≤◌, ◌<�
 use mathlib.Core.Path.{◌≡◌, refl, sym, ap, ◌∙◌}
 use mathlib.Core.List.{List, [], ◌∷◌}
 use mathlib.Core.Bool.{Bool, true, false, not, and-false}
+use Rattle.std.specs.Prelude.{Option, None, Some, is_some}
 use borrow.Author.Rules.{rules}
-use borrow.Author.Tests.{eq-eqb, ne_eqb, eqb-true, le-ltb, lt-ltb, not-true, not-false}
+use borrow.Author.Tests.{eq-eqb, ne_eqb, eqb-true}
 use native.Mathlib.Nat.{add-zero, zero-add}
 use native.Mathlib.Numerals.{add-one}
 use native.Mathlib.Omega.{arith}
-use lib.Dec.{eqb, ltb}
+use lib.Dec.{eqb}
 use lib.ListN.{drop, get_or, drop_of_length-le}
 use Rattle.utf8.proofs.Sequences.{below}
 use Rattle.names.specs.Signature.{basic_signature}
@@ -17,12 +18,12 @@ use Rattle.tables.specs.Triple.{shown}
 use Rattle.tables.specs.declared.Triple.{Triple}
 use Rattle.document.specs.Kinds as kinds
 use Rattle.items.specs.Words.{RowWords, Word, TripleIs, row_of, rows_of, is_child}
-use Rattle.items.specs.Sound.{members_of, counted}
+use Rattle.items.specs.Sound.{members_of, any_member, counted}
 use Rattle.items.specs.Order.{parent_at, Under, DocumentOrder}
 use Rattle.items.proofs.Rows.{length_rows_of, row-at, row_word}
 use Rattle.items.proofs.Words.{word_in}
 use Rattle.items.proofs.Order.{under_up, under_before, follow_falls, run_ends}
-use Rattle.soundness.specs.Outcome.{Follows, Orders, Member, members_from, NextMember, Keyed, Counted}
+use Rattle.soundness.specs.Outcome.{Follows, Orders, Member, members_from, FirstMember, NextMember, Keyed, Counted}
 
 -- ---- document order
 
@@ -66,12 +67,12 @@ module _ {ws : List ℕ} {k : ℕ} (o : DocumentOrder ws k) where
   order_ends l = record { is = λ e. record { under = λ j m. o.under j (omega arith) }; exact = λ q. refl }
 
   module _ {b : Bool} (f : Follows ws k b) where
-    pub order_stops : {n : ℕ} → k < n → not b ≡ true → Orders ws n false
-    order_stops l q = record { is = λ e. let z : ◌≡◌ {A = ℕ} 0 1 = cc in absurd (omega arith); exact = λ d. sym (not-true b q) ∙ f.exact (d.under k l) }
+    pub order_stops : {n : ℕ} → k < n → b ≡ false → Orders ws n false
+    order_stops l q = record { is = λ e. let z : ◌≡◌ {A = ℕ} 0 1 = cc in absurd (omega arith); exact = λ d. sym q ∙ f.exact (d.under k l) }
 
-    pub order_more : not b ≡ false → DocumentOrder ws (k + 1)
+    pub order_more : b ≡ true → DocumentOrder ws (k + 1)
     order_more q = record {
-      under = λ j m. below j k (λ l. o.under j l) (λ l. let z : k ≡ j = omega arith in rw (← z) (f.is (not-false b q)));
+      under = λ j m. below j k (λ l. o.under j l) (λ l. let z : k ≡ j = omega arith in rw (← z) (f.is q));
     }
 
 pub ruleset orders = (order_begins, order_ends, order_stops, order_more, rules)
@@ -138,25 +139,27 @@ pub seek_begins : (ws : List ℕ) (n i from : ℕ) → i < from → Seeking ws n
 seek_begins ws n i from l = record { onward = l; same = refl }
 
 module _ {ws : List ℕ} {n i from k : ℕ} (g : Seeking ws n i from k) where
-  nowhere : members_from ws n i from ≡ [] → NextMember ws n i from n
-  nowhere e = record { onward = λ h. absurd (omega arith); some = λ h. absurd (omega arith); none = λ h. e }
+  nowhere : members_from ws n i from ≡ [] → NextMember ws n i from None
+  nowhere e = record { some = λ k h. let z : ◌≡◌ {A = ℕ} 0 1 = cc in absurd (omega arith); none = λ h. e }
 
-  pub seek_ends : n ≤ k → NextMember ws n i from n
+  pub seek_ends : n ≤ k → NextMember ws n i from None
   seek_ends h = nowhere (g.same ∙ members_past ws n i k h)
 
   module _ (l : k < n) where
-    pub seek_run_ends : {p : ℕ} → DocumentOrder ws n → Word ws k 1 p → p ≤ i → NextMember ws n i from n
+    pub seek_run_ends : {p : ℕ} → DocumentOrder ws n → Word ws k 1 p → p ≤ i → NextMember ws n i from None
     seek_run_ends o p h =
         nowhere
         (g.same ∙ members_none ws n i k (omega arith) (run_ends (parent_at ws) n o.under i k g.onward (omega (arith, p.is))))
 
     module _ {b : Bool} (m : Member ws i k b) where
-      pub seek_found : b ≡ true → NextMember ws n i from k
+      pub seek_found : b ≡ true → NextMember ws n i from (Some k)
       seek_found e = record {
-        onward = λ h. g.onward;
-        some = λ h. g.same ∙ member_here ws n i k l (sym m.is ∙ e);
-        none = λ h. absurd (omega arith);
+        some = λ j h. let z : k ≡ j = cc in rw (← z) here;
+        none = λ h. let z : ◌≡◌ {A = ℕ} 0 1 = cc in absurd (omega arith);
       }
+        where
+          here : FirstMember ws n i from k
+          here = record { onward = g.onward; inside = l; is = g.same ∙ member_here ws n i k l (sym m.is ∙ e) }
 
       pub seek_more : b ≡ false → Seeking ws n i from (k + 1)
       seek_more e = record { onward = omega (arith, g.onward); same = g.same ∙ rw add-one (member_next ws n i k l (sym m.is ∙ e)) }
@@ -165,42 +168,54 @@ pub ruleset seeks = (seek_begins, seek_ends, seek_run_ends, seek_found, seek_mor
 
 -- ---- a mapping's, and those that a kind needs
 
-module _ (d x : List ℕ) {ws : List ℕ} {n i k : ℕ} (a : NextMember ws n i (i + 1) k) where
-  pub no_key : n ≤ k → Keyed d x ws n i false
-  no_key h = record { is = rw (rw add-one at (a.none h)) }
+module _ (d x : List ℕ) {ws : List ℕ} {n i : ℕ} where
+  pub no_key : NextMember ws n i (i + 1) None → Keyed d x ws n i false
+  no_key a = record { is = rw (rw add-one at (a.none refl)) }
 
-  module _ {v : ℕ} (l : k < n) (b : NextMember ws n i (k + 1) v) where
+  module _ {k : ℕ} (a : NextMember ws n i (i + 1) (Some k)) where
     first : members_from ws n i (suc i) ≡ row_of (drop (k * 16) ws) ∷ members_from ws n i (suc k)
-    first = rw add-one at (a.some l)
+    first = rw add-one at (a.some k refl).is
 
-    pub no_value : n ≤ v → Keyed d x ws n i false
-    no_value h = record { is = rw (first, rw add-one at (b.none h)) }
+    pub no_value : NextMember ws n i (k + 1) None → Keyed d x ws n i false
+    no_value b = record { is = rw (first, rw add-one at (b.none refl)) }
 
-    module _ {m : ℕ} (j : v < n) (c : NextMember ws n i (v + 1) m) where
+    module _ {v : ℕ} (b : NextMember ws n i (k + 1) (Some v)) where
       second : members_from ws n i (suc k) ≡ row_of (drop (v * 16) ws) ∷ members_from ws n i (suc v)
-      second = rw add-one at (b.some j)
+      second = rw add-one at (b.some v refl).is
 
-      pub a_third : m < n → Keyed d x ws n i false
-      a_third h = record { is = rw (first, second, rw add-one at (c.some h)) }
+      module _ {m : Option ℕ} (c : NextMember ws n i (v + 1) m) {o : Bool} (l : is_some m ≡ not o) where
+        pub a_third : o ≡ false → Keyed d x ws n i false
+        a_third h = go m refl
+          where
+            go : (y : Option ℕ) → m ≡ y → Keyed d x ws n i false
+            go (Some j) e = record { is = rw (first, second, rw add-one at (c.some j e).is) }
+            go None e = let z : ◌≡◌ {A = Bool} false true = rw (e, h) at l in let w : ◌≡◌ {A = ℕ} 0 1 = cc in absurd (omega arith)
 
-      pub a_pair : {t : Triple} {s : List ℕ} {r : Bool} → n ≤ m → TripleIs ws k 5 t → s ≡ shown d x t → r ≡ basic_signature s → Keyed d x ws n i r
-      a_pair h t e q = record { is = rw (first, second, rw add-one at (c.none h)) (q ∙ rw (e, t.is)) }
+        pub a_pair : {t : Triple} {s : List ℕ} {r : Bool} → o ≡ true → TripleIs ws k 5 t → s ≡ shown d x t → r ≡ basic_signature s → Keyed d x ws n i r
+        a_pair {t} {s} {r} h w e q = go m refl
+          where
+            go : (y : Option ℕ) → m ≡ y → Keyed d x ws n i r
+            go None f = record { is = rw (first, second, rw add-one at (c.none f)) (q ∙ rw (e, w.is)) }
+            go (Some j) f = let z : ◌≡◌ {A = Bool} true false = rw (f, h) at l in let y : ◌≡◌ {A = ℕ} 0 1 = cc in absurd (omega arith)
 
--- where the next search begins
-pub row_after : {ws : List ℕ} {n i from r : ℕ} → NextMember ws n i from r → r < n → i < r + 1
-row_after a l = omega (arith, a.onward l)
+-- where a member is, and the next search begins
+pub member_inside : {ws : List ℕ} {n i from r : ℕ} → NextMember ws n i from (Some r) → r < n
+member_inside {r = r} a = (a.some r refl).inside
 
-pub ruleset keys = (no_key, no_value, a_third, a_pair, row_after, rules)
+pub row_after : {ws : List ℕ} {n i from r : ℕ} → NextMember ws n i from (Some r) → i < r + 1
+row_after {r = r} a = omega (arith, (a.some r refl).onward)
+
+pub ruleset keys = (no_key, no_value, a_third, a_pair, member_inside, row_after, rules)
 
 module _ (d x : List ℕ) {ws : List ℕ} {n i k : ℕ} (a : Word ws i 0 k) where
   module _ (l : i < n) (o : DocumentOrder ws n) where
-    pub counts_struct : {m : ℕ} → k ≡ kinds.struct → NextMember ws n i (i + 1) m → Counted d x ws n i (ltb m n)
+    pub counts_struct : {m : Option ℕ} {r : Bool} → k ≡ kinds.struct → NextMember ws n i (i + 1) m → r ≡ is_some m → Counted d x ws n i r
     unfolding counted
-    counts_struct {m} e f = record {
-      is = rw (members_after ws n i l o) (below m n
-          (λ h. rw (← word_in a, e, lt-ltb m n h, rw add-one at (f.some h)))
-          (λ h. rw (← word_in a, e, le-ltb m n h, rw add-one at (f.none h))));
-    }
+    counts_struct {m} {r} e f h = record { is = h ∙ rw (members_after ws n i l o, ← word_in a, e) (go m refl) }
+      where
+        go : (y : Option ℕ) → m ≡ y → is_some m ≡ any_member (members_from ws n i (suc i))
+        go (Some j) z = rw (z, rw add-one at (f.some j z).is)
+        go None z = rw (z, rw add-one at (f.none z))
 
     pub counts_mapping : {r : Bool} → k ≡ kinds.mapping → Keyed d x ws n i r → Counted d x ws n i r
     unfolding counted

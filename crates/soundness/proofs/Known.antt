@@ -3,9 +3,9 @@
 use Prim.Native.Nat.{ℕ, zero, suc, ◌+◌, ◌-◌, ◌≤◌, ◌<◌}
 use mathlib.Core.Path.{◌≡◌, refl, sym, ◌∙◌}
 use mathlib.Core.List.{List, [], ◌∷◌}
-use mathlib.Core.Bool.{Bool, true, false, not}
+use mathlib.Core.Bool.{Bool, true, false}
 use borrow.Author.Rules.{rules}
-use borrow.Author.Tests.{eq-eqb, ne_eqb, lt-ltb, le-ltb, not-true, not-false}
+use borrow.Author.Tests.{eq-eqb, ne_eqb, lt-ltb, le-ltb}
 use native.Mathlib.Omega.{arith}
 use lib.Dec.{eqb, ltb}
 use lib.ListN.{length, take, drop, get_or, length-drop}
@@ -21,22 +21,6 @@ use Rattle.soundness.specs.Outcome.{edge}
 -- ---- one end
 
 module _ (s : List ℕ) (u at : ℕ) where
-  pub edge_end : at ≡ u → true ≡ edge s u at
-  unfolding edge
-  edge_end e = rw (eq-eqb at u e)
-
-  module _ (n : at ≡ u → ⊥) where
-    pub edge_low : get_or s at 0 < 128 → true ≡ edge s u at
-    unfolding edge
-    edge_low h = rw (ne_eqb at u n, within_false continuation (get_or s at 0) (λ a b. omega arith))
-
-    pub edge_high : 128 ≤ get_or s at 0 → ltb 191 (get_or s at 0) ≡ edge s u at
-    unfolding edge
-    edge_high h =
-        below 191 (get_or s at 0)
-        (λ l. rw (ne_eqb at u n, within_false continuation (get_or s at 0) (λ a b. omega arith), lt-ltb 191 (get_or s at 0) l))
-        (λ l. rw (ne_eqb at u n, within_true continuation (get_or s at 0) h l, le-ltb 191 (get_or s at 0) l))
-
   edge_yes : edge s u at ≡ true → Edge s u at
   unfolding edge
   edge_yes e h a b =
@@ -50,8 +34,6 @@ module _ (s : List ℕ) (u at : ℕ) where
       below at u
       (λ h. rw (ne_eqb at u (λ q. omega arith), within_false continuation (get_or s at 0) (e h)))
       (λ h. rw (eq-eqb at u (omega arith)))
-
-pub ruleset edges = (edge_end, edge_low, edge_high, rules)
 
 -- ---- a part by all its bytes
 
@@ -95,16 +77,19 @@ module _ (s : List ℕ) (a n : ℕ) where
   part_checked h = let z : a + n - a ≡ n = omega arith in rw z at h
 
   -- by its two ends
-  module _ {u : ℕ} (g : Start s u) (m : n ≡ 0 → ⊥) (k : a + n ≤ u) {b : Bool} (f : b ≡ edge s u a) where
-    pub part_begins : not b ≡ true → false ≡ well_formed (take n (drop a s))
+  module _ {u : ℕ} (i : u ≤ length s) (w : ill_formed (take u s) ≡ u) (m : n ≡ 0 → ⊥) (k : a + n ≤ u) {b : Bool} (f : b ≡ edge s u a) where
+    start : Start s u
+    start = record { inside = i; is = w }
+
+    pub part_begins : b ≡ false → false ≡ well_formed (take n (drop a s))
     part_begins q =
         sym
         (ne_eqb (ill_formed (take n (drop a s))) (length (take n (drop a s)))
-        (λ h. let z : ◌≡◌ {A = Bool} false true = sym (not-true b q) ∙ f ∙ edge_no s u a (omega arith) (first_edge s u g a n k (omega arith) h) in
+        (λ h. let z : ◌≡◌ {A = Bool} false true = sym q ∙ f ∙ edge_no s u a (omega arith) (first_edge s u start a n k (omega arith) h) in
         let y : ◌≡◌ {A = ℕ} 0 1 = cc in
         omega arith))
 
-    pub part_ends : {r : Bool} → not b ≡ false → r ≡ edge s u (a + n) → r ≡ well_formed (take n (drop a s))
+    pub part_ends : {r : Bool} → b ≡ true → r ≡ edge s u (a + n) → r ≡ well_formed (take n (drop a s))
     part_ends {r} q e = go r refl
       where
         go : (t : Bool) → r ≡ t → r ≡ well_formed (take n (drop a s))
@@ -112,20 +97,16 @@ module _ (s : List ℕ) (a n : ℕ) where
             z
             ∙ sym
             (eq-eqb (ill_formed (take n (drop a s))) (length (take n (drop a s)))
-            (edges_formed s u g a n k (edge_yes s u a (sym f ∙ not-false b q)) (edge_yes s u (a + n) (sym e ∙ z))))
+            (edges_formed s u start a n k (edge_yes s u a (sym f ∙ q)) (edge_yes s u (a + n) (sym e ∙ z))))
         go false z =
             z
             ∙ sym
             (ne_eqb (ill_formed (take n (drop a s))) (length (take n (drop a s)))
-            (λ h. let w : ◌≡◌ {A = Bool} false true = sym z ∙ e ∙ edge_no s u (a + n) k (last_edge s u g a n k (omega arith) h) in
+            (λ h. let w : ◌≡◌ {A = Bool} false true = sym z ∙ e ∙ edge_no s u (a + n) k (last_edge s u start a n k (omega arith) h) in
             let y : ◌≡◌ {A = ℕ} 0 1 = cc in
             omega arith))
 
--- a place in it
-pub end_fits : {s : List ℕ} {u : ℕ} → Start s u → u ≤ length s
-end_fits g = g.inside
-
-pub ruleset parts = (part_none, part_checked, part_begins, part_ends, end_fits, rules)
+pub ruleset parts = (part_none, part_checked, part_begins, part_ends, rules)
 
 -- ---- how much of a buffer is UTF-8
 

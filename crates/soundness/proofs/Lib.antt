@@ -1,6 +1,5 @@
 -- Laws of the check of sound rows.
 -- Assumes nothing.
-pub mod Uses
 pub mod Known
 pub mod Triples
 pub mod Definitions

@@ -2,26 +2,29 @@
 -- Assumes nothing.
 use Prim.Native.Nat.{ℕ, zero, suc, ◌+◌, ◌*◌, ◌-◌, ◌/◌, ◌≤◌, ◌<◌}
 use mathlib.Core.Path.{◌≡◌, refl, sym, ◌∙◌}
-use mathlib.Core.List.{List}
-use mathlib.Core.Bool.{Bool, true, false, not, ◌&&◌, and-false}
+use mathlib.Core.List.{List, []}
+use mathlib.Core.Bool.{Bool, true, false, ◌&&◌, and-false}
 use borrow.Author.Rules.{rules}
-use borrow.Author.Tests.{ne_eqb, lt-ltb, le-ltb, le-leb, lt-leb, not-true, not-false}
+use borrow.Author.Tests.{ne_eqb, lt-ltb, le-ltb, le-leb, lt-leb}
 use native.Mathlib.Nat.{add-zero, div-mul-le_self}
 use native.Mathlib.Numerals.{add-one}
 use native.Mathlib.Omega.{arith}
 use lib.Dec.{eqb, leb, ltb}
-use lib.ListN.{length, drop, get_or}
+use lib.ListN.{length, take, drop, get_or}
+use Rattle.std.specs.Prelude.{Option, None, Some, Result, Ok, Err}
+use Rattle.std.specs.Borrow.{Bor}
 use Rattle.tables.specs.declared.Triple.{Triple}
 use Rattle.document.specs.Kinds as kinds
 use Rattle.document.specs.Elements.{may_hold}
+use Rattle.utf8.specs.WellFormed.{ill_formed}
+use Rattle.utf8.specs.Trim.{Start}
 use Rattle.utf8.proofs.Parts.{start_none}
 use Rattle.items.specs.Words.{RowWords, word_at, Word, triple_at, TripleIs, row_of, rows_of}
 use Rattle.items.specs.Sound.{kind_at, placed, good_triple, name_use, value_use, tp_use, doc_use, valid_name, valid_value, any_text, in_document, valid_word, sound_row, first_bad, sound, unsound, soundness, good_row}
 use Rattle.items.specs.Order.{DocumentOrder}
 use Rattle.items.proofs.Rows.{row-at, rows_past, kind_at_lem}
 use Rattle.items.proofs.Words.{word_in}
-use Rattle.soundness.specs.declared.Soundness.{Soundness}
-use Rattle.soundness.specs.Outcome.{good_doc, good_front, good_back, Placed, Front, Back, RowGood, Orders, Counted, Tallied, ByTally, Prepared, RowSound, Judges}
+use Rattle.soundness.specs.Outcome.{good_doc, good_front, good_back, Placed, Front, Back, RowGood, Orders, Counted, Tallied, ByTally, Prepared, RowSound, FirstBad, Judges}
 use Rattle.soundness.proofs.Tallies.{tally_begins, tally_counts}
 
 -- ---- the place of a row
@@ -70,25 +73,25 @@ module _ (d x : List ℕ) {ws : List ℕ} {i k : ℕ} (a : Word ws i 0 k) where
     named : good_triple d x (name_use (get_or (drop (i * 16) ws) 0 0)) (valid_name (get_or (drop (i * 16) ws) 0 0)) (triple_at 2 (drop (i * 16) ws)) ≡ b
     named = sym (rw (← word_in a, ← e.is) h)
 
-    pub no_name : not b ≡ true → Front d x ws i false
+    pub no_name : b ≡ false → Front d x ws i false
     unfolding good_front
-    no_name q = record { is = rw (named ∙ not-true b q) }
+    no_name q = record { is = rw (named ∙ q) }
 
-    pub name_and_value : {s : Triple} {r : Bool} → not b ≡ false → TripleIs ws i 5 s → r ≡ good_triple d x (value_use k) (valid_value k) s → Front d x ws i r
+    pub name_and_value : {s : Triple} {r : Bool} → b ≡ true → TripleIs ws i 5 s → r ≡ good_triple d x (value_use k) (valid_value k) s → Front d x ws i r
     unfolding good_front
-    name_and_value q f v = record { is = rw (named ∙ not-false b q, ← word_in a, ← f.is) v }
+    name_and_value q f v = record { is = rw (named ∙ q, ← word_in a, ← f.is) v }
 
   module _ {t : Triple} {b : Bool} (e : TripleIs ws i 8 t) (h : b ≡ good_triple d x (tp_use k) any_text t) where
     typed : good_triple d x (tp_use (get_or (drop (i * 16) ws) 0 0)) any_text (triple_at 8 (drop (i * 16) ws)) ≡ b
     typed = sym (rw (← word_in a, ← e.is) h)
 
-    pub no_tp : not b ≡ true → Back d x ws i false
+    pub no_tp : b ≡ false → Back d x ws i false
     unfolding good_back
-    no_tp q = record { is = rw (typed ∙ not-true b q) }
+    no_tp q = record { is = rw (typed ∙ q) }
 
-    pub tp_and_doc : {s : Triple} {r : Bool} → not b ≡ false → TripleIs ws i 11 s → r ≡ good_doc d x k s → Back d x ws i r
+    pub tp_and_doc : {s : Triple} {r : Bool} → b ≡ true → TripleIs ws i 11 s → r ≡ good_doc d x k s → Back d x ws i r
     unfolding good_back
-    tp_and_doc q f v = record { is = rw (typed ∙ not-false b q, ← word_in a, ← f.is) v }
+    tp_and_doc q f v = record { is = rw (typed ∙ q, ← word_in a, ← f.is) v }
 
 pub ruleset texts = (no_name, name_and_value, no_tp, tp_and_doc, rules)
 
@@ -117,28 +120,28 @@ module _ (d x : List ℕ) (rows : List RowWords) (i : ℕ) (r : RowWords) where
       go true true true true o s w l = refl
 
 module _ (d x ws : List ℕ) (i : ℕ) where
-  pub not_placed : {b : Bool} → Placed ws i b → not b ≡ true → RowGood d x ws i false
-  not_placed {b} p q = record { is = λ n l. sym (grouped d x (rows_of n ws) i (row_of (drop (i * 16) ws)) ∙ rw (sym (p.is n l) ∙ not-true b q)) }
+  pub not_placed : {b : Bool} → Placed ws i b → b ≡ false → RowGood d x ws i false
+  not_placed {b} p q = record { is = λ n l. sym (grouped d x (rows_of n ws) i (row_of (drop (i * 16) ws)) ∙ rw (sym (p.is n l) ∙ q)) }
 
-  pub bad_front : {b : Bool} → Front d x ws i b → not b ≡ true → RowGood d x ws i false
-  bad_front {b} p q = record { is = λ n l. sym (grouped d x (rows_of n ws) i (row_of (drop (i * 16) ws)) ∙ rw (sym p.is ∙ not-true b q, and-false)) }
+  pub bad_front : {b : Bool} → Front d x ws i b → b ≡ false → RowGood d x ws i false
+  bad_front {b} p q = record { is = λ n l. sym (grouped d x (rows_of n ws) i (row_of (drop (i * 16) ws)) ∙ rw (sym p.is ∙ q, and-false)) }
 
-  pub bad_back : {b : Bool} → Back d x ws i b → not b ≡ true → RowGood d x ws i false
-  bad_back {b} p q = record { is = λ n l. sym (grouped d x (rows_of n ws) i (row_of (drop (i * 16) ws)) ∙ rw (sym p.is ∙ not-true b q, and-false)) }
+  pub bad_back : {b : Bool} → Back d x ws i b → b ≡ false → RowGood d x ws i false
+  bad_back {b} p q = record { is = λ n l. sym (grouped d x (rows_of n ws) i (row_of (drop (i * 16) ws)) ∙ rw (sym p.is ∙ q, and-false)) }
 
   module _ {k v : ℕ} {w : Bool} (a : Word ws i 0 k) (c : Word ws i 14 v) (e : w ≡ valid_word k v) where
     word : valid_word (get_or (drop (i * 16) ws) 0 0) (get_or (drop (i * 16) ws) 14 0) ≡ w
     word = sym (rw (← word_in a, ← word_in c) e)
 
-    pub bad_word : not w ≡ true → RowGood d x ws i false
-    bad_word q = record { is = λ n l. sym (grouped d x (rows_of n ws) i (row_of (drop (i * 16) ws)) ∙ rw (word ∙ not-true w q, and-false)) }
+    pub bad_word : w ≡ false → RowGood d x ws i false
+    bad_word q = record { is = λ n l. sym (grouped d x (rows_of n ws) i (row_of (drop (i * 16) ws)) ∙ rw (word ∙ q, and-false)) }
 
-    pub last_word : {m f b : Bool} {z : ℕ} → Placed ws i m → not m ≡ false → Front d x ws i f → not f ≡ false → Back d x ws i b → not b ≡ false → not w ≡ false → Word ws i 15 z → RowGood d x ws i (ltb z (length d))
+    pub last_word : {m f b : Bool} {z : ℕ} → Placed ws i m → m ≡ true → Front d x ws i f → f ≡ true → Back d x ws i b → b ≡ true → w ≡ true → Word ws i 15 z → RowGood d x ws i (ltb z (length d))
     last_word {m} {f} {b} p o g h j q u y = record {
       is = λ n l.
           sym
           (grouped d x (rows_of n ws) i (row_of (drop (i * 16) ws))
-          ∙ rw (sym (p.is n l) ∙ not-false m o, sym g.is ∙ not-false f h, sym j.is ∙ not-false b q, word ∙ not-false w u, ← word_in y));
+          ∙ rw (sym (p.is n l) ∙ o, sym g.is ∙ h, sym j.is ∙ q, word ∙ u, ← word_in y));
     }
 
 pub ruleset whole = (not_placed, bad_front, bad_back, bad_word, last_word, rules)
@@ -146,23 +149,23 @@ pub ruleset whole = (not_placed, bad_front, bad_back, bad_word, last_word, rules
 -- ---- the whole row
 
 module _ {d x ws : List ℕ} {n i : ℕ} {b : Bool} (l : i < n) (g : RowGood d x ws i b) where
-  pub row_bad : not b ≡ true → RowSound d x ws n i false
+  pub row_bad : b ≡ false → RowSound d x ws n i false
   unfolding sound_row
-  row_bad q = record { is = rw (sym (g.is n l) ∙ not-true b q) }
+  row_bad q = record { is = rw (sym (g.is n l) ∙ q) }
 
-  pub row_counted : {r : Bool} → not b ≡ false → Counted d x ws n i r → RowSound d x ws n i r
+  pub row_counted : {r : Bool} → b ≡ true → Counted d x ws n i r → RowSound d x ws n i r
   unfolding sound_row
-  row_counted q c = record { is = c.is ∙ rw (sym (g.is n l) ∙ not-false b q) }
+  row_counted q c = record { is = c.is ∙ rw (sym (g.is n l) ∙ q) }
 
-  pub row_tallied : {o r : Bool} {ts : List ℕ} → not b ≡ false → Prepared d x ws n o ts → o ≡ false → ByTally ws i (get_or ts i 0) r → RowSound d x ws n i r
-  row_tallied q p e t = row_counted q (tally_counts d x (p.tally e) l refl t)
+  pub row_tallied : {r : Bool} {o : Option (Bor (List ℕ))} {ts : Bor (List ℕ)} → b ≡ true → Prepared d x ws n o → o ≡ Some ts → ByTally ws i (get_or ts.now i 0) r → RowSound d x ws n i r
+  row_tallied {ts = ts} q p e t = row_counted q (tally_counts d x (p.tally ts e) l refl t)
 
-module _ {d x ws : List ℕ} {n : ℕ} {o : Bool} {ts : List ℕ} (p : Prepared d x ws n o ts) where
-  pub in_order : o ≡ true → DocumentOrder ws n
+module _ {d x ws : List ℕ} {n : ℕ} {o : Option (Bor (List ℕ))} (p : Prepared d x ws n o) where
+  pub in_order : o ≡ None → DocumentOrder ws n
   in_order e = p.order e
 
-  pub tally_room : {i : ℕ} → i < n → o ≡ false → i < length ts
-  tally_room l e = omega (arith, (p.tally e).room)
+  pub tally_room : {i : ℕ} {ts : Bor (List ℕ)} → i < n → o ≡ Some ts → i < length ts.now
+  tally_room {ts = ts} l e = omega (arith, (p.tally ts e).room)
 
 pub ruleset sound_rows = (row_bad, row_counted, row_tallied, in_order, tally_room, rules)
 
@@ -177,30 +180,39 @@ pub check_begins : (d x ws : List ℕ) (n : ℕ) → Checking d x ws n 0
 check_begins d x ws n = record { left = refl; inside = omega arith }
 
 module _ {d x ws : List ℕ} {n i : ℕ} (g : Checking d x ws n i) where
-  pub check_ends : n ≤ i → i ≡ first_bad d x (rows_of n ws) 0 (rows_of n ws)
+  pub check_ends : n ≤ i → FirstBad d x ws n (Ok tt)
   check_ends h =
       let e : i ≡ n = omega (arith, g.inside) in
-      sym (g.left ∙ rw (e, rows_past n ws))
+      let z : first_bad d x (rows_of n ws) 0 (rows_of n ws) ≡ n = g.left ∙ rw (e, rows_past n ws) in
+      record { is = rw (z, le-ltb n n (omega arith)) }
 
   module _ {b : Bool} (h : i < n) (r : RowSound d x ws n i b) where
-    pub check_stops : not b ≡ true → i ≡ first_bad d x (rows_of n ws) 0 (rows_of n ws)
-    check_stops q = sym (g.left ∙ rw (row-at n i ws h, sym r.is ∙ not-true b q))
+    pub check_stops : b ≡ false → FirstBad d x ws n (Err i)
+    check_stops q =
+        let z : first_bad d x (rows_of n ws) 0 (rows_of n ws) ≡ i = g.left ∙ rw (row-at n i ws h, sym r.is ∙ q) in
+        record { is = rw (z, lt-ltb i n h) }
 
-    pub check_more : not b ≡ false → Checking d x ws n (i + 1)
+    pub check_more : b ≡ true → Checking d x ws n (i + 1)
     check_more q = record {
-      left = g.left ∙ rw (add-one, row-at n i ws h, sym r.is ∙ not-false b q);
+      left = g.left ∙ rw (add-one, row-at n i ws h, sym r.is ∙ q);
       inside = omega arith;
     }
 
-pub ruleset checks = (check_begins, check_ends, check_stops, check_more, start_none, rules)
+pub known_inside : {s : List ℕ} {u : ℕ} → Start s u → u ≤ length s
+known_inside g = g.inside
+
+pub known_formed : {s : List ℕ} {u : ℕ} → Start s u → ill_formed (take u s) ≡ u
+known_formed g = g.is
+
+pub ruleset checks = (check_begins, check_ends, check_stops, check_more, known_inside, known_formed, rules)
 
 -- ---- the ways to it
 
-pub ready_order : (d x : List ℕ) {ws ts : List ℕ} {n : ℕ} {o : Bool} → Orders ws n o → o ≡ true → Prepared d x ws n true ts
-ready_order d x g e = record { order = λ q. g.is e; tally = λ q. let z : ◌≡◌ {A = ℕ} 0 1 = cc in absurd (omega arith) }
+pub ready_order : (d x : List ℕ) {ws : List ℕ} {n : ℕ} {o : Bool} → Orders ws n o → o ≡ true → Prepared d x ws n None
+ready_order d x g e = record { order = λ q. g.is e; tally = λ ts q. let z : ◌≡◌ {A = ℕ} 0 1 = cc in absurd (omega arith) }
 
-pub ready_tally : {d x ws ts : List ℕ} {n : ℕ} → Tallied d x ws n n ts → Prepared d x ws n false ts
-ready_tally g = record { order = λ q. let z : ◌≡◌ {A = ℕ} 0 1 = cc in absurd (omega arith); tally = λ q. g }
+pub ready_tally : {d x ws : List ℕ} {n : ℕ} {ts : Bor (List ℕ)} → Tallied d x ws n n ts.now → Prepared d x ws n (Some ts)
+ready_tally {ts = ts} g = record { order = λ q. let z : ◌≡◌ {A = ℕ} 0 1 = cc in absurd (omega arith); tally = λ us q. let z : ts ≡ us = cc in rw (← z) g }
 
 pub ruleset ways = (ready_order, ready_tally, tally_begins, rules)
 
@@ -209,32 +221,31 @@ pub ruleset ways = (ready_order, ready_tally, tally_begins, rules)
 pub held_words : (n : ℕ) (ws : List ℕ) → n ≤ length ws / 16 → n * 16 ≤ length ws
 held_words n ws h = omega (arith, div-mul-le_self (length ws) 16)
 
+-- of a buffer nothing is known yet
+pub none_formed : ill_formed [] ≡ 0
+none_formed = (start_none []).is
+
 module _ (d x ws : List ℕ) (n : ℕ) where
-  pub too_many : 262144 < n → Judges d x ws n (Soundness.Unsound 262144)
+  pub too_many : 262144 < n → Judges d x ws n (Err 262144)
   unfolding soundness
   too_many h = record { is = rw (lt-ltb 262144 n h) }
 
   module _ (c : n ≤ 262144) where
-    pub too_few : length ws / 16 < n → Judges d x ws n (Soundness.Unsound (length ws / 16))
+    pub too_few : length ws / 16 < n → Judges d x ws n (Err (length ws / 16))
     unfolding soundness
     too_few h = record { is = rw (le-ltb 262144 n c, lt-ltb (length ws / 16) n h) }
 
-    module _ {b : ℕ} (h : n ≤ length ws / 16) (e : b ≡ first_bad d x (rows_of n ws) 0 (rows_of n ws)) where
-      pub one_bad : b < n → Judges d x ws n (Soundness.Unsound b)
-      unfolding soundness
-      one_bad l = record { is = rw (le-ltb 262144 n c, le-ltb (length ws / 16) n h, ← e, lt-ltb b n l) }
+    pub by_first : {r : Result Unit ℕ} → n ≤ length ws / 16 → FirstBad d x ws n r → Judges d x ws n r
+    unfolding soundness
+    by_first h e = record { is = e.is ∙ rw (le-ltb 262144 n c, le-ltb (length ws / 16) n h) }
 
-      pub all_good : n ≤ b → Judges d x ws n Soundness.Sound
-      unfolding soundness
-      all_good l = record { is = rw (le-ltb 262144 n c, le-ltb (length ws / 16) n h, ← e, le-ltb b n l) }
-
-pub ruleset judges = (held_words, too_many, too_few, one_bad, all_good, rules)
+pub ruleset judges = (held_words, none_formed, too_many, too_few, by_first, rules)
 
 -- ---- for whoever matches on what the check says
 
-module _ {d x ws : List ℕ} {n : ℕ} {r : Soundness} (g : Judges d x ws n r) where
-  pub judged_sound : r ≡ Soundness.Sound → soundness d x ws n ≡ sound
+module _ {d x ws : List ℕ} {n : ℕ} {r : Result Unit ℕ} (g : Judges d x ws n r) where
+  pub judged_sound : {u : Unit} → r ≡ Ok u → soundness d x ws n ≡ sound
   judged_sound e = sym (rw e at g).is
 
-  pub judged_unsound : {p : ℕ} → r ≡ Soundness.Unsound p → soundness d x ws n ≡ unsound p
+  pub judged_unsound : {p : ℕ} → r ≡ Err p → soundness d x ws n ≡ unsound p
   judged_unsound e = sym (rw e at g).is

@@ -19,7 +19,7 @@ use Rattle.document.specs.Kinds as kinds
 use Rattle.items.specs.Words.{RowWords, Word, TripleIs, row_of, rows_of, is_child}
 use Rattle.items.specs.Sound.{members_of, any_member, keyed, counted}
 use Rattle.items.proofs.Words.{word_in}
-use Rattle.soundness.specs.Outcome.{tally_of, added, More, Tallied, Zeros, ByTally, Counted}
+use Rattle.soundness.specs.Outcome.{tally_of, added, More, Tallied, ByTally, Counted}
 
 -- ---- one member more
 
@@ -135,18 +135,13 @@ pub ruleset tallied = (tally_ends, rules)
 
 -- ---- no member yet
 
-pub no_tallies : (m : ℕ) → Zeros m (replicate m 0)
-no_tallies m = record { long = length-replicate {A = ℕ} m 0; is = λ i. zero_at m i }
-  where
-    zero_at : (n k : ℕ) → ◌≡◌ {A = ℕ} (get_or (replicate n 0) k 0) 0
-    zero_at zero k = refl
-    zero_at (suc n) zero = refl
-    zero_at (suc n) (suc k) = zero_at n k
+zero_at : (m k : ℕ) → ◌≡◌ {A = ℕ} (get_or (replicate m 0) k 0) 0
+zero_at zero k = refl
+zero_at (suc m) zero = refl
+zero_at (suc m) (suc k) = zero_at m k
 
-pub tally_begins : (d x ws : List ℕ) {n m : ℕ} {ts : List ℕ} → Zeros m ts → n ≤ m → Tallied d x ws n 0 ts
-tally_begins d x ws z l = record { room = omega (arith, z.long); is = λ i h. z.is i }
-
-pub ruleset blanks = (tally_begins, rules)
+pub tally_begins : (d x ws : List ℕ) {n m : ℕ} → n ≤ m → Tallied d x ws n 0 (replicate m 0)
+tally_begins d x ws {m = m} l = record { room = omega (arith, length-replicate {A = ℕ} m 0); is = λ i h. zero_at m i }
 
 -- ---- the members that a kind needs
 

@@ -6,43 +6,50 @@ use mathlib.Core.List.{List}
 use mathlib.Core.Bool.{Bool, true, false, not, ◌&&◌, and-true, and-false}
 use borrow.Author.Rules.{rules}
 use borrow.Author.Tests.{eqb-true, ne_eqb, le-leb, lt-leb}
-use lib.Dec.{eqb}
+use lib.Dec.{eqb, leb}
 use lib.ListN.{length, take, drop}
 use Rattle.slices.specs.Bytes.{if}
 use Rattle.utf8.specs.WellFormed.{well_formed}
 use Rattle.tables.specs.Triple.{inside, shown}
 use Rattle.tables.specs.declared.Triple.{Triple}
-use Rattle.names.proofs.Codes.{flag_on, flag_off}
 use Rattle.document.specs.Elements.{among}
 use Rattle.items.specs.Words.{absent}
 use Rattle.items.specs.Sound.{Use, nameless, tp_typed, unused, optional, required, name_use, value_use, tp_use, doc_use, valid_name, valid_value, any_text, good_triple, in_document}
-use Rattle.soundness.specs.Outcome.{may_lack_name, uses_value, uses_tp, is_text, good_doc}
+use Rattle.soundness.specs.Outcome.{may_lack_name, uses_value, uses_tp, is_part, is_text, good_doc}
 
 -- ---- a text
 
+module _ (s : List ℕ) (t : Triple) where
+  pub part_past : length s < t.start + t.len → false ≡ is_part s t
+  unfolding is_part
+  part_past l = rw (lt-leb (t.start + t.len) (length s) l)
+
+  pub part_in : {r : Bool} → t.start + t.len ≤ length s → r ≡ well_formed (take t.len (drop t.start s)) → r ≡ is_part s t
+  unfolding is_part
+  part_in l h = h ∙ rw (le-leb (t.start + t.len) (length s) l)
+
 module _ (d x : List ℕ) (t : Triple) where
-  pub text_past : t.source ≡ 1 → length d < t.start + t.len → false ≡ is_text d x t
+  pub text_of_document : {r : Bool} → t.source ≡ 1 → r ≡ is_part d t → r ≡ is_text d x t
+  unfolding is_text is_part shown
+  text_of_document e h = h ∙ go (leb (t.start + t.len) (length d)) refl
+    where
+      go : (b : Bool) → leb (t.start + t.len) (length d) ≡ b → leb (t.start + t.len) (length d) && well_formed (take t.len (drop t.start d)) ≡ is_text d x t
+      go true z = rw (e, z)
+      go false z = rw (e, z)
+
+  pub text_of_text : {r : Bool} → t.source ≡ 2 → r ≡ is_part x t → r ≡ is_text d x t
+  unfolding is_text is_part shown
+  text_of_text e h = h ∙ go (leb (t.start + t.len) (length x)) refl
+    where
+      go : (b : Bool) → leb (t.start + t.len) (length x) ≡ b → leb (t.start + t.len) (length x) && well_formed (take t.len (drop t.start x)) ≡ is_text d x t
+      go true z = rw (e, z)
+      go false z = rw (e, z)
+
+  pub text_nowhere : (t.source ≡ 1 → ⊥) → (t.source ≡ 2 → ⊥) → false ≡ is_text d x t
   unfolding is_text
-  text_past e l = rw (e, lt-leb (t.start + t.len) (length d) l)
+  text_nowhere n e = rw (ne_eqb t.source 1 n, ne_eqb t.source 2 e)
 
-  pub text_in : {r : Bool} → t.source ≡ 1 → t.start + t.len ≤ length d → r ≡ well_formed (take t.len (drop t.start d)) → r ≡ is_text d x t
-  unfolding is_text shown
-  text_in e l h = h ∙ rw (e, le-leb (t.start + t.len) (length d) l)
-
-  module _ (n : t.source ≡ 1 → ⊥) where
-    pub text_nowhere : (t.source ≡ 2 → ⊥) → false ≡ is_text d x t
-    unfolding is_text
-    text_nowhere e = rw (ne_eqb t.source 1 n, ne_eqb t.source 2 e)
-
-    pub text_past_text : t.source ≡ 2 → length x < t.start + t.len → false ≡ is_text d x t
-    unfolding is_text
-    text_past_text e l = rw (e, lt-leb (t.start + t.len) (length x) l)
-
-    pub text_in_text : {r : Bool} → t.source ≡ 2 → t.start + t.len ≤ length x → r ≡ well_formed (take t.len (drop t.start x)) → r ≡ is_text d x t
-    unfolding is_text shown
-    text_in_text e l h = h ∙ rw (e, le-leb (t.start + t.len) (length x) l)
-
-pub ruleset in_buffers = (text_past, text_in, text_nowhere, text_past_text, text_in_text, rules)
+pub ruleset in_buffers = (part_past, part_in, text_of_document, text_of_text, text_nowhere, rules)
 
 -- ---- a triple where a kind may or must have one
 
@@ -92,14 +99,14 @@ module _ (d x : List ℕ) (k : ℕ) (t : Triple) {a : Bool} (e : a ≡ absent t)
   name_absent h q = q ∙ sym (good_absent d x (name_use k) (valid_name k) t (sym e ∙ h) ∙ either_not (among k nameless))
 
   module _ {b : Bool} (h : a ≡ false) (f : b ≡ is_text d x t) where
-    pub name_no_text : not b ≡ true → false ≡ good_triple d x (name_use k) (valid_name k) t
-    name_no_text q = sym (good_no_text d x (name_use k) (valid_name k) t (sym e ∙ h) (flag_off f q))
+    pub name_no_text : b ≡ false → false ≡ good_triple d x (name_use k) (valid_name k) t
+    name_no_text q = sym (good_no_text d x (name_use k) (valid_name k) t (sym e ∙ h) (sym f ∙ q))
 
-    pub name_text : {s : List ℕ} {r : Bool} → not b ≡ false → s ≡ shown d x t → r ≡ valid_name k s → r ≡ good_triple d x (name_use k) (valid_name k) t
+    pub name_text : {s : List ℕ} {r : Bool} → b ≡ true → s ≡ shown d x t → r ≡ valid_name k s → r ≡ good_triple d x (name_use k) (valid_name k) t
     name_text q g v =
         v
         ∙ ap (valid_name k) g
-        ∙ sym (good_text d x (name_use k) (valid_name k) t (sym e ∙ h) (either_named (among k nameless)) (flag_on f q))
+        ∙ sym (good_text d x (name_use k) (valid_name k) t (sym e ∙ h) (either_named (among k nameless)) (sym f ∙ q))
 
 pub ruleset named = (name_absent, name_no_text, name_text, rules)
 
@@ -121,26 +128,26 @@ module _ (d x : List ℕ) (k : ℕ) (t : Triple) where
     unfolding uses_value
     needed e = ap not (either_needed (uses_value k) ∙ e)
 
-    pub value_unused : {r : Bool} → not u ≡ true → r ≡ absent t → r ≡ good_triple d x (value_use k) (valid_value k) t
+    pub value_unused : {r : Bool} → u ≡ false → r ≡ absent t → r ≡ good_triple d x (value_use k) (valid_value k) t
     value_unused q e = e ∙ go (absent t) refl
       where
         go : (b : Bool) → absent t ≡ b → absent t ≡ good_triple d x (value_use k) (valid_value k) t
-        go true f = f ∙ sym (good_absent d x (value_use k) (valid_value k) t f ∙ needed (flag_off n q))
-        go false f = f ∙ sym (good_unused d x (value_use k) (valid_value k) t f (used (flag_off n q)))
+        go true f = f ∙ sym (good_absent d x (value_use k) (valid_value k) t f ∙ needed (sym n ∙ q))
+        go false f = f ∙ sym (good_unused d x (value_use k) (valid_value k) t f (used (sym n ∙ q)))
 
-    module _ {a : Bool} (q : not u ≡ false) (e : a ≡ absent t) where
+    module _ {a : Bool} (q : u ≡ true) (e : a ≡ absent t) where
       pub value_absent : a ≡ true → false ≡ good_triple d x (value_use k) (valid_value k) t
-      value_absent h = sym (good_absent d x (value_use k) (valid_value k) t (sym e ∙ h) ∙ needed (flag_on n q))
+      value_absent h = sym (good_absent d x (value_use k) (valid_value k) t (sym e ∙ h) ∙ needed (sym n ∙ q))
 
       module _ {b : Bool} (h : a ≡ false) (f : b ≡ is_text d x t) where
-        pub value_no_text : not b ≡ true → false ≡ good_triple d x (value_use k) (valid_value k) t
-        value_no_text w = sym (good_no_text d x (value_use k) (valid_value k) t (sym e ∙ h) (flag_off f w))
+        pub value_no_text : b ≡ false → false ≡ good_triple d x (value_use k) (valid_value k) t
+        value_no_text w = sym (good_no_text d x (value_use k) (valid_value k) t (sym e ∙ h) (sym f ∙ w))
 
-        pub value_text : {s : List ℕ} {r : Bool} → not b ≡ false → s ≡ shown d x t → r ≡ valid_value k s → r ≡ good_triple d x (value_use k) (valid_value k) t
+        pub value_text : {s : List ℕ} {r : Bool} → b ≡ true → s ≡ shown d x t → r ≡ valid_value k s → r ≡ good_triple d x (value_use k) (valid_value k) t
         value_text w g v =
             v
             ∙ ap (valid_value k) g
-            ∙ sym (good_text d x (value_use k) (valid_value k) t (sym e ∙ h) (used (flag_on n q)) (flag_on f w))
+            ∙ sym (good_text d x (value_use k) (valid_value k) t (sym e ∙ h) (used (sym n ∙ q)) (sym f ∙ w))
 
 pub ruleset valued = (value_unused, value_absent, value_no_text, value_text, rules)
 
@@ -161,11 +168,11 @@ module _ (d x : List ℕ) (k : ℕ) (t : Triple) {a : Bool} (e : a ≡ absent t)
     unfolding uses_tp
     typed f = either_typed (uses_tp k) ∙ f
 
-    pub tp_unused : not u ≡ true → false ≡ good_triple d x (tp_use k) any_text t
-    tp_unused q = sym (good_unused d x (tp_use k) any_text t (sym e ∙ h) (typed (flag_off n q)))
+    pub tp_unused : u ≡ false → false ≡ good_triple d x (tp_use k) any_text t
+    tp_unused q = sym (good_unused d x (tp_use k) any_text t (sym e ∙ h) (typed (sym n ∙ q)))
 
-    pub tp_text : {r : Bool} → not u ≡ false → r ≡ is_text d x t → r ≡ good_triple d x (tp_use k) any_text t
-    tp_text q f = f ∙ sym (good_any d x (tp_use k) any_text t (sym e ∙ h) (typed (flag_on n q)))
+    pub tp_text : {r : Bool} → u ≡ true → r ≡ is_text d x t → r ≡ good_triple d x (tp_use k) any_text t
+    tp_text q f = f ∙ sym (good_any d x (tp_use k) any_text t (sym e ∙ h) (typed (sym n ∙ q)))
 
 pub ruleset typed_texts = (tp_absent, tp_unused, tp_text, rules)
 
@@ -203,8 +210,8 @@ module _ (d x : List ℕ) (k : ℕ) (t : Triple) {a : Bool} (e : a ≡ absent t)
         go true z = sym (rw (good_no_text d x (doc_use k) any_text t (sym e ∙ h) (nowhere z)))
         go false z = sym (rw (z, ne_eqb t.source 1 q, and-false))
 
-    pub doc_text : {r : Bool} → (k ≡ 6 → ⊥) → t.source ≡ 1 → r ≡ is_text d x t → r ≡ good_doc d x k t
+    pub doc_text : {r : Bool} → (k ≡ 6 → ⊥) → t.source ≡ 1 → r ≡ is_part d t → r ≡ good_doc d x k t
     unfolding good_doc
-    doc_text n q f = f ∙ sym (rw (ne_eqb k 6 n, good_any d x optional any_text t (sym e ∙ h) refl, q, and-true))
+    doc_text n q f = text_of_document d x t q f ∙ sym (rw (ne_eqb k 6 n, good_any d x optional any_text t (sym e ∙ h) refl, q, and-true))
 
 pub ruleset documented = (doc_absent, doc_unused, doc_elsewhere, doc_text, rules)

@@ -1,6 +1,7 @@
 -- What the check of sound rows says, and its parts.
 -- Assumes nothing.
-use Rattle.std.specs.Prelude.{ℕ, suc, ◌*◌, ◌≤◌, ◌<◌, ◌≡◌, Bool, true, false, not, ◌&&◌, ◌||◌, List, [], ◌∷◌, eqb, length, drop, get_or}
+use Rattle.std.specs.Prelude.{ℕ, suc, ◌+◌, ◌*◌, ◌≤◌, ◌<◌, ◌≡◌, Bool, true, not, ◌&&◌, ◌||◌, List, [], ◌∷◌, eqb, leb, length, take, drop, get_or, Option, None, Some, Result, Ok, Err}
+use Rattle.std.specs.Borrow.{Bor}
 use Rattle.slices.specs.Bytes.{if}
 use Rattle.utf8.specs.WellFormed.{within, well_formed}
 use Rattle.utf8.specs.Sequence.{continuation}
@@ -11,10 +12,7 @@ use Rattle.document.specs.Elements.{among}
 use Rattle.document.specs.Kinds as kinds
 use Rattle.items.specs.Words.{RowWords, triple_at, row_of, rows_of, is_child}
 use Rattle.items.specs.Order.{parent_at, Under, DocumentOrder}
-use Rattle.items.specs.Sound as definition
-use Rattle.items.specs.Sound.{placed, nameless, valued, tp_typed, good_triple, name_use, value_use, tp_use, doc_use, valid_name, valid_value, any_text, in_document, good_row, members_of, keyed, counted, sound_row, sound, unsound, soundness}
-use Rattle.soundness.specs.declared.Soundness.{Soundness}
-use Rattle.soundness.specs.declared.Soundness.TheVariants.{Sound, Unsound}
+use Rattle.items.specs.Sound.{placed, nameless, valued, tp_typed, good_triple, name_use, value_use, tp_use, doc_use, valid_name, valid_value, any_text, in_document, good_row, members_of, keyed, counted, sound_row, first_bad, judged, Soundness, sound, unsound, soundness}
 
 -- by kind: the name may be missing; words 5-7 are used; there may be a tp type
 unfoldable pub may_lack_name : ℕ → Bool
@@ -30,7 +28,10 @@ uses_tp k = among k tp_typed
 unfoldable pub edge : List ℕ → ℕ → ℕ → Bool
 edge s u at = eqb at u || not (within continuation (get_or s at 0))
 
--- a triple leads to a part of its buffer that is UTF-8
+-- a triple leads to a part of a buffer that is UTF-8, and of its buffer
+unfoldable pub is_part : List ℕ → Triple → Bool
+is_part s t = leb (t.start + t.len) (length s) && well_formed (take t.len (drop t.start s))
+
 unfoldable pub is_text : List ℕ → List ℕ → Triple → Bool
 is_text document text t = inside document text t && well_formed (shown document text t)
 
@@ -78,11 +79,16 @@ pub record Member (ws : List ℕ) (i k : ℕ) (r : Bool) : Type 0 where
 abbrev pub members_from : List ℕ → ℕ → ℕ → ℕ → List RowWords
 members_from ws n i k = members_of (suc i) (drop k (rows_of n ws))
 
--- r is the first of them, after row i, or n
-pub record NextMember (ws : List ℕ) (n i from r : ℕ) : Type 0 where
-  pub onward : r < n → i < r
-  pub some : r < n → members_from ws n i from ≡ row_of (drop (r * 16) ws) ∷ members_from ws n i (suc r)
-  pub none : n ≤ r → members_from ws n i from ≡ []
+-- row k is the first of them, after row i
+pub record FirstMember (ws : List ℕ) (n i from k : ℕ) : Type 0 where
+  pub onward : i < k
+  pub inside : k < n
+  pub is : members_from ws n i from ≡ row_of (drop (k * 16) ws) ∷ members_from ws n i (suc k)
+
+-- the first of them, if there is one
+pub record NextMember (ws : List ℕ) (n i from : ℕ) (r : Option ℕ) : Type 0 where
+  pub some : (k : ℕ) → r ≡ Some k → FirstMember ws n i from k
+  pub none : r ≡ None → members_from ws n i from ≡ []
 
 -- row i is a good mapping by the members after it; by all members of it, it has those that its kind needs
 pub record Keyed (document text ws : List ℕ) (n i : ℕ) (r : Bool) : Type 0 where
@@ -110,11 +116,6 @@ pub record Tallied (document text ws : List ℕ) (n k : ℕ) (tallies : List ℕ
   pub room : n ≤ length tallies
   pub is : (i : ℕ) → i < n → get_or tallies i 0 ≡ tally_of document text (members_of (suc i) (rows_of k ws))
 
--- zeros, so many
-pub record Zeros (n : ℕ) (tallies : List ℕ) : Type 0 where
-  pub long : length tallies ≡ n
-  pub is : (i : ℕ) → get_or tallies i 0 ≡ 0
-
 -- by its tally t, row i has the members that its kind needs
 abbrev pub counted_by : ℕ → ℕ → Bool
 counted_by k t = if (eqb k kinds.struct) (not (eqb t 0)) (if (eqb k kinds.mapping) (eqb t 3) true)
@@ -123,18 +124,22 @@ pub record ByTally (ws : List ℕ) (i t : ℕ) (r : Bool) : Type 0 where
   pub is : r ≡ counted_by (row_of (drop (i * 16) ws)).kind t
 
 -- n rows are in document order, or there is a tally for each
-pub record Prepared (document text ws : List ℕ) (n : ℕ) (ordered : Bool) (tallies : List ℕ) : Type 0 where
-  pub order : ordered ≡ true → DocumentOrder ws n
-  pub tally : ordered ≡ false → Tallied document text ws n n tallies
+pub record Prepared (document text ws : List ℕ) (n : ℕ) (tallies : Option (Bor (List ℕ))) : Type 0 where
+  pub order : tallies ≡ None → DocumentOrder ws n
+  pub tally : (ts : Bor (List ℕ)) → tallies ≡ Some ts → Tallied document text ws n n ts.now
 
 -- row i of n is sound
 pub record RowSound (document text ws : List ℕ) (n i : ℕ) (r : Bool) : Type 0 where
   pub is : r ≡ sound_row document text (rows_of n ws) i (row_of (drop (i * 16) ws))
 
--- what the check says of n rows
-abbrev pub soundness_of : Soundness → definition.Soundness
-soundness_of Sound = sound
-soundness_of (Unsound p) = unsound p
+-- what the check says of n rows: they are sound, or the place of the refusal
+abbrev pub soundness_of : Result Unit ℕ → Soundness
+soundness_of (Ok u) = sound
+soundness_of (Err place) = unsound place
 
-pub record Judges (document text ws : List ℕ) (n : ℕ) (r : Soundness) : Type 0 where
+-- the first bad row of n is the place
+pub record FirstBad (document text ws : List ℕ) (n : ℕ) (r : Result Unit ℕ) : Type 0 where
+  pub is : soundness_of r ≡ judged n (first_bad document text (rows_of n ws) 0 (rows_of n ws))
+
+pub record Judges (document text ws : List ℕ) (n : ℕ) (r : Result Unit ℕ) : Type 0 where
   pub is : soundness_of r ≡ soundness document text ws n

@@ -4,26 +4,22 @@ ghost use Rattle.utf8.specs.WellFormed.{well_formed};
 ghost use Rattle.utf8.specs.Trim.{Start};
 ghost use Rattle.soundness.specs.Outcome.{edge};
 
-// Whether a place is u, or one with a byte that continues no character.
-fn is_edge(s: &[u8], u: usize, at: usize) -> bool
-    requires fact_1 { u ≤ length s.now }
-    requires fact_2 { at ≤ u }
-    ensures { result ≡ edge s.now u at }
+use super::lent::Buffer;
+
+// Whether a place is the end of the known beginning, or has a byte that continues no character.
+#[tactic(auto, unfolding(crate::specs::Outcome::edge))]
+fn is_edge(buffer: &Buffer, at: usize) -> bool
+    requires { at ≤ buffer.now.known }
+    ensures { result ≡ edge buffer.now.bytes.now buffer.now.known at }
 {
-    if at == u {
-        return true;
-    }
-    let b = s[at];
-    if b < 128 {
-        return true;
-    }
-    191 < b
+    at == buffer.known || !matches!(buffer.bytes[at], 128..=191)
 }
 
 // Whether the bytes from a place up to another are UTF-8, by all of them; one byte is if it is below 128.
+#[tactic(auto, using(crate::proofs::Known::checked))]
 fn is_checked(s: &[u8], from: usize, end: usize) -> bool
-    requires fact_1 { from < end }
-    requires fact_2 { end ≤ length s.now }
+    requires some { from < end }
+    requires inside { end ≤ length s.now }
     ensures { result ≡ well_formed (take (end - from) (drop from s.now)) }
 {
     if end - from == 1 {
@@ -32,35 +28,39 @@ fn is_checked(s: &[u8], from: usize, end: usize) -> bool
     utf8::ill_formed(&s[from..end]) == end - from
 }
 
-// Whether `len` bytes from a place are UTF-8, of a buffer whose first u bytes are.
-pub fn is_formed(s: &[u8], u: usize, from: usize, len: usize) -> bool
-    requires fact_1 { Start s.now u }
-    requires fact_2 { from + len ≤ length s.now }
-    ensures { result ≡ well_formed (take len (drop from s.now)) }
+// Whether `len` bytes of a buffer from a place on are UTF-8.
+#[tactic(auto, using(crate::proofs::Known::parts))]
+pub fn is_formed(buffer: &Buffer, from: usize, len: usize) -> bool
+    requires { from + len ≤ length buffer.now.bytes.now }
+    ensures { result ≡ well_formed (take len (drop from buffer.now.bytes.now)) }
 {
     if len == 0 {
         return true;
     }
     let end = from + len;
-    if u < end {
-        return is_checked(s, from, end);
+    if buffer.known < end {
+        return is_checked(buffer.bytes, from, end);
     }
-    if !is_edge(s, u, from) {
-        return false;
-    }
-    is_edge(s, u, end)
+    is_edge(buffer, from) && is_edge(buffer, end)
 }
 
-// How many bytes of a buffer are known to be UTF-8: all before the first ill-formed sequence if that is to be found out; or those before the
-// first byte from 128 on, which costs little; or none.
-pub fn known(s: &[u8], look: bool, glance: bool) -> usize
+// How much of a buffer is looked through, before the texts in it: all before the first ill-formed sequence; what stands before the first byte
+// from 128 on, which costs little; or nothing.
+#[derive(Clone, Copy)]
+pub enum Look {
+    Whole,
+    Ascii,
+    Nothing,
+}
+
+// How many bytes of a buffer are then known to be UTF-8.
+#[tactic(auto, using(crate::proofs::Known::looks))]
+pub fn known(s: &[u8], look: Look) -> usize
     ensures { Start s.now result }
 {
-    if look {
-        return utf8::ill_formed(s);
+    match look {
+        Look::Whole => utf8::ill_formed(s),
+        Look::Ascii => utf8::ascii_start(s),
+        Look::Nothing => 0,
     }
-    if glance {
-        return utf8::ascii_start(s);
-    }
-    0
 }

@@ -8,103 +8,94 @@ ghost use Rattle.soundness.specs.Outcome.{may_lack_name, uses_value, uses_tp};
 use document::kinds;
 
 // Whether a row of kind `c` may stand in a node.
+#[tactic(auto, unfolding(document::specs::Elements::may_hold))]
 fn node_holds(c: u32) -> bool
     ensures { result ≡ may_hold kinds.node c }
 {
-    match c {
-        kinds::NODE => true,
-        kinds::INTERFACE => true,
-        kinds::SIMPLE_TYPE => true,
-        kinds::ENUM => true,
-        kinds::STRUCT => true,
-        kinds::MAPPING => true,
-        _ => false,
-    }
+    matches!(
+        c,
+        kinds::NODE
+            | kinds::INTERFACE
+            | kinds::SIMPLE_TYPE
+            | kinds::ENUM
+            | kinds::STRUCT
+            | kinds::MAPPING
+    )
 }
 
 // The same in an interface.
+#[tactic(auto, unfolding(document::specs::Elements::may_hold))]
 fn interface_holds(c: u32) -> bool
     ensures { result ≡ may_hold kinds.interface c }
 {
-    match c {
-        kinds::METHOD => true,
-        kinds::PROPERTY => true,
-        kinds::SIGNAL => true,
-        kinds::ANNOTATION => true,
-        kinds::SIMPLE_TYPE => true,
-        kinds::ENUM => true,
-        kinds::STRUCT => true,
-        kinds::MAPPING => true,
-        _ => false,
-    }
+    matches!(
+        c,
+        kinds::METHOD
+            | kinds::PROPERTY
+            | kinds::SIGNAL
+            | kinds::ANNOTATION
+            | kinds::SIMPLE_TYPE
+            | kinds::ENUM
+            | kinds::STRUCT
+            | kinds::MAPPING
+    )
 }
 
 // The same in a method or a signal.
+#[tactic(auto, unfolding(document::specs::Elements::may_hold))]
 fn method_holds(c: u32) -> bool
     ensures { result ≡ may_hold kinds.method c }
 {
-    match c {
-        kinds::ANNOTATION => true,
-        kinds::ARG => true,
-        _ => false,
-    }
+    matches!(c, kinds::ANNOTATION | kinds::ARG)
 }
 
 // Whether a row of kind `c` may stand in one of kind `k`.
+#[tactic(auto, unfolding(document::specs::Elements::may_hold))]
 pub fn may_hold(k: u32, c: u32) -> bool
     ensures { result ≡ may_hold k c }
 {
     match k {
         kinds::NODE => node_holds(c),
         kinds::INTERFACE => interface_holds(c),
-        kinds::METHOD => method_holds(c),
-        kinds::PROPERTY => c == kinds::ANNOTATION,
-        kinds::SIGNAL => method_holds(c),
-        kinds::ARG => c == kinds::ANNOTATION,
+        kinds::METHOD | kinds::SIGNAL => method_holds(c),
+        kinds::PROPERTY | kinds::ARG => c == kinds::ANNOTATION,
         kinds::ENUM => c == kinds::ENUMVALUE,
-        kinds::STRUCT => c == kinds::MEMBER,
-        kinds::MAPPING => c == kinds::MEMBER,
+        kinds::STRUCT | kinds::MAPPING => c == kinds::MEMBER,
         _ => false,
     }
 }
 
 // Whether the name may be missing.
+#[tactic(auto, unfolding(crate::specs::Outcome::may_lack_name))]
 pub fn may_lack_name(kind: u32) -> bool
     ensures { result ≡ may_lack_name kind }
 {
-    match kind {
-        kinds::NODE => true,
-        kinds::ARG => true,
-        _ => false,
-    }
+    matches!(kind, kinds::NODE | kinds::ARG)
 }
 
 // Whether words 5-7 are used.
+#[tactic(auto, unfolding(crate::specs::Outcome::uses_value))]
 pub fn uses_value(kind: u32) -> bool
     ensures { result ≡ uses_value kind }
 {
-    match kind {
-        kinds::PROPERTY => true,
-        kinds::ANNOTATION => true,
-        kinds::ARG => true,
-        kinds::SIMPLE_TYPE => true,
-        kinds::ENUM => true,
-        kinds::ENUMVALUE => true,
-        kinds::MEMBER => true,
-        _ => false,
-    }
+    matches!(
+        kind,
+        kinds::PROPERTY
+            | kinds::ANNOTATION
+            | kinds::ARG
+            | kinds::SIMPLE_TYPE
+            | kinds::ENUM
+            | kinds::ENUMVALUE
+            | kinds::MEMBER
+    )
 }
 
 // Whether there may be a tp type.
+#[tactic(auto, unfolding(crate::specs::Outcome::uses_tp))]
 pub fn uses_tp(kind: u32) -> bool
     ensures { result ≡ uses_tp kind }
 {
-    match kind {
-        kinds::PROPERTY => true,
-        kinds::ARG => true,
-        kinds::MEMBER => true,
-        _ => false,
-    }
+    matches!(kind, kinds::PROPERTY | kinds::ARG | kinds::MEMBER)
 }
 
 // Whether a text is a name that a kind may have.
@@ -113,9 +104,8 @@ pub fn valid_name(kind: u32, s: &[u8]) -> bool
 {
     match kind {
         kinds::INTERFACE => names::interface_name(s),
-        kinds::METHOD => names::member_name(s),
+        kinds::METHOD | kinds::SIGNAL => names::member_name(s),
         kinds::PROPERTY => names::property_name(s),
-        kinds::SIGNAL => names::member_name(s),
         _ => true,
     }
 }
@@ -125,11 +115,8 @@ pub fn valid_value(kind: u32, s: &[u8]) -> bool
     ensures { result ≡ valid_value kind s.now }
 {
     match kind {
-        kinds::PROPERTY => names::signature(s),
-        kinds::ARG => names::signature(s),
-        kinds::SIMPLE_TYPE => shown::texts::some_signature(s),
-        kinds::ENUM => shown::texts::some_signature(s),
-        kinds::MEMBER => shown::texts::some_signature(s),
+        kinds::PROPERTY | kinds::ARG => names::signature(s),
+        kinds::SIMPLE_TYPE | kinds::ENUM | kinds::MEMBER => shown::texts::some_signature(s),
         _ => true,
     }
 }
@@ -139,12 +126,7 @@ pub fn valid_word(kind: u32, w: u32) -> bool
     ensures { result ≡ valid_word kind w }
 {
     match kind {
-        kinds::PROPERTY => {
-            if w == 0 {
-                return false;
-            }
-            w <= 3
-        }
+        kinds::PROPERTY => matches!(w, 1..=3),
         kinds::ARG => w <= 2,
         _ => w == 0,
     }

@@ -4,9 +4,10 @@ ghost use Rattle.items.specs.Order.{DocumentOrder};
 ghost use Rattle.soundness.specs.Outcome.{Follows, Orders};
 
 // Whether row k's parent is the row before it, or above that; `up` is a row plus one.
+#[tactic(auto, using(crate::proofs::Definitions::walks))]
 fn follows(rows: &[u32], k: usize) -> bool
-    requires fact_1 { k * 16 + 16 ≤ length rows.now }
-    requires fact_2 { DocumentOrder rows.now k }
+    requires held { k * 16 + 16 ≤ length rows.now }
+    requires ordered { DocumentOrder rows.now k }
     ensures { Follows rows.now k result }
 {
     let parent = items::word(rows, k, 1) as usize;
@@ -18,16 +19,15 @@ fn follows(rows: &[u32], k: usize) -> bool
 }
 
 // Whether the first n rows are in document order.
+#[tactic(auto, using(crate::proofs::Definitions::orders))]
 pub fn in_document_order(rows: &[u32], n: usize) -> bool
     requires { n * 16 ≤ length rows.now }
     ensures { Orders rows.now n result }
 {
-    let mut k = 0;
-    while k < n {
+    for k in 0..n {
         if !follows(rows, k) {
             return false;
         }
-        k += 1;
     }
     true
 }

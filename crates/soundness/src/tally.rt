@@ -1,68 +1,60 @@
 // Members counted by parent, in one pass over rows that are not in document order: a byte for each row.
 ghost use Rattle.std.specs.Prelude.{◌+◌, ◌*◌, ◌≤◌, ◌<◌, length};
-ghost use Rattle.soundness.specs.Outcome.{More, Tallied, ByTally, Zeros};
+ghost use Rattle.soundness.specs.Outcome.{More, Tallied, ByTally};
 
+use super::lent::{self, Table};
 use document::kinds;
 
 // What a tally becomes with member k.
-fn more<'a>(document: &'a [u8], text: &'a [u8], rows: &[u32], k: usize, tally: u8) -> u8
-    requires { k * 16 + 16 ≤ length rows.now }
-    ensures { More document.now text.now rows.now k tally result }
+#[tactic(auto, using(crate::proofs::Tallies::mores))]
+fn more(table: &Table, k: usize, tally: u8) -> u8
+    requires { k < table.now.n }
+    ensures { More table.now.document.bytes.now table.now.text.bytes.now
+        table.now.rows.now k tally result }
 {
-    if tally == 0 {
-        if names::basic_signature(tables::lookup(document, text, items::triple(rows, k, 5))) {
-            return 1;
-        }
-        return 2;
+    match tally {
+        0 if names::basic_signature(lent::shown(table, items::triple(table.rows, k, 5))) => 1,
+        0 => 2,
+        1 => 3,
+        _ => 4,
     }
-    if tally == 1 {
-        return 3;
-    }
-    4
 }
 
-// Counts row k, if it is a member of one of n rows.
-fn count<'a>(
-    document: &'a [u8],
-    text: &'a [u8],
-    rows: &[u32],
-    n: usize,
-    tallies: &mut [u8],
-    k: usize,
-)
-    requires fact_1 { n * 16 ≤ length rows.now }
-    requires fact_2 { k < n }
-    requires fact_3 { Tallied document.now text.now rows.now n k tallies.old }
-    ensures { Tallied document.now text.now rows.now n (k + 1) tallies.new }
+// Counts row k, if it is a member of one of the rows.
+#[tactic(auto, using(crate::proofs::Tallies::tallying))]
+fn count(table: &Table, tallies: &mut [u8], k: usize)
+    requires inside { k < table.now.n }
+    requires counted { Tallied table.now.document.bytes.now table.now.text.bytes.now
+        table.now.rows.now table.now.n k tallies.old }
+    ensures { Tallied table.now.document.bytes.now table.now.text.bytes.now
+        table.now.rows.now table.now.n (k + 1) tallies.new }
 {
-    if items::word(rows, k, 0) != kinds::MEMBER {
+    if items::word(table.rows, k, 0) != kinds::MEMBER {
         return;
     }
-    let parent = items::word(rows, k, 1) as usize;
-    if parent == 0 {
-        return;
-    }
-    if n < parent {
+    let parent = items::word(table.rows, k, 1) as usize;
+    if parent == 0 || table.n < parent {
         return;
     }
     let i = parent - 1;
-    tallies[i] = more(document, text, rows, k, tallies[i]);
+    tallies[i] = more(table, k, tallies[i]);
 }
 
-// Counts the members among n rows.
-pub fn count_all<'a>(document: &'a [u8], text: &'a [u8], rows: &[u32], n: usize, tallies: &mut [u8])
-    requires fact_1 { n * 16 ≤ length rows.now }
-    requires fact_2 { Tallied document.now text.now rows.now n 0 tallies.old }
-    ensures { Tallied document.now text.now rows.now n n tallies.new }
+// Counts the members among the rows.
+#[tactic(auto, using(crate::proofs::Tallies::tallied))]
+pub fn count_all(table: &Table, tallies: &mut [u8])
+    requires { Tallied table.now.document.bytes.now table.now.text.bytes.now
+        table.now.rows.now table.now.n 0 tallies.old }
+    ensures { Tallied table.now.document.bytes.now table.now.text.bytes.now
+        table.now.rows.now table.now.n table.now.n tallies.new }
 {
-    let mut k = 0;
-    while k < n {
-        count(document, text, rows, n, tallies, k);
-        k += 1;
+    for k in 0..table.n {
+        count(table, tallies, k);
     }
 }
 
 // Whether row i has the members that its kind needs, by its tally.
+#[tactic(auto, using(crate::proofs::Tallies::by_tally))]
 pub fn is_counted(rows: &[u32], i: usize, tally: u8) -> bool
     requires { i * 16 + 16 ≤ length rows.now }
     ensures { ByTally rows.now i tally result }
@@ -72,17 +64,4 @@ pub fn is_counted(rows: &[u32], i: usize, tally: u8) -> bool
         kinds::MAPPING => tally == 3,
         _ => true,
     }
-}
-
-// No tallies, of few rows and of as many as there may be.
-pub fn few() -> [u8; 4096]
-    ensures { Zeros 4096 result }
-{
-    [0; 4096]
-}
-
-pub fn many() -> [u8; 262144]
-    ensures { Zeros 262144 result }
-{
-    [0; 262144]
 }

@@ -1,125 +1,72 @@
-// Triples of a row: absent, or a text that its kind may have there. The document's first u bytes are known to be UTF-8, and the text's first v.
+// Triples of a row: absent, or a text that its kind may have there.
 ghost use Rattle.std.specs.Prelude.{◌≡◌};
-ghost use Rattle.utf8.specs.Trim.{Start};
 ghost use Rattle.items.specs.Sound.{good_triple, name_use, value_use, tp_use, valid_name, valid_value, any_text};
-ghost use Rattle.soundness.specs.Outcome.{is_text, good_doc};
+ghost use Rattle.soundness.specs.Outcome.{is_part, is_text, good_doc};
 
+use super::lent::{self, Buffer, Table};
 use super::{ends, kinds};
 use tables::Triple;
 
-// Whether a triple leads to a part of its buffer that is UTF-8.
-fn is_text<'a>(document: &'a [u8], text: &'a [u8], u: usize, v: usize, t: Triple) -> bool
-    requires fact_1 { Start document.now u }
-    requires fact_2 { Start text.now v }
-    ensures { result ≡ is_text document.now text.now t }
+// Whether a triple leads to a part of a buffer that is UTF-8.
+#[tactic(auto, using(crate::proofs::Triples::in_buffers))]
+fn is_part(buffer: &Buffer, t: Triple) -> bool
+    ensures { result ≡ is_part buffer.now.bytes.now t }
 {
     let from = t.start as usize;
     let len = t.len as usize;
-    if t.source == 1 {
-        if document.len() < from + len {
-            return false;
-        }
-        return ends::is_formed(document, u, from, len);
+    from + len <= buffer.bytes.len() && ends::is_formed(buffer, from, len)
+}
+
+// The same of the buffer that it names.
+#[tactic(auto, using(crate::proofs::Triples::in_buffers))]
+fn is_text(table: &Table, t: Triple) -> bool
+    ensures { result ≡ is_text table.now.document.bytes.now table.now.text.bytes.now t }
+{
+    match t.source {
+        1 => is_part(&table.document, t),
+        2 => is_part(&table.text, t),
+        _ => false,
     }
-    if t.source != 2 {
-        return false;
-    }
-    if text.len() < from + len {
-        return false;
-    }
-    ends::is_formed(text, v, from, len)
 }
 
 // Words 2-4: the name that a kind must or may have.
-pub fn good_name<'a>(
-    document: &'a [u8],
-    text: &'a [u8],
-    u: usize,
-    v: usize,
-    kind: u32,
-    t: Triple,
-) -> bool
-    requires fact_1 { Start document.now u }
-    requires fact_2 { Start text.now v }
-    ensures { result ≡ good_triple document.now text.now (name_use kind) (valid_name kind) t }
+#[tactic(auto, using(crate::proofs::Triples::named))]
+pub fn good_name(table: &Table, kind: u32, t: Triple) -> bool
+    ensures { result ≡ good_triple table.now.document.bytes.now table.now.text.bytes.now
+        (name_use kind) (valid_name kind) t }
 {
     if items::is_absent(t) {
         return kinds::may_lack_name(kind);
     }
-    if !is_text(document, text, u, v, t) {
-        return false;
-    }
-    kinds::valid_name(kind, tables::lookup(document, text, t))
+    is_text(table, t) && kinds::valid_name(kind, lent::shown(table, t))
 }
 
 // Words 5-7: the value or signature of the kinds that have one.
-pub fn good_value<'a>(
-    document: &'a [u8],
-    text: &'a [u8],
-    u: usize,
-    v: usize,
-    kind: u32,
-    t: Triple,
-) -> bool
-    requires fact_1 { Start document.now u }
-    requires fact_2 { Start text.now v }
-    ensures { result ≡ good_triple document.now text.now (value_use kind) (valid_value kind) t }
+#[tactic(auto, using(crate::proofs::Triples::valued))]
+pub fn good_value(table: &Table, kind: u32, t: Triple) -> bool
+    ensures { result ≡ good_triple table.now.document.bytes.now table.now.text.bytes.now
+        (value_use kind) (valid_value kind) t }
 {
     if !kinds::uses_value(kind) {
         return items::is_absent(t);
     }
-    if items::is_absent(t) {
-        return false;
-    }
-    if !is_text(document, text, u, v, t) {
-        return false;
-    }
-    kinds::valid_value(kind, tables::lookup(document, text, t))
+    !items::is_absent(t) && is_text(table, t) && kinds::valid_value(kind, lent::shown(table, t))
 }
 
 // Words 8-10: the tp type of the kinds that may have one.
-pub fn good_tp<'a>(
-    document: &'a [u8],
-    text: &'a [u8],
-    u: usize,
-    v: usize,
-    kind: u32,
-    t: Triple,
-) -> bool
-    requires fact_1 { Start document.now u }
-    requires fact_2 { Start text.now v }
-    ensures { result ≡ good_triple document.now text.now (tp_use kind) any_text t }
+#[tactic(auto, using(crate::proofs::Triples::typed_texts))]
+pub fn good_tp(table: &Table, kind: u32, t: Triple) -> bool
+    ensures { result ≡ good_triple table.now.document.bytes.now table.now.text.bytes.now
+        (tp_use kind) any_text t }
 {
-    if items::is_absent(t) {
-        return true;
-    }
-    if !kinds::uses_tp(kind) {
-        return false;
-    }
-    is_text(document, text, u, v, t)
+    items::is_absent(t) || kinds::uses_tp(kind) && is_text(table, t)
 }
 
 // Words 11-13: a docstring, which is in the document.
-pub fn good_doc<'a>(
-    document: &'a [u8],
-    text: &'a [u8],
-    u: usize,
-    v: usize,
-    kind: u32,
-    t: Triple,
-) -> bool
-    requires fact_1 { Start document.now u }
-    requires fact_2 { Start text.now v }
-    ensures { result ≡ good_doc document.now text.now kind t }
+#[tactic(auto, using(crate::proofs::Triples::documented))]
+pub fn good_doc(table: &Table, kind: u32, t: Triple) -> bool
+    ensures { result ≡ good_doc table.now.document.bytes.now table.now.text.bytes.now kind t }
 {
-    if items::is_absent(t) {
-        return true;
-    }
-    if kind == document::kinds::ANNOTATION {
-        return false;
-    }
-    if t.source != 1 {
-        return false;
-    }
-    is_text(document, text, u, v, t)
+    items::is_absent(t)
+        || kind != document::kinds::ANNOTATION && t.source == 1 && is_part(&table.document, t)
 }

@@ -8,6 +8,7 @@ use borrow.Author.Rules.{rules}
 use borrow.Author.Tests.{ne_eqb}
 use native.Mathlib.Omega.{arith}
 use lib.ListN.{length, take, replicate, length-append}
+use Rattle.std.specs.Prelude.{Ok, Err, Option, Some, None}
 use Rattle.slices.specs.Bytes.{if}
 use Rattle.answers.specs.Text.{Text, text, wrong, left_of}
 use Rattle.utf16.specs.Entry.{marked, decoding, left}
@@ -17,8 +18,8 @@ use Rattle.document.specs.Refusals.{bare}
 use Rattle.document.specs.Reading.{State, begun, reading, accepted, refused}
 use Rattle.document.specs.Whole.{Room, read, verdict_of, rows_left_lem, warnings_left, text_left, Says}
 use Rattle.document.specs.declared.Refusal.{Refusal}
-use Rattle.document.specs.declared.Verdict.{Verdict}
-use Rattle.document.specs.declared.Verdict.TheVariants.{Refused, Accepted}
+use Rattle.document.specs.Verdict.{Verdict}
+use Rattle.document.specs.declared.Counts.{Counts}
 use Rattle.files.specs.Files.{document_of, read_text, read_file, length_of, decoded_length, document_left, Reads}
 use Rattle.files.specs.declared.Reading.{Reading}
 use Rattle.files.proofs.Promises.{read_as_document, accepted_document}
@@ -28,18 +29,16 @@ use Rattle.reader.specs.Entry.{Refuses}
 use Rattle.breaches.specs.Least.{least}
 use Rattle.breaches.specs.Breaches.{breaches}
 use Rattle.breaches.specs.Outcome as breach
-use Rattle.breaches.specs.declared.Breach.{Breach}
-use Rattle.breaches.specs.declared.Breach.TheVariants.{Nowhere, At}
 use Rattle.strict.specs.Strict.{judged, strict, strict_text, strict_file, ReadsStrictly}
 use Rattle.strict.specs.Entry.{IsJudged, Judges}
 
 -- ---- a document that is accepted
 
-module _ {doc : List ℕ} {n t w : ℕ} {r ws ts : List ℕ} {b : Breach} (e : b ≡ least (breaches doc)) where
-  pub judges_none : b ≡ Nowhere → Judges doc n t w r r ws ws ts ts (Accepted n t w)
+module _ {doc : List ℕ} {k : Counts} {r ws ts : List ℕ} {b : Option ℕ} (e : b ≡ least (breaches doc)) where
+  pub judges_none : b ≡ None → Judges doc k r r ws ws ts ts (Ok k)
   judges_none f = record { is = rw (sym e ∙ f) (refl, refl, refl, refl) }
 
-  pub judges_some : {p : ℕ} {x : Refusal} {r' ws' ts' : List ℕ} {v : Verdict} → b ≡ At p → x ≡ bare 29 p → Refuses x r r' ws ws' ts ts' v → Judges doc n t w r r' ws ws' ts ts' v
+  pub judges_some : {p : ℕ} {x : Refusal} {r' ws' ts' : List ℕ} {v : Verdict} → b ≡ Some p → x ≡ bare 29 p → Refuses x r r' ws ws' ts ts' v → Judges doc k r r' ws ws' ts ts' v
   judges_some f g z = record { is = rw (sym e ∙ f) (rw g at z) }
 
 pub ruleset judging = (judges_none, judges_some, rules)
@@ -47,16 +46,16 @@ pub ruleset judging = (judges_none, judges_some, rules)
 -- ---- the document of a file
 
 -- what the verdict tells of reading
-accepts : (doc : List ℕ) (room : Room) {n t w : ℕ} → Accepted n t w ≡ verdict_of (read doc room) → (u : Tables Shown) × (read doc room ≡ accepted u)
-accepts doc room {n} {t} {w} e = go (read doc room) refl e
+accepts : (doc : List ℕ) (room : Room) {k : Counts} → Ok k ≡ verdict_of (read doc room) → (u : Tables Shown) × (read doc room ≡ accepted u)
+accepts doc room {k} e = go (read doc room) refl e
   where
-    go : (s : State Shown) → read doc room ≡ s → Accepted n t w ≡ verdict_of s → (u : Tables Shown) × (read doc room ≡ accepted u)
+    go : (s : State Shown) → read doc room ≡ s → Ok k ≡ verdict_of s → (u : Tables Shown) × (read doc room ≡ accepted u)
     go begun f e = let z : ◌≡◌ {A = ℕ} 0 1 = cc in absurd (omega arith)
     go (reading fs u) f e = let z : ◌≡◌ {A = ℕ} 0 1 = cc in absurd (omega arith)
     go (accepted u) f e = (u, f)
     go (refused x) f e = let z : ◌≡◌ {A = ℕ} 0 1 = cc in absurd (omega arith)
 
-refuses : (s : State Shown) (b : Breach) {x : Refusal} → Refused x ≡ verdict_of s → judged s b ≡ s
+refuses : (s : State Shown) (b : Option ℕ) {x : Refusal} → Err x ≡ verdict_of s → judged s b ≡ s
 refuses begun b e = refl
 refuses (reading fs u) b e = refl
 refuses (accepted u) b e = let z : ◌≡◌ {A = ℕ} 0 1 = cc in absurd (omega arith)
@@ -69,7 +68,7 @@ record Strictly (doc : List ℕ) (room : Room) (rows warnings text : List ℕ) (
   warnings_left_lem : warnings ≡ warnings_left room (strict doc room)
   text_left_lem : text ≡ text_left room (strict doc room)
 
-module _ {doc rows warnings text : List ℕ} {room : Room} {n t w : ℕ} (s : Says doc room rows warnings text (Accepted n t w)) where
+module _ {doc rows warnings text : List ℕ} {room : Room} {k : Counts} (s : Says doc room rows warnings text (Ok k)) where
   says_accepted : breach.Accepted doc
   says_accepted =
       let u = accepts doc room s.verdict in
@@ -77,12 +76,12 @@ module _ {doc rows warnings text : List ℕ} {room : Room} {n t w : ℕ} (s : Sa
       record { sound = a.sound; tables = u.0; reads = a.reads }
 
   -- the buffers had the same room all along
-  says_judged : {r' w' t' : List ℕ} {v' : Verdict} → Judges doc n t w rows r' warnings w' text t' v' → length rows ≡ room.rows → length warnings ≡ room.warnings → length text ≡ room.text → Strictly doc room r' w' t' v'
+  says_judged : {r' w' t' : List ℕ} {v' : Verdict} → Judges doc k rows r' warnings w' text t' v' → length rows ≡ room.rows → length warnings ≡ room.warnings → length text ≡ room.text → Strictly doc room r' w' t' v'
   unfolding strict
   says_judged {r'} {w'} {t'} {v'} j a b c = go (least (breaches doc)) refl j.is
     where
-      go : (b : Breach) → least (breaches doc) ≡ b → IsJudged b n t w rows r' warnings w' text t' v' → Strictly doc room r' w' t' v'
-      go Nowhere f i =
+      go : (b : Option ℕ) → least (breaches doc) ≡ b → IsJudged b k rows r' warnings w' text t' v' → Strictly doc room r' w' t' v'
+      go None f i =
           let u = accepts doc room s.verdict in
           let k : strict doc room ≡ read doc room = rw (u.1, f) in
           record {
@@ -91,7 +90,7 @@ module _ {doc rows warnings text : List ℕ} {room : Room} {n t w : ℕ} (s : Sa
             warnings_left_lem = i.2 ∙ s.warnings_left_lem ∙ rw k;
             text_left_lem = i.3 ∙ s.text_left_lem ∙ rw k;
           }
-      go (At p) f i =
+      go (Some p) f i =
           let u = accepts doc room s.verdict in
           let q : strict doc room ≡ refused (bare 29 p) = rw (u.1, f) in
           record {
@@ -114,17 +113,17 @@ decoded_fits raw room = go (marked raw) (decoding raw room)
     go false o = omega arith
 
 -- the state of what is refused
-refused_file : (raw : List ℕ) (room : Room) (dr : ℕ) {x : Refusal} → Refused x ≡ verdict_of (read_file raw room dr) → strict_file raw room dr ≡ read_file raw room dr
+refused_file : (raw : List ℕ) (room : Room) (dr : ℕ) {x : Refusal} → Err x ≡ verdict_of (read_file raw room dr) → strict_file raw room dr ≡ read_file raw room dr
 unfolding strict_file read_file strict
 refused_file raw room dr {x} e = go (document_of raw dr) e
   where
-    go : (o : Text) → Refused x ≡ verdict_of (read_text o room) → strict_text o room ≡ read_text o room
+    go : (o : Text) → Err x ≡ verdict_of (read_text o room) → strict_text o room ≡ read_text o room
     go (text t) e = refuses (read t room) (least (breaches t)) e
     go (wrong n p) e = refl
 
 module _ {raw rows warnings x decoded : List ℕ} {room : Room} {dr : ℕ} {r : Reading} (s : Reads raw room dr rows warnings x decoded r) where
   -- what is refused stays refused
-  pub file_refused : {y : Refusal} → r.verdict ≡ Refused y → ReadsStrictly raw room dr rows warnings x decoded (record { verdict = Refused y; decoded = r.decoded })
+  pub file_refused : {y : Refusal} → r.verdict ≡ Err y → ReadsStrictly raw room dr rows warnings x decoded (record { verdict = Err y; decoded = r.decoded })
   file_refused e =
       let k = refused_file raw room dr (sym e ∙ s.verdict) in
       record {
@@ -139,17 +138,17 @@ module _ {raw rows warnings x decoded : List ℕ} {room : Room} {dr : ℕ} {r : 
   pub file_inside : r.decoded ≤ length decoded
   file_inside = rw (s.length, s.decoded_left) (decoded_fits raw dr)
 
-  module _ {n t w : ℕ} (e : r.verdict ≡ Accepted n t w) where
+  module _ {k : Counts} (e : r.verdict ≡ Ok k) where
     abbrev document : List ℕ
     document = document_left raw decoded r.decoded
 
     is_document : document_of raw dr ≡ text document
-    is_document = accepted_document raw rows warnings x decoded room dr r n t w s e
+    is_document = accepted_document raw rows warnings x decoded room dr r k.rows k.text k.warnings s e
 
-    says : Says document room rows warnings x (Accepted n t w)
+    says : Says document room rows warnings x (Ok k)
     says = rw e at (read_as_document raw document rows warnings x decoded room dr r is_document s)
 
-    judged_file : {r' w' t' : List ℕ} {v : Verdict} → Judges document n t w rows r' warnings w' x t' v → length rows ≡ room.rows → length warnings ≡ room.warnings → length x ≡ room.text → ReadsStrictly raw room dr r' w' t' decoded (record { verdict = v; decoded = r.decoded })
+    judged_file : {r' w' t' : List ℕ} {v : Verdict} → Judges document k rows r' warnings w' x t' v → length rows ≡ room.rows → length warnings ≡ room.warnings → length x ≡ room.text → ReadsStrictly raw room dr r' w' t' decoded (record { verdict = v; decoded = r.decoded })
     unfolding strict_file
     judged_file j a b c =
         let k = says_judged says j a b c in
@@ -170,9 +169,9 @@ module _ {raw rows warnings x decoded : List ℕ} {room : Room} {dr : ℕ} {r : 
       pub raw_accepted : breach.Accepted raw
       raw_accepted = rw itself at (says_accepted says)
 
-      pub raw_judged : {r' w' t' : List ℕ} {v : Verdict} → Judges raw n t w rows r' warnings w' x t' v → length rows ≡ room.rows → length warnings ≡ room.warnings → length x ≡ room.text → ReadsStrictly raw room dr r' w' t' decoded (record { verdict = v; decoded = r.decoded })
+      pub raw_judged : {r' w' t' : List ℕ} {v : Verdict} → Judges raw k rows r' warnings w' x t' v → length rows ≡ room.rows → length warnings ≡ room.warnings → length x ≡ room.text → ReadsStrictly raw room dr r' w' t' decoded (record { verdict = v; decoded = r.decoded })
       raw_judged {r'} {w'} {t'} {v} j a b c =
-          let i : Judges document n t w rows r' warnings w' x t' v = rw itself j in
+          let i : Judges document k rows r' warnings w' x t' v = rw itself j in
           judged_file i a b c
 
     module _ (z : r.decoded ≡ 0 → ⊥) where
@@ -182,9 +181,9 @@ module _ {raw rows warnings x decoded : List ℕ} {room : Room} {dr : ℕ} {r : 
       pub text_accepted : breach.Accepted (take r.decoded decoded)
       text_accepted = rw decodes at (says_accepted says)
 
-      pub text_judged : {r' w' t' : List ℕ} {v : Verdict} → Judges (take r.decoded decoded) n t w rows r' warnings w' x t' v → length rows ≡ room.rows → length warnings ≡ room.warnings → length x ≡ room.text → ReadsStrictly raw room dr r' w' t' decoded (record { verdict = v; decoded = r.decoded })
+      pub text_judged : {r' w' t' : List ℕ} {v : Verdict} → Judges (take r.decoded decoded) k rows r' warnings w' x t' v → length rows ≡ room.rows → length warnings ≡ room.warnings → length x ≡ room.text → ReadsStrictly raw room dr r' w' t' decoded (record { verdict = v; decoded = r.decoded })
       text_judged {r'} {w'} {t'} {v} j a b c =
-          let i : Judges document n t w rows r' warnings w' x t' v = rw decodes j in
+          let i : Judges document k rows r' warnings w' x t' v = rw decodes j in
           judged_file i a b c
 
 pub ruleset entry = (file_refused, file_inside, raw_accepted, raw_judged, text_accepted, text_judged, rules)

@@ -8,6 +8,7 @@ use borrow.Author.Tests.{eq-eqb, eqb-true}
 use native.Mathlib.Decide.{dec_lt}
 use native.Mathlib.Omega.{arith}
 use lib.Dec.{eqb}
+use Rattle.std.specs.Prelude.{Option, Some, None}
 use Rattle.slices.specs.Bytes.{if, empty}
 use Rattle.answers.specs.Text.{Text, text, wrong}
 use Rattle.document.specs.Tags.{Shown}
@@ -21,23 +22,21 @@ use Rattle.document.proofs.Tests.{never}
 use Rattle.files.specs.Files.{document_of, read_text, read_file}
 use Rattle.breaches.specs.Least.{lesser, least}
 use Rattle.breaches.specs.Breaches.{breaches}
-use Rattle.breaches.specs.declared.Breach.{Breach}
-use Rattle.breaches.specs.declared.Breach.TheVariants.{Nowhere, At}
 use Rattle.strict.specs.Strict.{judged, strict, strict_text, strict_file}
 use Rattle.strict.specs.Promises.{AcceptedHasNone, NoneIsAccepted, SomeIsRefused, RefusedAlike}
 
 -- the least of some is nowhere only where there is none
-some_least : (p : ℕ) (ps : List ℕ) → (q : ℕ) × (least (p ∷ ps) ≡ At q)
+some_least : (p : ℕ) (ps : List ℕ) → (q : ℕ) × (least (p ∷ ps) ≡ Some q)
 unfolding least lesser
 some_least p ps = go (least ps)
   where
-    go : (b : Breach) → (q : ℕ) × (lesser (At p) b ≡ At q)
-    go Nowhere = (p, refl)
-    go (At q) = (min p q, refl)
+    go : (b : Option ℕ) → (q : ℕ) × (lesser (Some p) b ≡ Some q)
+    go None = (p, refl)
+    go (Some q) = (min p q, refl)
 
-none_least : (ps : List ℕ) → least ps ≡ Nowhere → ps ≡ []
+none_least : (ps : List ℕ) → least ps ≡ None → ps ≡ []
 none_least [] e = refl
-none_least (p ∷ ps) e = let q = some_least p ps in let y : At q.0 ≡ Nowhere = sym q.1 ∙ e in let z : ◌≡◌ {A = ℕ} 0 1 = cc in absurd (omega arith)
+none_least (p ∷ ps) e = let q = some_least p ps in let y : Some q.0 ≡ None = sym q.1 ∙ e in let z : ◌≡◌ {A = ℕ} 0 1 = cc in absurd (omega arith)
 
 -- among some: the first, or one of the others
 among_first : (p q : ℕ) (ps : List ℕ) → p ≡ q → among p (q ∷ ps) ≡ true
@@ -55,7 +54,7 @@ record Least (q : ℕ) (ps : List ℕ) : Type 0 where
   one : among q ps ≡ true
   none : (r : ℕ) → among r ps ≡ true → q ≤ r
 
-least_is : (ps : List ℕ) (q : ℕ) → least ps ≡ At q → Least q ps
+least_is : (ps : List ℕ) (q : ℕ) → least ps ≡ Some q → Least q ps
 unfolding least lesser
 least_is [] q e = let z : ◌≡◌ {A = ℕ} 0 1 = cc in absurd (omega arith)
 least_is (p ∷ ps) q e = go (least ps) refl e (λ r f. least_is ps r f)
@@ -67,12 +66,12 @@ least_is (p ∷ ps) q e = go (least ps) refl e (λ r f. least_is ps r f)
         pick true f h = omega (arith, eqb-true r p f)
         pick false f h = i h
 
-    go : (b : Breach) → least ps ≡ b → lesser (At p) b ≡ At q → ((r : ℕ) → least ps ≡ At r → Least r ps) → Least q (p ∷ ps)
-    go Nowhere f e i =
+    go : (b : Option ℕ) → least ps ≡ b → lesser (Some p) b ≡ Some q → ((r : ℕ) → least ps ≡ Some r → Least r ps) → Least q (p ∷ ps)
+    go None f e i =
         let k : p ≡ q = cc in
         let n : ps ≡ [] = none_least ps f in
         record { one = among_first q p ps (sym k); none = λ r h. within r h (omega arith) (λ j. never (rw n at j)) }
-    go (At s) f e i =
+    go (Some s) f e i =
         let k : min p s ≡ q = cc in
         let l = i s f in
         record { one = first (dec_lt s p) k l; none = λ r h. within r h (omega arith) (λ j. let m = l.none r j in omega arith) }
@@ -87,11 +86,11 @@ document_accepted : (doc : List ℕ) (room : Room) (t : Tables Shown) → strict
 unfolding strict
 document_accepted doc room t e = go (read doc room) (least (breaches doc)) refl refl e
   where
-    go : (s : State Shown) (b : Breach) → read doc room ≡ s → least (breaches doc) ≡ b → judged s b ≡ accepted t → (breaches doc ≡ []) × (read doc room ≡ accepted t)
+    go : (s : State Shown) (b : Option ℕ) → read doc room ≡ s → least (breaches doc) ≡ b → judged s b ≡ accepted t → (breaches doc ≡ []) × (read doc room ≡ accepted t)
     go begun b f g e = let z : ◌≡◌ {A = ℕ} 0 1 = cc in absurd (omega arith)
     go (reading fs u) b f g e = let z : ◌≡◌ {A = ℕ} 0 1 = cc in absurd (omega arith)
-    go (accepted u) Nowhere f g e = (none_least (breaches doc) g, f ∙ e)
-    go (accepted u) (At p) f g e = let z : ◌≡◌ {A = ℕ} 0 1 = cc in absurd (omega arith)
+    go (accepted u) None f g e = (none_least (breaches doc) g, f ∙ e)
+    go (accepted u) (Some p) f g e = let z : ◌≡◌ {A = ℕ} 0 1 = cc in absurd (omega arith)
     go (refused x) b f g e = let z : ◌≡◌ {A = ℕ} 0 1 = cc in absurd (omega arith)
 
 document_none : (doc : List ℕ) (room : Room) (t : Tables Shown) → read doc room ≡ accepted t → breaches doc ≡ [] → strict doc room ≡ accepted t
@@ -106,7 +105,7 @@ document_some doc room t e f = go (breaches doc) refl f
     go [] g f = never (sym f)
     go (p ∷ ps) g f =
         let q = some_least p ps in
-        let k : least (breaches doc) ≡ At q.0 = ap least g ∙ q.1 in
+        let k : least (breaches doc) ≡ Some q.0 = ap least g ∙ q.1 in
         let l = least_is (breaches doc) q.0 k in
         (q.0, rw (e, k), l.one, l.none)
 

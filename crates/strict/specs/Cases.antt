@@ -1,6 +1,6 @@
 -- Worked examples: files, the room for rows, and what reading them by the profile answers.
 -- Assumes nothing.
-use Rattle.std.specs.Prelude.{ℕ, ◌≡◌, refl, List, [], ◌∷◌, map}
+use Rattle.std.specs.Prelude.{ℕ, ◌≡◌, refl, List, [], ◌∷◌, map, Ok, Err}
 use Rattle.slices.specs.Bytes.{bytes}
 use Rattle.utf8.specs.WellFormed.{sequence, ill_formed}
 use Rattle.utf8.specs.WhiteSpace.{characters}
@@ -15,8 +15,7 @@ use Rattle.document.specs.Refusals.{bare, fault_in}
 use Rattle.document.specs.Elements.{kind_of, may_hold, opens_as}
 use Rattle.document.specs.Reading.{step, begins, run}
 use Rattle.document.specs.Whole.{Room, meaning, read, verdict_of}
-use Rattle.document.specs.declared.Verdict.{Verdict}
-use Rattle.document.specs.declared.Verdict.TheVariants.{Refused, Accepted}
+use Rattle.document.specs.Verdict.{Verdict, counts}
 use Rattle.files.specs.Files.{document_of}
 use Rattle.profile.specs.Names.{name_start_char, name_more, name_char}
 use Rattle.profile.specs.Profile.{char_fault, name_fault, hyphens, raw}
@@ -33,13 +32,13 @@ rows_for n = record { rows = n; warnings = 0; text = 0 }
 -- 18 comes before 29, and so does a fault; the last two are `<x/>` in UTF-16
 abbrev pub cases : List (List ℕ × ℕ × Verdict)
 cases =
-    (bytes "<x/>", 0, Refused (bare 18 4))
-    ∷ (bytes "<x/>", 16, Refused (bare 29 1))
-    ∷ (bytes "<node/>", 16, Accepted 1 0 0)
-    ∷ (bytes "<node/><!-- -- -->", 16, Refused (bare 29 12))
-    ∷ (bytes "<-></-", 16, Refused (bare 4 4))
-    ∷ (0xfe ∷ 0xff ∷ 0x00 ∷ 0x3c ∷ 0x00 ∷ 0x78 ∷ 0x00 ∷ 0x2f ∷ 0x00 ∷ 0x3e ∷ [], 0, Refused (bare 18 4))
-    ∷ (0xff ∷ 0xfe ∷ 0x3c ∷ 0x00 ∷ 0x78 ∷ 0x00 ∷ 0x2f ∷ 0x00 ∷ 0x3e ∷ 0x00 ∷ [], 16, Refused (bare 29 1))
+    (bytes "<x/>", 0, Err (bare 18 4))
+    ∷ (bytes "<x/>", 16, Err (bare 29 1))
+    ∷ (bytes "<node/>", 16, Ok (counts 1 0 0))
+    ∷ (bytes "<node/><!-- -- -->", 16, Err (bare 29 12))
+    ∷ (bytes "<-></-", 16, Err (bare 4 4))
+    ∷ (0xfe ∷ 0xff ∷ 0x00 ∷ 0x3c ∷ 0x00 ∷ 0x78 ∷ 0x00 ∷ 0x2f ∷ 0x00 ∷ 0x3e ∷ [], 0, Err (bare 18 4))
+    ∷ (0xff ∷ 0xfe ∷ 0x3c ∷ 0x00 ∷ 0x78 ∷ 0x00 ∷ 0x2f ∷ 0x00 ∷ 0x3e ∷ 0x00 ∷ [], 16, Err (bare 29 1))
     ∷ []
 
 pub worked : map (λ c. verdict_of (strict_file c.0 (rows_for c.1) 4)) cases ≡ map (λ c. c.2) cases

@@ -1,7 +1,7 @@
 -- Reading by the strict profile (docs/FORMAT.md, The strict profile): a file is read as ever, and one that is accepted and whose document has a
 -- breach is refused by 29 at the least.
 -- Assumes nothing.
-use Rattle.std.specs.Prelude.{ℕ, ◌≡◌, List}
+use Rattle.std.specs.Prelude.{ℕ, ◌≡◌, List, Option, Some, None}
 use Rattle.answers.specs.Text.{Text, text, wrong}
 use Rattle.utf16.specs.Entry.{left}
 use Rattle.document.specs.Tags.{Shown}
@@ -12,14 +12,12 @@ use Rattle.files.specs.Files.{document_of, decoded_length}
 use Rattle.files.specs.declared.Reading.{Reading}
 use Rattle.breaches.specs.Least.{least}
 use Rattle.breaches.specs.Breaches.{breaches}
-use Rattle.breaches.specs.declared.Breach.{Breach}
-use Rattle.breaches.specs.declared.Breach.TheVariants.{Nowhere, At}
 
-abbrev pub judged : State Shown → Breach → State Shown
+abbrev pub judged : State Shown → Option ℕ → State Shown
 judged begun b = begun
 judged (reading fs t) b = reading fs t
-judged (accepted t) Nowhere = accepted t
-judged (accepted t) (At p) = refused (bare 29 p)
+judged (accepted t) None = accepted t
+judged (accepted t) (Some p) = refused (bare 29 p)
 judged (refused x) b = refused x
 
 -- a document

@@ -7,8 +7,7 @@ ghost use Rattle.breaches.specs.Outcome.{Accepted};
 ghost use Rattle.strict.specs.Strict.{ReadsStrictly};
 ghost use Rattle.strict.specs.Entry.{Judges};
 
-use breaches::Breach;
-use document::Verdict;
+use document::{Counts, Verdict};
 use files::Reading;
 
 // The verdict on a document that is accepted with these counts, and the buffers that go with it.
@@ -17,17 +16,15 @@ fn judge(
     rows: &mut [u32],
     warnings: &mut [u32],
     text: &mut [u8],
-    n: usize,
-    t: usize,
-    w: usize,
+    counts: Counts,
 ) -> Verdict
     requires { Accepted document.now }
-    ensures { Judges document.now n t w rows.old rows.new
+    ensures { Judges document.now counts rows.old rows.new
         warnings.old warnings.new text.old text.new result }
 {
     match breaches::least_breach(document) {
-        Breach::Nowhere => Verdict::Accepted(n, t, w),
-        Breach::At(place) => {
+        None => Ok(counts),
+        Some(place) => {
             let refusal = document::bare(29, place);
             reader::refuse(rows, warnings, text, refusal)
         }
@@ -48,25 +45,18 @@ pub fn read_strict(
 {
     let reading = reader::read(document, rows, warnings, text, decoded);
     let end = reading.decoded;
-    let verdict = reading.verdict;
-    match verdict {
-        Verdict::Refused(refusal) => Reading {
-            verdict: Verdict::Refused(refusal),
-            decoded: end,
-        },
-        Verdict::Accepted(n, t, w) => {
+    let verdict = match reading.verdict {
+        Err(refusal) => Err(refusal),
+        Ok(counts) => {
             if end == 0 {
-                let judged = judge(document, rows, warnings, text, n, t, w);
-                return Reading {
-                    verdict: judged,
-                    decoded: end,
-                };
-            }
-            let judged = judge(&decoded[..end], rows, warnings, text, n, t, w);
-            Reading {
-                verdict: judged,
-                decoded: end,
+                judge(document, rows, warnings, text, counts)
+            } else {
+                judge(&decoded[..end], rows, warnings, text, counts)
             }
         }
+    };
+    Reading {
+        verdict,
+        decoded: end,
     }
 }

@@ -12,7 +12,7 @@ use mir.Syntax.{w64}
 use mir.Val.{Fits}
 use lib.ListN.{length, get_or, set, drop, length-set, length-append, get_or-append, drop_of_length-le, replicate}
 use lib.Seq.{get_or-set_same, get_or-set_other, get_or-append-add, drop-cons, sets, length-sets}
-use Rattle.tables.specs.Table.{whole, Rep, Put, with_docstring, Documented, cleared, Wiped}
+use Rattle.tables.specs.Table.{whole, Rep, Put, with_docstring, Documented, filled, Filled, cleared, Wiped}
 use Rattle.tables.specs.Copied.{Copied}
 
 -- ---- whole rows
@@ -184,31 +184,39 @@ module _ {i start len : ℕ} {t : List ℕ} where
 
 -- ---- zeros
 
--- a store of 0 takes one place from what is left to clear
-clear_suc : (t : List ℕ) (i : ℕ) → cleared (suc i) (set t i 0) ≡ cleared i t
-clear_suc [] i = refl
-clear_suc (x ∷ t) zero = refl
-clear_suc (x ∷ t) (suc i) = ap (◌∷◌ x) (clear_suc t i)
+-- a store takes one place from what is left to fill
+fill_suc : {A : Type 0} (a : A) (t : List A) (i : ℕ) → filled a (suc i) (set t i a) ≡ filled a i t
+fill_suc a [] i = refl
+fill_suc a (x ∷ t) zero = refl
+fill_suc a (x ∷ t) (suc i) = ap (◌∷◌ x) (fill_suc a t i)
 
-clear_past : (t : List ℕ) (i : ℕ) → length t ≤ i → cleared i t ≡ t
-clear_past [] i h = refl
-clear_past (x ∷ t) zero h = absurd (omega arith)
-clear_past (x ∷ t) (suc i) h = ap (◌∷◌ x) (clear_past t i (omega arith))
+fill_past : {A : Type 0} (a : A) (t : List A) (i : ℕ) → length t ≤ i → filled a i t ≡ t
+fill_past a [] i h = refl
+fill_past a (x ∷ t) zero h = absurd (omega arith)
+fill_past a (x ∷ t) (suc i) h = ap (◌∷◌ x) (fill_past a t i (omega arith))
 
--- a loop that clears, before place i: to clear the rest gives what was asked
-pub record Clearing (from : ℕ) (t₀ t : List ℕ) (i : ℕ) : Type 0 where
-  pub left : cleared i t ≡ cleared from t₀
+-- a loop that fills, before place i: to fill the rest gives what was asked
+pub record Filling {A : Type 0} (a : A) (from : ℕ) (t₀ t : List A) (i : ℕ) : Type 0 where
+  pub left : filled a i t ≡ filled a from t₀
   pub same : length t ≡ length t₀
 
-pub clear_begins : {from : ℕ} {t : List ℕ} → Clearing from t t from
-clear_begins = record { left = refl; same = refl }
+pub fill_begins : {A : Type 0} {a : A} {from : ℕ} {t : List A} → Filling a from t t from
+fill_begins = record { left = refl; same = refl }
 
-module _ {from i : ℕ} {t₀ t : List ℕ} (g : Clearing from t₀ t i) where
-  pub clear_more : Clearing from t₀ (set t i 0) (i + 1)
-  clear_more = record { left = rw add-one (clear_suc t i ∙ g.left); same = length-set t i 0 ∙ g.same }
+module _ {A : Type 0} {a : A} {from i : ℕ} {t₀ t : List A} (g : Filling a from t₀ t i) where
+  pub fill_more : Filling a from t₀ (set t i a) (i + 1)
+  fill_more = record { left = rw add-one (fill_suc a t i ∙ g.left); same = length-set t i a ∙ g.same }
 
-  pub clear_ends : length t ≤ i → Wiped from t₀ t
-  clear_ends h = record { is = sym (clear_past t i h) ∙ g.left }
+  pub fill_ends : length t ≤ i → Filled a from t₀ t
+  fill_ends h = record { is = sym (fill_past a t i h) ∙ g.left }
+
+filled_cleared : (n : ℕ) (t : List ℕ) → filled 0 n t ≡ cleared n t
+filled_cleared n [] = refl
+filled_cleared zero (x ∷ t) = ap (◌∷◌ 0) (filled_cleared zero t)
+filled_cleared (suc n) (x ∷ t) = ap (◌∷◌ x) (filled_cleared n t)
+
+pub wiped : {n : ℕ} {t₀ t : List ℕ} → Filled 0 n t₀ t → Wiped n t₀ t
+wiped {n} {t₀} {t} g = record { is = g.is ∙ filled_cleared n t₀ }
 
 pub clear_all : (t : List ℕ) → cleared 0 t ≡ replicate (length t) 0
 clear_all [] = refl
@@ -244,4 +252,4 @@ pub word_inside : (base j : ℕ) (t : List ℕ) → j < 16 → base + 16 ≤ len
 word_inside base j t h l = omega arith
 
 -- what answers every need of the functions that fill and clear a table
-pub ruleset tables = (place_fits, row_fits, word_inside, put_room, put_full, one_room, one_full, docstring_room, docstring_full, copy_begins, copy_more, copy_ends, clear_begins, clear_more, clear_ends, length-set, rules)
+pub ruleset tables = (place_fits, row_fits, word_inside, put_room, put_full, one_room, one_full, docstring_room, docstring_full, copy_begins, copy_more, copy_ends, fill_begins, fill_more, fill_ends, length-set, rules)

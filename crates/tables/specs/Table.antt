@@ -30,6 +30,16 @@ with_docstring i start len xs = sets xs (i * 16 + 11) (1 ∷ start ∷ len ∷ [
 pub record Documented (i start len : ℕ) (before after : List ℕ) : Type 0 where
   pub stands : (n : ℕ) (xs : List ℕ) → i < n → Rep 16 before n xs → Rep 16 after n (with_docstring i start len xs)
 
+-- a list with one value at each place from n on
+abbrev pub filled : {A : Type 0} → A → ℕ → List A → List A
+filled a n [] = []
+filled a zero (x ∷ xs) = a ∷ filled a zero xs
+filled a (suc n) (x ∷ xs) = x ∷ filled a n xs
+
+-- what filling from n on says
+pub record Filled {A : Type 0} (a : A) (n : ℕ) (before after : List A) : Type 0 where
+  pub is : after ≡ filled a n before
+
 -- the table with a 0 at each place from n on
 abbrev pub cleared : ℕ → List ℕ → List ℕ
 cleared n [] = []

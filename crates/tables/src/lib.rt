@@ -2,7 +2,7 @@
 #![tactic(auto)]
 
 ghost use Rattle.std.specs.Prelude.{◌≡◌, [], ◌∷◌, ◌+◌, ◌<◌, ◌≤◌, ◌^◌, length};
-ghost use Rattle.tables.specs.Table.{Put, Documented, Wiped};
+ghost use Rattle.tables.specs.Table.{Put, Documented, Filled, Wiped};
 ghost use Rattle.tables.specs.Copied.{Copied};
 ghost use Rattle.tables.specs.Triple.{inside, resolved, shown};
 ghost use Rattle.tables.specs.Place.{Inside, place};
@@ -20,18 +20,17 @@ fn copy_words(table: &mut [u32], base: usize, words: &[u32])
     requires { base + length words.now ≤ length table.old }
     ensures { Copied base words.now table.old table.new }
 {
-    let mut i = 0;
-    while i < words.len() {
+    for i in 0..words.len() {
         table[base + i] = words[i];
-        i += 1;
     }
 }
 
 // Adds a row where a whole one has room, and counts it in any case.
+#[tactic(auto, using(crate::proofs::Tables::tables))]
 pub fn put_words(table: &mut [u32], n: usize, words: &[u32]) -> usize
-    requires fact_1 { n < 1048576 }
-    requires fact_2 { 0 < length words.now }
-    requires fact_3 { length words.now ≤ 16 }
+    requires few_rows { n < 1048576 }
+    requires nonempty { 0 < length words.now }
+    requires within_row { length words.now ≤ 16 }
     ensures { Put (length words.now) words.now n table.old table.new result }
 {
     let count = n + 1;
@@ -39,7 +38,6 @@ pub fn put_words(table: &mut [u32], n: usize, words: &[u32]) -> usize
     let end = base + words.len();
     if end <= table.len() {
         copy_words(table, base, words);
-        return count;
     }
     count
 }
@@ -51,7 +49,6 @@ pub fn put_byte(text: &mut [u8], n: usize, b: u8) -> usize
 {
     if n < text.len() {
         text[n] = b;
-        return n + 1;
     }
     n + 1
 }
@@ -66,30 +63,33 @@ pub fn put_docstring(rows: &mut [u32], i: usize, start: u32, len: u32)
         rows[base + 11] = 1;
         rows[base + 12] = start;
         rows[base + 13] = len;
-        return;
+    }
+}
+
+// Puts a value at each place from a place on.
+#[tactic(auto, using(crate::proofs::Tables::tables))]
+fn fill<T: Copy>(table: &mut [T], from: usize, value: T)
+    ensures { Filled value from table.old table.new }
+{
+    for i in from..table.len() {
+        table[i] = value;
     }
 }
 
 // Puts 0 at each word from a place on.
+#[tactic(auto, using(crate::proofs::Tables::wiped))]
 pub fn clear_words(table: &mut [u32], from: usize)
     ensures { Wiped from table.old table.new }
 {
-    let mut i = from;
-    while i < table.len() {
-        table[i] = 0;
-        i += 1;
-    }
+    fill(table, from, 0)
 }
 
 // Puts 0 at each byte from a place on.
+#[tactic(auto, using(crate::proofs::Tables::wiped))]
 pub fn clear_bytes(text: &mut [u8], from: usize)
     ensures { Wiped from text.old text.new }
 {
-    let mut i = from;
-    while i < text.len() {
-        text[i] = 0;
-        i += 1;
-    }
+    fill(text, from, 0)
 }
 
 // Whether a triple leads to a part of its buffer.
@@ -97,13 +97,11 @@ pub fn is_inside(document: &[u8], text: &[u8], t: Triple) -> bool
     ensures { result ≡ inside document.now text.now t }
 {
     let end = t.start as usize + t.len as usize;
-    if t.source == 1 {
-        return end <= document.len();
+    match t.source {
+        1 => end <= document.len(),
+        2 => end <= text.len(),
+        _ => false,
     }
-    if t.source == 2 {
-        return end <= text.len();
-    }
-    false
 }
 
 // The triple, or the document's empty beginning where it leads to no part.
@@ -121,6 +119,7 @@ pub fn resolve(document: &[u8], text: &[u8], t: Triple) -> Triple
 }
 
 // The part that a triple inside its buffer leads to.
+#[tactic(auto, using(crate::proofs::Triples::triples))]
 fn part_of<'a>(document: &'a [u8], text: &'a [u8], t: Triple) -> &'a [u8]
     requires { Inside document.now text.now t }
     ensures bytes { result.now ≡ shown document.now text.now t }
@@ -136,6 +135,7 @@ fn part_of<'a>(document: &'a [u8], text: &'a [u8], t: Triple) -> &'a [u8]
 }
 
 // The part of the document or of the text that a triple leads to, never a copy.
+#[tactic(auto, using(crate::proofs::Triples::triples))]
 pub fn lookup<'a>(document: &'a [u8], text: &'a [u8], t: Triple) -> &'a [u8]
     ensures bytes { result.now ≡ shown document.now text.now t }
     ensures place { result.ref_ptr ≡ place document.entry.ref_ptr text.entry.ref_ptr

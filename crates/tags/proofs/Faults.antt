@@ -7,6 +7,7 @@ use borrow.Author.Rules.{rules}
 use borrow.Author.Tests.{ne_eqb}
 use native.Mathlib.Omega.{arith}
 use lib.ListN.{length, drop}
+use Rattle.std.specs.Prelude.{Err}
 use Rattle.slices.specs.Bytes.{other, span}
 use Rattle.slices.specs.Run.{Run}
 use Rattle.slices.proofs.Ends.{run_length}
@@ -54,6 +55,6 @@ pub unended_bare : (doc : List ℕ) {n p : ℕ} → Unended n → bare n p ≡ f
 unfolding fault_in
 unended_bare doc {n} {p} m = among_each (λ k. bare k p ≡ fault_in doc k p) n (22 ∷ 23 ∷ 24 ∷ 25 ∷ []) m (refl, (refl, (refl, (refl, tt))))
 
-pub markup_at : {doc : List ℕ} {lt p : ℕ} {next : tokens.Next} {x : Refusal} → x ≡ bare 4 p → next ≡ last (fault 4 p) → TagAt doc lt next (Token.Fault x)
+pub markup_at : {doc : List ℕ} {lt p : ℕ} {next : tokens.Next} {x : Refusal} → x ≡ bare 4 p → next ≡ last (fault 4 p) → TagAt doc lt next (Err x)
 unfolding fault_in
 markup_at {doc} {lt} {p} b e = record { onward = tt; is = (4, p, e, b) }

@@ -10,13 +10,13 @@ use native.Mathlib.Numerals.{add-one}
 use native.Mathlib.Omega.{arith}
 use lib.Dec.{eqb}
 use lib.ListN.{length, take, drop}
+use Rattle.std.specs.Prelude.{Option, Some, None}
 use Rattle.slices.specs.Bytes.{if, same, span}
 use Rattle.slices.proofs.Runs.{same_short}
 use Rattle.slices.proofs.Ends.{run_span}
 use Rattle.scan.specs.Classes.{name_byte}
 use Rattle.scan.specs.Colons.{colons_from, Scanned}
 use Rattle.scan.specs.declared.Colons.{Colons}
-use Rattle.scan.specs.declared.Colons.TheVariants.{Absent, Between}
 use Rattle.scan.specs.declared.Name.{Name}
 use Rattle.scan.proofs.Prefixes.{Within, colons_within, name_from}
 use Rattle.document.specs.Elements.{local_name, local_kind, kind_of}
@@ -111,9 +111,9 @@ pub ruleset kinds = (kind_exact, kind_local, rules)
 
 -- ---- the local name of the name that begins at a place
 
-start_within : (p e : ℕ) (c : Colons) → p ≤ e → Within p e c → (p ≤ local_start p c) × (local_start p c ≤ e)
-start_within p e Absent h w = (omega arith, h)
-start_within p e (Between first last) h w = (omega (arith, w.0, w.1), omega (arith, w.2))
+start_within : (p e : ℕ) (c : Option Colons) → p ≤ e → Within p e c → (p ≤ local_start p c) × (local_start p c ≤ e)
+start_within p e None h w = (omega arith, h)
+start_within p e (Some q) h w = (omega (arith, w.0, w.1), omega (arith, w.2))
 
 module _ {doc : List ℕ} {at : ℕ} {name : Name} (g : Scanned doc at name) where
   long : at + length (span name_byte (drop at doc)) ≡ name.end
@@ -138,15 +138,15 @@ module _ {doc : List ℕ} {at : ℕ} {name : Name} (g : Scanned doc at name) whe
 pub ruleset placed = (local_small, local_inside, local_is, rules)
 
 -- where it begins
-module _ (at : ℕ) {c : Colons} where
-  pub start_absent : c ≡ Absent → at ≡ local_start at c
+module _ (at : ℕ) {c : Option Colons} where
+  pub start_absent : c ≡ None → at ≡ local_start at c
   start_absent e = rw e
 
-  pub start_between : {first last : ℕ} → c ≡ Between first last → last + 1 ≡ local_start at c
-  start_between {first} {last} e = rw e (add-one last)
+  pub start_between : {q : Colons} → c ≡ Some q → q.last + 1 ≡ local_start at c
+  start_between {q} e = rw e (add-one q.last)
 
-  pub start_small : {first last : ℕ} → c ≡ Between first last → local_start at c < 2 ^ 64 → last + 1 < 2 ^ 64
-  start_small {first} {last} e h = let g : suc last < 2 ^ 64 = rw e at h in omega (arith, g)
+  pub start_small : {q : Colons} → c ≡ Some q → local_start at c < 2 ^ 64 → q.last + 1 < 2 ^ 64
+  start_small {q} e h = let g : suc q.last < 2 ^ 64 = rw e at h in omega (arith, g)
 
 -- what answers every need of `local_start`
 pub ruleset starts = (start_absent, start_between, start_small, rules)

@@ -10,6 +10,7 @@ use native.Mathlib.Numerals.{add-one}
 use native.Mathlib.Omega.{arith}
 use lib.ListN.{length, take, drop, get_or, drop_of_length-le}
 use lib.Seq.{drop-cons}
+use Rattle.std.specs.Prelude.{Err, Ok}
 use Rattle.slices.specs.Bytes.{span, past}
 use Rattle.slices.specs.Run.{Run}
 use Rattle.slices.proofs.Ends.{run_length, run_span, run_rest, run_empty, run_some}
@@ -19,13 +20,15 @@ use Rattle.document.specs.Tokens.{tag_end, slash_end, close_end, closing}
 use Rattle.document.specs.Refusals.{bare}
 use Rattle.document.specs.declared.Refusal.{Refusal}
 use Rattle.document.specs.declared.Token.{Token}
+use Rattle.document.specs.declared.Closing.{Closing}
 use Rattle.tags.specs.declared.TagEnd.{TagEnd}
 use Rattle.tags.specs.Outcome.{TagStart, TagAt, Ends}
 use Rattle.tags.proofs.Faults.{markup_at}
+use Rattle.faults.specs.declared.Fault.{Fault}
 
 -- closing tags
 module _ {doc : List ℕ} {lt m : ℕ} (s : TagStart doc lt) (n : Run name_byte doc (lt + 2) m) where
-  pub close_nameless : {x : Refusal} → m ≡ lt + 2 → x ≡ bare 4 (lt + 1) → TagAt doc lt (closing (drop (lt + 2) doc) lt) (Token.Fault x)
+  pub close_nameless : {x : Refusal} → m ≡ lt + 2 → x ≡ bare 4 (lt + 1) → TagAt doc lt (closing (drop (lt + 2) doc) lt) (Err x)
   unfolding closing
   close_nameless e q = markup_at q (rw (run_empty n (omega arith), add-one))
 
@@ -36,13 +39,13 @@ module _ {doc : List ℕ} {lt m : ℕ} (s : TagStart doc lt) (n : Run name_byte 
         let q : suc (suc lt) + length (span name_byte (drop (lt + 2) doc)) ≡ m = omega (arith, run_length n, n.onward) in
         rw (run_some n (omega (arith, n.onward)), run_rest n, run_rest w, q, ← w.ends, run_span n)
 
-    pub close_unended : {x : Refusal} → length doc ≤ e → x ≡ bare 4 (lt + 1) → TagAt doc lt (closing (drop (lt + 2) doc) lt) (Token.Fault x)
+    pub close_unended : {x : Refusal} → length doc ≤ e → x ≡ bare 4 (lt + 1) → TagAt doc lt (closing (drop (lt + 2) doc) lt) (Err x)
     close_unended l q = markup_at q (close_named ∙ rw (drop_of_length-le doc l, add-one))
 
-    pub close_other : {x : Refusal} → e < length doc → (get_or doc e 0 ≡ 62 → ⊥) → x ≡ bare 4 (lt + 1) → TagAt doc lt (closing (drop (lt + 2) doc) lt) (Token.Fault x)
+    pub close_other : {x : Refusal} → e < length doc → (get_or doc e 0 ≡ 62 → ⊥) → x ≡ bare 4 (lt + 1) → TagAt doc lt (closing (drop (lt + 2) doc) lt) (Err x)
     close_other l b q = markup_at q (close_named ∙ rw (drop-cons doc e 0 l, ne_eqb _ _ b, add-one))
 
-    pub closes : e < length doc → get_or doc e 0 ≡ 62 → TagAt doc lt (closing (drop (lt + 2) doc) lt) (Token.Close record { lt = lt; at = lt + 2; len = m - (lt + 2); end = e + 1 })
+    pub closes : e < length doc → get_or doc e 0 ≡ 62 → TagAt doc lt (closing (drop (lt + 2) doc) lt) (Ok (Token.Close record { lt = lt; at = lt + 2; len = m - (lt + 2); end = e + 1 }))
     closes l b = record {
       onward = (omega arith, refl, omega (arith, n.onward, w.onward), omega arith, s.is);
       is = close_named ∙ rw (drop-cons doc e 0 l, b, add-one);
@@ -56,11 +59,11 @@ module _ {doc : List ℕ} {from e : ℕ} (w : Run white doc from e) where
   end_at : (lt : ℕ) (n : List ℕ) (xs : List Shown) → tag_end lt n xs (past white (drop from doc)) (from + length (span white (drop from doc))) ≡ tag_end lt n xs (drop e doc) e
   end_at lt n xs = rw (run_rest w, ← w.ends)
 
-  pub end_missing : length doc ≤ e → Ends doc from (TagEnd.Missing e)
-  end_missing l = record { onward = tt; is = λ lt n xs. end_at lt n xs ∙ rw (drop_of_length-le doc l) }
+  pub end_missing : {f : Fault} → length doc ≤ e → f ≡ record { number = 4; place = e } → Ends doc from (Err f)
+  end_missing l q = rw q record { onward = tt; is = λ lt n xs. (end_at lt n xs ∙ rw (drop_of_length-le doc l), refl) }
 
   module _ (l : e < length doc) where
-    pub end-plain : get_or doc e 0 ≡ 62 → Ends doc from (TagEnd.Here false (e + 1))
+    pub end-plain : get_or doc e 0 ≡ 62 → Ends doc from (Ok (record { closes = false; end = e + 1 }))
     end-plain b =
         let z : e + 1 - 1 ≡ e = omega arith in
         record {
@@ -68,20 +71,20 @@ module _ {doc : List ℕ} {from e : ℕ} (w : Run white doc from e) where
           is = λ lt n xs. end_at lt n xs ∙ rw (drop-cons doc e 0 l, b, add-one);
         }
 
-    pub end_other : (get_or doc e 0 ≡ 62 → ⊥) → (get_or doc e 0 ≡ 47 → ⊥) → Ends doc from (TagEnd.Missing e)
-    end_other a b = record { onward = tt; is = λ lt n xs. end_at lt n xs ∙ rw (drop-cons doc e 0 l, ne_eqb _ _ a, ne_eqb _ _ b) }
+    pub end_other : {f : Fault} → (get_or doc e 0 ≡ 62 → ⊥) → (get_or doc e 0 ≡ 47 → ⊥) → f ≡ record { number = 4; place = e } → Ends doc from (Err f)
+    end_other a b q = rw q record { onward = tt; is = λ lt n xs. (end_at lt n xs ∙ rw (drop-cons doc e 0 l, ne_eqb _ _ a, ne_eqb _ _ b), refl) }
 
     module _ (b : get_or doc e 0 ≡ 47) where
       slash_at : (lt : ℕ) (n : List ℕ) (xs : List Shown) → tag_end lt n xs (drop e doc) e ≡ slash_end lt n xs (drop (e + 1) doc) e
       slash_at lt n xs = rw (drop-cons doc e 0 l, b, add-one)
 
-      pub end_slash_missing : length doc ≤ e + 1 → Ends doc from (TagEnd.Missing e)
-      end_slash_missing h = record { onward = tt; is = λ lt n xs. end_at lt n xs ∙ slash_at lt n xs ∙ rw (drop_of_length-le doc h) }
+      pub end_slash_missing : {f : Fault} → length doc ≤ e + 1 → f ≡ record { number = 4; place = e } → Ends doc from (Err f)
+      end_slash_missing h q = rw q record { onward = tt; is = λ lt n xs. (end_at lt n xs ∙ slash_at lt n xs ∙ rw (drop_of_length-le doc h), refl) }
 
-      pub end_slash_other : e + 1 < length doc → (get_or doc (e + 1) 0 ≡ 62 → ⊥) → Ends doc from (TagEnd.Missing e)
-      end_slash_other h c = record { onward = tt; is = λ lt n xs. end_at lt n xs ∙ slash_at lt n xs ∙ rw (drop-cons doc (e + 1) 0 h, ne_eqb _ _ c) }
+      pub end_slash_other : {f : Fault} → e + 1 < length doc → (get_or doc (e + 1) 0 ≡ 62 → ⊥) → f ≡ record { number = 4; place = e } → Ends doc from (Err f)
+      end_slash_other h c q = rw q record { onward = tt; is = λ lt n xs. (end_at lt n xs ∙ slash_at lt n xs ∙ rw (drop-cons doc (e + 1) 0 h, ne_eqb _ _ c), refl) }
 
-      pub end_slash : e + 1 < length doc → get_or doc (e + 1) 0 ≡ 62 → Ends doc from (TagEnd.Here true (e + 2))
+      pub end_slash : e + 1 < length doc → get_or doc (e + 1) 0 ≡ 62 → Ends doc from (Ok (record { closes = true; end = e + 2 }))
       end_slash h c =
           let z : e + 2 - 1 ≡ e + 1 = omega arith in
           let y : suc (suc e) ≡ e + 2 = omega arith in

@@ -1,13 +1,14 @@
 -- Start tags: the name, the attributes, the end.
 -- Assumes nothing.
 use Prim.Native.Nat.{ℕ, suc, ◌+◌, ◌-◌, ◌≤◌}
-use mathlib.Core.Path.{◌≡◌, refl, ◌∙◌}
+use mathlib.Core.Path.{◌≡◌, refl, ap, ◌∙◌}
 use mathlib.Core.List.{List}
 use mathlib.Core.Bool.{Bool}
 use borrow.Author.Rules.{rules}
 use native.Mathlib.Numerals.{add-one}
 use native.Mathlib.Omega.{arith}
 use lib.ListN.{length, take, drop, length-take, length-drop}
+use Rattle.std.specs.Prelude.{Err, Result, Ok}
 use Rattle.slices.specs.Bytes.{span}
 use Rattle.slices.specs.Run.{Run}
 use Rattle.slices.proofs.Ends.{run_length, run_span, run_rest, run_empty, run_some}
@@ -23,11 +24,12 @@ use Rattle.document.specs.declared.Refusal.{Refusal}
 use Rattle.document.specs.declared.Token.{Token}
 use Rattle.document.proofs.Attributes.{Met}
 use Rattle.document.proofs.Nexts.{opening_reaches}
-use Rattle.attributes.specs.declared.Attrs.{Attrs}
 use Rattle.attributes.specs.Outcome.{Gathers}
 use Rattle.tags.specs.declared.TagEnd.{TagEnd}
 use Rattle.tags.specs.Outcome.{TagStart, TagAt, Ends}
 use Rattle.tags.proofs.Faults.{markup_at}
+use Rattle.faults.specs.declared.Fault.{Fault}
+use Rattle.attributes.specs.declared.TagValues.{TagValues}
 
 -- what fits between two places fits between places further apart
 value_fits : {from to from' to' : ℕ} {v : Value} → from' ≤ from → to ≤ to' → ValueFits from to v → ValueFits from' to' v
@@ -45,41 +47,42 @@ values_fit a b f = record {
 }
 
 -- the attributes end within the document
-pub attributes_end : {doc : List ℕ} {m : ℕ} {r : Attrs} {from : ℕ} {v : Values} → Gathers doc m r → r ≡ Attrs.All from v → from ≤ length doc
-attributes_end {doc} {m} {r} {from} {v} g q = let d : Gathers doc m (Attrs.All from v) = rw q at g in d.onward.1
+pub attributes_end : {doc : List ℕ} {m : ℕ} {r : Result TagValues Fault} {g : TagValues} → Gathers doc m r → r ≡ Ok g → g.end ≤ length doc
+attributes_end {doc} {m} {r} {g} h q = let d : Gathers doc m (Ok g) = rw q at h in d.onward.1
 
 module _ {doc : List ℕ} (lt : ℕ) {m : ℕ} (n : Run name_byte doc (lt + 1) m) where
-  pub start_nameless : {x : Refusal} → m ≡ lt + 1 → x ≡ bare 4 (lt + 1) → TagAt doc lt (opening (drop (lt + 1) doc) lt) (Token.Fault x)
+  pub start_nameless : {x : Refusal} → m ≡ lt + 1 → x ≡ bare 4 (lt + 1) → TagAt doc lt (opening (drop (lt + 1) doc) lt) (Err x)
   unfolding opening
   start_nameless e b = markup_at b (rw (run_empty n (omega arith), add-one))
 
-  module _ (h : m ≡ lt + 1 → ⊥) {r : Attrs} (g : Gathers doc m r) where
+  module _ (h : m ≡ lt + 1 → ⊥) {r : Result TagValues Fault} (g : Gathers doc m r) where
     start_named : opening (drop (lt + 1) doc) lt ≡ with_attrs lt (take (m - (lt + 1)) (drop (lt + 1) doc)) (gather 256 (drop m doc) m)
     unfolding opening
     start_named =
         let q : suc lt + length (span name_byte (drop (lt + 1) doc)) ≡ m = omega (arith, run_length n, n.onward) in
         rw (run_some n (omega (arith, n.onward)), run_rest n, q, run_span n)
 
-    module _ {k p : ℕ} (q : r ≡ Attrs.Fault k p) where
-      start_faulty : opening (drop (lt + 1) doc) lt ≡ last (fault k p)
+    module _ {y : Fault} (q : r ≡ Err y) where
+      start_faulty : opening (drop (lt + 1) doc) lt ≡ last (fault y.number y.place)
       start_faulty = start_named ∙ (rw q at g).is lt (take (m - (lt + 1)) (drop (lt + 1) doc))
 
-      pub start_fault : {x : Refusal} → x ≡ fault_in doc k p → TagAt doc lt (opening (drop (lt + 1) doc) lt) (Token.Fault x)
-      start_fault b = record { onward = tt; is = (k, p, start_faulty, b) }
+      pub start_fault : {x : Refusal} → x ≡ fault_in doc y.number y.place → TagAt doc lt (opening (drop (lt + 1) doc) lt) (Err x)
+      start_fault b = record { onward = tt; is = (y.number, y.place, start_faulty, b) }
 
-    module _ {from : ℕ} {v : Values} (q : r ≡ Attrs.All from v) where
-      module _ {t : TagEnd} (f : Ends doc from t) where
-        pub start_unended : {p : ℕ} {x : Refusal} → t ≡ TagEnd.Missing p → x ≡ bare 4 p → TagAt doc lt (opening (drop (lt + 1) doc) lt) (Token.Fault x)
-        start_unended {p} y b =
-            let d : Gathers doc m (Attrs.All from v) = rw q at g in
-            let i : Ends doc from (TagEnd.Missing p) = rw y at f in
+    module _ {v : TagValues} (q : r ≡ Ok v) where
+      module _ {t : Result TagEnd Fault} (f : Ends doc v.end t) where
+        pub start_unended : {y : Fault} {x : Refusal} → t ≡ Err y → x ≡ bare y.number y.place → TagAt doc lt (opening (drop (lt + 1) doc) lt) (Err x)
+        start_unended {y} h b =
+            let d : Gathers doc m (Ok v) = rw q at g in
+            let i : Ends doc v.end (Err y) = rw h at f in
             let name = take (m - (lt + 1)) (drop (lt + 1) doc) in
-            markup_at b (start_named ∙ d.is.2 lt name ∙ i.is lt name d.is.0)
+            let w = i.is lt name d.is.0 in
+            markup_at (b ∙ ap (λ (k : ℕ). bare k y.place) w.1) (start_named ∙ d.is.2 lt name ∙ w.0)
 
-        pub starts : {s : Bool} {e k : ℕ} → t ≡ TagEnd.Here s e → k ≡ kind_of (take (m - (lt + 1)) (drop (lt + 1) doc)) → TagAt doc lt (opening (drop (lt + 1) doc) lt) (Token.Start record { at = lt + 1; len = m - (lt + 1); kind = k; closes = s; end = e; values = v })
-        starts {s} {e} {k} y u =
-            let d : Gathers doc m (Attrs.All from v) = rw q at g in
-            let i : Ends doc from (TagEnd.Here s e) = rw y at f in
+        pub starts : {z : TagEnd} {k : ℕ} → t ≡ Ok z → k ≡ kind_of (take (m - (lt + 1)) (drop (lt + 1) doc)) → TagAt doc lt (opening (drop (lt + 1) doc) lt) (Ok (Token.Start record { at = lt + 1; len = m - (lt + 1); kind = k; closes = z.closes; end = z.end; values = v.values }))
+        starts {z} {k} y u =
+            let d : Gathers doc m (Ok v) = rw q at g in
+            let i : Ends doc v.end (Ok z) = rw y at f in
             let name = take (m - (lt + 1)) (drop (lt + 1) doc) in
             record {
               onward = (
@@ -93,7 +96,7 @@ module _ {doc : List ℕ} (lt : ℕ) {m : ℕ} (n : Run name_byte doc (lt + 1) m
                 },
               );
               is = (
-                record { at = lt; name = name; attrs = d.is.0; self = s; after = e },
+                record { at = lt; name = name; attrs = d.is.0; self = z.closes; after = z.end },
                 record {
                   at = add-one lt;
                   named = record { is = refl; len = rw (length-take, length-drop) (omega (arith, n.within)) };
@@ -107,10 +110,10 @@ module _ {doc : List ℕ} (lt : ℕ) {m : ℕ} (n : Run name_byte doc (lt + 1) m
             }
 
 -- the fault of the attributes is in the document
-pub attributes_fault : {doc : List ℕ} {lt m k p : ℕ} {r : Attrs} → Gathers doc m r → r ≡ Attrs.Fault k p → TagStart doc lt → Run name_byte doc (lt + 1) m → (m ≡ lt + 1 → ⊥) → p ≤ length doc
-attributes_fault {doc} {lt} {m} {k} {p} g q s n h =
+pub attributes_fault : {doc : List ℕ} {lt m : ℕ} {y : Fault} {r : Result TagValues Fault} → Gathers doc m r → r ≡ Err y → TagStart doc lt → Run name_byte doc (lt + 1) m → (m ≡ lt + 1 → ⊥) → y.place ≤ length doc
+attributes_fault {doc} {lt} {m} {y} g q s n h =
     let z : suc lt + length (drop (lt + 1) doc) ≡ length doc = rw length-drop (omega (arith, n.onward, n.within)) in
-    let f : Met (length doc) k p = rw (start_faulty lt n h g q) at (opening_reaches lt (length doc) (drop (lt + 1) doc) lt (omega arith) z) in
+    let f : Met (length doc) y.number y.place = rw (start_faulty lt n h g q) at (opening_reaches lt (length doc) (drop (lt + 1) doc) lt (omega arith) z) in
     f.place
 
 -- what answers every need of `start_tag`

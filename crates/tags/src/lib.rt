@@ -2,8 +2,8 @@
 #![tactic(auto)]
 
 ghost use Rattle.std.specs.Prelude.{◌≡◌, suc, ◌+◌, ◌≤◌, ◌-◌, ◌<◌, ◌^◌, length, drop, take};
+ghost use Rattle.faults.specs.Fault.{fault};
 ghost use Rattle.slices.specs.Bytes.{if, other, same, span};
-ghost use Rattle.scan.specs.Classes.{Classes};
 ghost use Rattle.scan.specs.Colons.{Scanned};
 ghost use Rattle.document.specs.Tokens.{opening, closing, tag};
 ghost use Rattle.document.specs.Elements.{local_kind, kind_of, local_name};
@@ -13,15 +13,15 @@ ghost use Rattle.document.specs.Outcome.{Tokenises, Steps};
 ghost use Rattle.tags.specs.Kinds.{exact_kind};
 ghost use Rattle.tags.specs.Outcome.{TagStart, TagAt, Ends};
 
-use attributes::Attrs;
-use document::{ClosingTag, Excerpt, Next, Refusal, StartTag, Token, kinds};
-use scan::{Colons, Name, Scan};
+use document::{Closing, ClosingTag, Excerpt, Next, Refusal, StartTag, Token, kinds};
+use faults::Fault;
+use scan::{ClassTable, Colons, Name};
 
-// Where a start tag's end was wanted, or whether it is `/>` and the place after it.
+// The end of a start tag: whether it is `/>`, and the place after it.
 #[derive(Clone, Copy)]
-pub enum TagEnd {
-    Missing(usize),
-    Here(bool, usize),
+pub struct TagEnd {
+    pub closes: bool,
+    pub end: usize,
 }
 
 // The kind if the name is the key.
@@ -46,6 +46,7 @@ fn either(name: &[u8], key: &[u8], kind: u32, key2: &[u8], kind2: u32) -> u32
 }
 
 // The kind of a name by the names that are taken whole, or 0.
+#[tactic(auto, using(crate::proofs::Kind::lengths))]
 fn exact_kind(name: &[u8]) -> u32
     ensures { result ≡ exact_kind name.now }
 {
@@ -61,6 +62,7 @@ fn exact_kind(name: &[u8]) -> u32
 }
 
 // The kind of a local name, or 0.
+#[tactic(auto, using(crate::proofs::Kind::lengths))]
 fn local_kind(name: &[u8]) -> u32
     ensures { result ≡ local_kind name.now }
 {
@@ -81,6 +83,7 @@ fn local_kind(name: &[u8]) -> u32
 }
 
 // The kind of an element, by its name and its local name.
+#[tactic(auto, using(crate::proofs::Kind::kinds))]
 fn kind_of(name: &[u8], local: &[u8]) -> u32
     requires { local.now ≡ local_name name.now }
     ensures { result ≡ kind_of name.now }
@@ -93,17 +96,18 @@ fn kind_of(name: &[u8], local: &[u8]) -> u32
 }
 
 // Where the local name begins of a name that begins at a place: past the last colon, or there.
-fn local_start(at: usize, colons: Colons) -> usize
+fn local_start(at: usize, colons: Option<Colons>) -> usize
     requires { local_start «at» colons < 2 ^ 64 }
     ensures { result ≡ local_start «at» colons }
 {
     match colons {
-        Colons::Absent => at,
-        Colons::Between(_, last) => last + 1,
+        None => at,
+        Some(colons) => colons.last + 1,
     }
 }
 
 // The kind of the element whose name begins at a place.
+#[tactic(auto, using(crate::proofs::Kind::placed))]
 fn kind_at(doc: &[u8], at: usize, name: Name) -> u32
     requires { Scanned doc.now «at» name × (length doc.now ≤ 1048576) }
     ensures { result ≡ kind_of (take (name.end - «at») (drop «at» doc.now)) }
@@ -115,54 +119,67 @@ fn kind_at(doc: &[u8], at: usize, name: Name) -> u32
 }
 
 // The closing tag whose `</` stands at a place: a name, white space, `>`.
-pub fn closing_tag(doc: &[u8], classes: &[u8; 256], lt: usize) -> Token
-    requires { TagStart doc.now lt × (lt + 2 ≤ length doc.now) × Classes classes.now }
+pub fn closing_tag(doc: &[u8], classes: &ClassTable, lt: usize) -> Result<Token, Refusal>
+    requires { TagStart doc.now lt × (lt + 2 ≤ length doc.now) }
     ensures { TagAt doc.now lt (closing (drop (lt + 2) doc.now) lt) result }
 {
     let at = lt + 2;
     let name = scan::name_at(doc, classes, at);
     let named = name.end;
     if named == at {
-        return Token::Fault(document::bare(4, lt + 1));
+        return Err(document::bare(4, lt + 1));
     }
     let end = scan::space_end(doc, classes, named);
     if doc.len() <= end {
-        return Token::Fault(document::bare(4, lt + 1));
+        return Err(document::bare(4, lt + 1));
     }
     if doc[end] != b'>' {
-        return Token::Fault(document::bare(4, lt + 1));
+        return Err(document::bare(4, lt + 1));
     }
-    Token::Close(ClosingTag {
+    Ok(Token::Close(ClosingTag {
         lt,
         at,
         len: named - at,
         end: end + 1,
-    })
+    }))
 }
 
-// The end of a start tag, past the white space from a place on.
-pub fn tag_end(doc: &[u8], classes: &[u8; 256], from: usize) -> TagEnd
-    requires { (from ≤ length doc.now) × Classes classes.now }
+// A malformed tag, told at a place.
+fn malformed(place: usize) -> Fault
+    ensures { result ≡ fault 4 place }
+{
+    Fault { number: 4, place }
+}
+
+// The end of a start tag, past the white space from a place on; or the fault where it was wanted.
+pub fn tag_end(doc: &[u8], classes: &ClassTable, from: usize) -> Result<TagEnd, Fault>
+    requires { from ≤ length doc.now }
     ensures { Ends doc.now from result }
 {
     let at = scan::space_end(doc, classes, from);
     if doc.len() <= at {
-        return TagEnd::Missing(at);
+        return Err(malformed(at));
     }
     if doc[at] == b'>' {
-        return TagEnd::Here(false, at + 1);
+        return Ok(TagEnd {
+            closes: false,
+            end: at + 1,
+        });
     }
     if doc[at] != b'/' {
-        return TagEnd::Missing(at);
+        return Err(malformed(at));
     }
     let next = at + 1;
     if doc.len() <= next {
-        return TagEnd::Missing(at);
+        return Err(malformed(at));
     }
     if doc[next] != b'>' {
-        return TagEnd::Missing(at); // at the slash
+        return Err(malformed(at)); // at the slash
     }
-    TagEnd::Here(true, at + 2)
+    Ok(TagEnd {
+        closes: true,
+        end: at + 2,
+    })
 }
 
 // A fault at a reference, which is shown from its place to its `;`.
@@ -176,8 +193,9 @@ fn reference_in(doc: &[u8], number: u32, place: usize) -> Refusal
 }
 
 // The refusal of a fault in the attributes: 8 shows the attribute's name, 10 and 11 the reference.
-fn fault_in(doc: &[u8], classes: &[u8; 256], number: u32, place: usize) -> Refusal
-    requires { (place ≤ length doc.now) × (length doc.now ≤ 1048576) × Classes classes.now }
+#[tactic(auto, using(crate::proofs::Faults::faults))]
+fn fault_in(doc: &[u8], classes: &ClassTable, number: u32, place: usize) -> Refusal
+    requires { (place ≤ length doc.now) × (length doc.now ≤ 1048576) }
     ensures { result ≡ fault_in doc.now number place }
 {
     if number == 8 {
@@ -194,43 +212,42 @@ fn fault_in(doc: &[u8], classes: &[u8; 256], number: u32, place: usize) -> Refus
 }
 
 // The start tag whose `<` stands at a place.
-fn start_tag(doc: &[u8], classes: &[u8; 256], lt: usize) -> Token
-    requires { TagStart doc.now lt × Classes classes.now }
+#[tactic(auto, using(crate::proofs::Startings::startings))]
+fn start_tag(doc: &[u8], classes: &ClassTable, lt: usize) -> Result<Token, Refusal>
+    requires { TagStart doc.now lt }
     ensures { TagAt doc.now lt (opening (drop (lt + 1) doc.now) lt) result }
 {
     let at = lt + 1;
     let name = scan::name_at(doc, classes, at);
     let named = name.end;
     if named == at {
-        return Token::Fault(document::bare(4, at));
+        return Err(document::bare(4, at));
     }
     match attributes::attributes(doc, classes, named) {
-        Attrs::Fault(number, place) => Token::Fault(fault_in(doc, classes, number, place)),
-        Attrs::All(from, values) => match tag_end(doc, classes, from) {
-            TagEnd::Missing(place) => Token::Fault(document::bare(4, place)),
-            TagEnd::Here(closes, end) => {
-                let kind = kind_at(doc, at, name);
-                Token::Start(StartTag {
-                    at,
-                    len: named - at,
-                    kind,
-                    closes,
-                    end,
-                    values,
-                })
-            }
-        },
+        Err(fault) => Err(fault_in(doc, classes, fault.number, fault.place)),
+        Ok(gathered) => {
+            let end = tag_end(doc, classes, gathered.end)?;
+            let kind = kind_at(doc, at, name);
+            Ok(Token::Start(StartTag {
+                at,
+                len: named - at,
+                kind,
+                closes: end.closes,
+                end: end.end,
+                values: gathered.values,
+            }))
+        }
     }
 }
 
 // The tag whose `<` stands at a place.
-fn tag(doc: &[u8], classes: &[u8; 256], lt: usize) -> Token
-    requires { TagStart doc.now lt × Classes classes.now }
+fn tag(doc: &[u8], classes: &ClassTable, lt: usize) -> Result<Token, Refusal>
+    requires { TagStart doc.now lt }
     ensures { TagAt doc.now lt (tag (drop (lt + 1) doc.now) lt) result }
 {
     let next = lt + 1;
     if doc.len() <= next {
-        return Token::Fault(document::bare(4, next));
+        return Err(document::bare(4, next));
     }
     if doc[next] == b'/' {
         return closing_tag(doc, classes, lt);
@@ -239,39 +256,45 @@ fn tag(doc: &[u8], classes: &[u8; 256], lt: usize) -> Token
 }
 
 // The next token from a place on.
-pub fn token(doc: &[u8], classes: &[u8; 256], from: usize) -> Token
-    requires { (from ≤ length doc.now) × (length doc.now ≤ 1048576) × Classes classes.now }
+#[tactic(auto, using(crate::proofs::Nexts::nexts))]
+pub fn token(doc: &[u8], classes: &ClassTable, from: usize) -> Result<Token, Refusal>
+    requires { (from ≤ length doc.now) × (length doc.now ≤ 1048576) }
     ensures { Tokenises doc.now from result }
 {
-    match scan::ignorable(doc, from) {
-        Scan::Fault(number, place) => Token::Fault(document::bare(number, place)),
-        Scan::At(at) => {
-            if doc.len() <= at {
-                return Token::End(at);
-            }
-            tag(doc, classes, at)
-        }
+    let at = scan::ignorable(doc, from)?;
+    if doc.len() <= at {
+        return Ok(Token::End(at));
     }
+    tag(doc, classes, at)
 }
 
 // What comes next in an open element, whose name stands at a place with a length: 5 at the end, 6 after another closing tag.
-pub fn step(doc: &[u8], classes: &[u8; 256], from: usize, at: usize, len: usize) -> Next
-    requires { (from ≤ length doc.now) × (at + len ≤ length doc.now) × (length doc.now ≤ 1048576) × Classes classes.now }
+#[tactic(auto, using(crate::proofs::Stepping::stepping))]
+pub fn step(
+    doc: &[u8],
+    classes: &ClassTable,
+    from: usize,
+    at: usize,
+    len: usize,
+) -> Result<Next, Refusal>
+    requires { (from ≤ length doc.now) × (at + len ≤ length doc.now) × (length doc.now ≤ 1048576) }
     ensures { Steps doc.now from at len result }
 {
-    match token(doc, classes, from) {
-        Token::Fault(x) => Next::Fault(x),
-        Token::End(place) => Next::Fault(document::showing(5, place, Excerpt::new(at, len))),
+    match token(doc, classes, from)? {
+        Token::End(place) => Err(document::showing(5, place, Excerpt::new(at, len))),
         Token::Close(c) => {
             let open = at + len;
             let named = c.at;
             let close = named + c.len;
             if slices::equal(&doc[named..close], &doc[at..open]) {
-                return Next::Close(c.lt, c.end);
+                return Ok(Next::Close(Closing {
+                    lt: c.lt,
+                    end: c.end,
+                }));
             }
             let first = Excerpt::new(named, c.len);
             let second = Excerpt::new(at, len);
-            Next::Fault(Refusal {
+            Err(Refusal {
                 place: c.end,
                 number: 6,
                 key: 0,
@@ -279,9 +302,6 @@ pub fn step(doc: &[u8], classes: &[u8; 256], from: usize, at: usize, len: usize)
                 second,
             })
         }
-        Token::Start(c) => {
-            // by `return`: as the arm's value it would be copied once more, and `step` not compiled into its callers
-            return Next::Start(c);
-        }
+        Token::Start(c) => Ok(Next::Start(c)),
     }
 }

@@ -9,6 +9,7 @@ use native.Mathlib.Numerals.{add-one}
 use native.Mathlib.Omega.{arith}
 use lib.Dec.{eqb}
 use lib.ListN.{length, take}
+use Rattle.std.specs.Prelude.{Result, Ok, Err}
 use Rattle.slices.specs.Bytes.{if}
 use Rattle.document.specs.Kinds as kinds
 use Rattle.document.specs.Tags.{Shown}
@@ -17,13 +18,12 @@ use Rattle.document.specs.Rows.{Row, Tables}
 use Rattle.document.specs.Elements.{kind_of, among, held_by_lem, may_hold}
 use Rattle.document.specs.Reading as reading
 use Rattle.document.specs.Reading.{Name, Frame, definition, State, reading, closed, judged, child, begins, noted, one_more}
-use Rattle.document.specs.Outcome as outcome
 use Rattle.document.specs.Outcome.{Lent, lent, name_at, Stands, Bounded, Ready, Steps, Begins, Others, runs, whole, moved}
 use Rattle.document.specs.declared.Refusal.{Refusal}
 use Rattle.document.specs.declared.StartTag.{StartTag}
 use Rattle.document.specs.declared.Fill.{Fill}
-use Rattle.document.specs.declared.Answer.{Answer}
 use Rattle.document.specs.declared.Next.{Next}
+use Rattle.document.specs.declared.Closing.{Closing}
 use Rattle.document.proofs.Openings.{tag_named}
 use Rattle.document.proofs.Loops.{moved_stands, rows-kept}
 use Rattle.telepathy.specs.Outcome.{DefinitionKind, PartKind, Holds, Unseen, More, Noted, Child, Body, Content, Ends, seen, open_as, no_parts}
@@ -57,16 +57,16 @@ pub ruleset holding = (holds_none, holds_enumvalue, holds_member, rules)
 noted_is : {m : ℕ} (k i lt why : ℕ) (n : Name) (t : Tag) (fs : List Frame) (p q : Parts) → PartKind m → seen q ≡ one_more m t (seen p) → noted m t (definition (open_as k i lt n why p) ∷ fs) ≡ definition (open_as k i lt n why q) ∷ fs
 noted_is {m} k i lt why n t fs p q h e = rw h.is (ap (λ (x : reading.Parts). definition (record { kind = k; at = lt; name = n; row = i; reason = why; parts = x }) ∷ fs) (sym e))
 
-module _ {doc : List ℕ} {c : StartTag} {i : ℕ} {f : Fill} {b b' : Lent} {a : Answer} (h : Begins doc c.kind c (i + 1) f b b' a) where
-  pub noted_fault : {p : Parts} {x : Refusal} → a ≡ Answer.Fault x → Noted doc c i p f b b' (Inner.Fault x)
+module _ {doc : List ℕ} {c : StartTag} {i : ℕ} {f : Fill} {b b' : Lent} {a : Result Fill Refusal} (h : Begins doc c.kind c (i + 1) f b b' a) where
+  pub noted_fault : {p : Parts} {x : Refusal} → a ≡ Err x → Noted doc c i p f b b' (Err x)
   noted_fault {p} e = record {
     onward = tt;
     ends = λ k lt why n t fs u z s. (rw e at h).ends t (definition (open_as k i lt n why p) ∷ fs) u z (rw add-one) s;
   }
 
-  pub noted_done : {p q : Parts} {g : Fill} → More doc c f p q → a ≡ Answer.Done g → Noted doc c i p f b b' (Inner.Done g q)
+  pub noted_done : {p q : Parts} {g : Fill} → More doc c f p q → a ≡ Ok g → Noted doc c i p f b b' (Ok (record { fill = g; parts = q }))
   noted_done {p} {q} {g} m e =
-      let j : Begins doc c.kind c (i + 1) f b b' (Answer.Done g) = rw e at h in
+      let j : Begins doc c.kind c (i + 1) f b b' (Ok g) = rw e at h in
       record {
         onward = (j.onward.0, j.onward.1, omega (arith, j.onward.0, m.few), j.onward.2);
         ends = λ k lt why n t fs u z s.
@@ -93,7 +93,7 @@ held_part {k} {m} d y e = by_definition (λ j. among m (held_by_lem j) ≡ true 
 
 module _ {k : ℕ} (d : DefinitionKind k) {c : StartTag} {o : Bool} (y : Holds k c.kind o) where
   module _ {doc : List ℕ} {i : ℕ} {p : Parts} {f : Fill} where
-    pub child_part : {b b' : Lent} {r : Inner} → o ≡ true → i < f.rows → Noted doc c i p f b b' r → Child doc k i c p f b b' r
+    pub child_part : {b b' : Lent} {r : Result Inner Refusal} → o ≡ true → i < f.rows → Noted doc c i p f b b' r → Child doc k i c p f b b' r
     unfolding may_hold
     child_part {b} {b'} {r} e l h = record {
       onward = h.onward;
@@ -105,20 +105,20 @@ module _ {k : ℕ} (d : DefinitionKind k) {c : StartTag} {o : Bool} (y : Holds k
         begun : (t : Tag) (fs : List Frame) (u : Tables Shown) → c.kind ≡ kind_of t.name → runs doc c.end (child whole doc k i t fs u) ≡ runs doc c.end (begins whole doc c.kind t fs u)
         begun t fs u q = rw (← q, by_part (λ m. eqb m kinds.docstring ≡ false) refl refl (held_part d y e), sym y.is ∙ e)
 
-        kept : {s s' : State Shown} (after : Parts → Tables Shown → State Shown) (u : List (Row Shown)) (r : Inner) → s ≡ s' → Ends doc s' after f.rows u b' r → Ends doc s after i (take i u) b' r
-        kept after u (Inner.Fault y) e x = e ∙ x
-        kept after u (Inner.Done g q) e x = (x.0, x.1, e ∙ x.2, rows-kept i f.rows x.0.rows u (omega arith) x.3)
+        kept : {s s' : State Shown} (after : Parts → Tables Shown → State Shown) (u : List (Row Shown)) (r : Result Inner Refusal) → s ≡ s' → Ends doc s' after f.rows u b' r → Ends doc s after i (take i u) b' r
+        kept after u (Err y) e x = e ∙ x
+        kept after u (Ok y) e x = (x.0, x.1, e ∙ x.2, rows-kept i f.rows x.0.rows u (omega arith) x.3)
 
-    module _ {rows rows' w w' bytes : List ℕ} {a : Answer} (e : o ≡ false) (h : Others doc c i f rows rows' w w' a) where
-      pub child_other_fault : {x : Refusal} → a ≡ Answer.Fault x → Child doc k i c p f (lent rows w bytes) (lent rows' w' bytes) (Inner.Fault x)
+    module _ {rows rows' w w' bytes : List ℕ} {a : Result Fill Refusal} (e : o ≡ false) (h : Others doc c i f rows rows' w w' a) where
+      pub child_other_fault : {x : Refusal} → a ≡ Err x → Child doc k i c p f (lent rows w bytes) (lent rows' w' bytes) (Err x)
       child_other_fault x = record {
         onward = tt;
         ends = λ lt why n t fs u z s. (rw x at h).ends k t (definition (open_as k i lt n why p) ∷ fs) u bytes (sym y.is ∙ e) (by_definition (λ m. not (eqb m kinds.annotation) ≡ true) refl refl refl refl d) z s;
       }
 
-      pub child_other_done : {g : Fill} → p.count < f.at → a ≡ Answer.Done g → Child doc k i c p f (lent rows w bytes) (lent rows' w' bytes) (Inner.Done g p)
+      pub child_other_done : {g : Fill} → p.count < f.at → a ≡ Ok g → Child doc k i c p f (lent rows w bytes) (lent rows' w' bytes) (Ok (record { fill = g; parts = p }))
       child_other_done {g} l x =
-          let j : Others doc c i f rows rows' w w' (Answer.Done g) = rw x at h in
+          let j : Others doc c i f rows rows' w w' (Ok g) = rw x at h in
           record {
             onward = (j.onward.0, j.onward.1, omega (arith, j.onward.0), j.onward.2);
             ends = λ lt why n t fs u z s. j.ends k t (definition (open_as k i lt n why p) ∷ fs) u bytes (sym y.is ∙ e) (by_definition (λ m. not (eqb m kinds.annotation) ≡ true) refl refl refl refl d) z s;
@@ -153,8 +153,8 @@ module _ {doc : List ℕ} {k at len i : ℕ} {f₀ : Fill} {b₀ : Lent} where
     leads = λ lt why fs u s. (u, s, refl, refl);
   })
 
-  module _ {f : Fill} {p : Parts} {b : Lent} (g : Sofar doc k at len i f₀ b₀ f p b) {r : Next} (s : Steps doc f.at at len r) where
-    pub body_fault : {x : Refusal} → r ≡ Next.Fault x → Body doc k at len i f₀ b₀ b (Inner.Fault x)
+  module _ {f : Fill} {p : Parts} {b : Lent} (g : Sofar doc k at len i f₀ b₀ f p b) {r : Result Next Refusal} (s : Steps doc f.at at len r) where
+    pub body_fault : {x : Refusal} → r ≡ Err x → Body doc k at len i f₀ b₀ b (Err x)
     body_fault e = record {
       onward = tt;
       ends = λ lt why fs u z.
@@ -162,9 +162,9 @@ module _ {doc : List ℕ} {k at len i : ℕ} {f₀ : Fill} {b₀ : Lent} where
           x.2 ∙ (rw e at s).leads (definition (open_as k i lt (name_at doc at len) why p)) fs x.0 refl;
     }
 
-    pub body_close : {lt end : ℕ} → r ≡ Next.Close lt end → Body doc k at len i f₀ b₀ b (Inner.Done (moved f end) p)
-    body_close {lt} {end} e =
-        let c : Steps doc f.at at len (Next.Close lt end) = rw e at s in
+    pub body_close : {q : Closing} → r ≡ Ok (Next.Close q) → Body doc k at len i f₀ b₀ b (Ok (record { fill = moved f q.end; parts = p }))
+    body_close {q} e =
+        let c : Steps doc f.at at len (Ok (Next.Close q)) = rw e at s in
         record {
           onward = (
             omega (arith, g.since, c.onward),
@@ -179,11 +179,11 @@ module _ {doc : List ℕ} {k at len i : ℕ} {f₀ : Fill} {b₀ : Lent} where
           );
           ends = λ lt why fs u z.
               let x = g.leads lt why fs u z in
-              (x.0, moved_stands end x.1, x.2 ∙ c.leads (definition (open_as k i lt (name_at doc at len) why p)) fs x.0 refl, x.3);
+              (x.0, moved_stands q.end x.1, x.2 ∙ c.leads (definition (open_as k i lt (name_at doc at len) why p)) fs x.0 refl, x.3);
         }
 
-    module _ {c : StartTag} (q : r ≡ Next.Start c) where
-      start : Steps doc f.at at len (Next.Start c)
+    module _ {c : StartTag} (q : r ≡ Ok (Next.Start c)) where
+      start : Steps doc f.at at len (Ok (Next.Start c))
       start = rw q at s
 
       pub body_ready : Ready doc c (moved f c.end)
@@ -198,8 +198,8 @@ module _ {doc : List ℕ} {k at len i : ℕ} {f₀ : Fill} {b₀ : Lent} where
       pub body_count : p.count < c.end
       body_count = omega (arith, g.few, start.onward.0, start.onward.1.inside)
 
-      module _ {b' : Lent} {a : Inner} (h : Child doc k i c p (moved f c.end) b b' a) where
-        pub body_child_fault : {x : Refusal} → a ≡ Inner.Fault x → Body doc k at len i f₀ b₀ b' (Inner.Fault x)
+      module _ {b' : Lent} {a : Result Inner Refusal} (h : Child doc k i c p (moved f c.end) b b' a) where
+        pub body_child_fault : {x : Refusal} → a ≡ Err x → Body doc k at len i f₀ b₀ b' (Err x)
         body_child_fault w = record {
           onward = tt;
           ends = λ lt why fs u z.
@@ -208,9 +208,9 @@ module _ {doc : List ℕ} {k at len i : ℕ} {f₀ : Fill} {b₀ : Lent} where
               x.2 ∙ y.2 ∙ (rw w at h).ends lt why (name_at doc at len) y.0 fs x.0 y.1 (moved_stands c.end x.1);
         }
 
-        pub body_child : {g' : Fill} {p' : Parts} → a ≡ Inner.Done g' p' → Sofar doc k at len i f₀ b₀ g' p' b'
+        pub body_child : {g' : Fill} {p' : Parts} → a ≡ Ok (record { fill = g'; parts = p' }) → Sofar doc k at len i f₀ b₀ g' p' b'
         body_child {g'} {p'} w =
-            let j : Child doc k i c p (moved f c.end) b b' (Inner.Done g' p') = rw w at h in
+            let j : Child doc k i c p (moved f c.end) b b' (Ok (record { fill = g'; parts = p' })) = rw w at h in
             record {
               since = omega (arith, g.since, start.onward.0, start.onward.1.inside, j.onward.0);
               grown = omega (arith, g.grown, j.onward.1);
@@ -224,9 +224,9 @@ module _ {doc : List ℕ} {k at len i : ℕ} {f₀ : Fill} {b₀ : Lent} where
                   (o.0, o.1, x.2 ∙ y.2 ∙ o.2, o.3 ∙ x.3);
             }
 
-        pub body_less : {g' : Fill} {p' : Parts} → a ≡ Inner.Done g' p' → length doc - g'.at < length doc - f.at
+        pub body_less : {g' : Fill} {p' : Parts} → a ≡ Ok (record { fill = g'; parts = p' }) → length doc - g'.at < length doc - f.at
         body_less {g'} {p'} w =
-            let j : Child doc k i c p (moved f c.end) b b' (Inner.Done g' p') = rw w at h in
+            let j : Child doc k i c p (moved f c.end) b b' (Ok (record { fill = g'; parts = p' })) = rw w at h in
             omega (arith, start.onward.0, start.onward.1.inside, j.onward.0, j.onward.3.inside)
 
 pub ruleset bodies = (body_begins, body_fault, body_close, body_ready, body_count, body_child_fault, body_child, body_less, rules)
@@ -234,14 +234,14 @@ pub ruleset bodies = (body_begins, body_fault, body_close, body_ready, body_coun
 -- ---- all of the content
 
 module _ {doc : List ℕ} {c : StartTag} {i : ℕ} {f : Fill} {b : Lent} where
-  pub content_none : {p : Parts} → DefinitionKind c.kind → Bounded doc f → c.closes ≡ true → Unseen p → Content doc c i f b b (Inner.Done f p)
+  pub content_none : {p : Parts} → DefinitionKind c.kind → Bounded doc f → c.closes ≡ true → Unseen p → Content doc c i f b b (Ok (record { fill = f; parts = p }))
   content_none {p} d h x e = rw e.is (record {
     kind = d;
     onward = (omega arith, omega arith, omega arith, h);
     ends = λ why t fs u z s. (u, s, rw (sym z.closes ∙ x), refl);
   })
 
-  pub content_body : {b' : Lent} {r : Inner} → DefinitionKind c.kind → c.closes ≡ false → Body doc c.kind c.at c.len i f b b' r → Content doc c i f b b' r
+  pub content_body : {b' : Lent} {r : Result Inner Refusal} → DefinitionKind c.kind → c.closes ≡ false → Body doc c.kind c.at c.len i f b b' r → Content doc c i f b b' r
   content_body {b'} {r} d x l = record {
     kind = d;
     onward = l.onward;

@@ -18,7 +18,6 @@ use Rattle.document.specs.Kinds as kinds
 use Rattle.document.specs.Tags.{Shown}
 use Rattle.document.specs.Tokens.{Tag}
 use Rattle.document.specs.Elements.{attr, some_signature}
-use Rattle.document.specs.Reading as reading
 use Rattle.document.specs.Reading.{complete, is_there, is_some}
 use Rattle.document.specs.Outcome.{ValueIs, Ready}
 use Rattle.document.specs.declared.Value.{Value}

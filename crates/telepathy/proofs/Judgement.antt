@@ -10,7 +10,8 @@ use native.Mathlib.Omega.{arith}
 use lib.Dec.{eqb}
 use lib.ListN.{length, take}
 use lib.Seq.{take-take, take_at}
-use Rattle.slices.specs.Bytes.{if, bytes}
+use Rattle.std.specs.Prelude.{Result, Ok, Err}
+use Rattle.slices.specs.Bytes.{if}
 use Rattle.document.specs.Kinds as kinds
 use Rattle.document.specs.Tags.{Shown}
 use Rattle.document.specs.Tokens.{Tag}
@@ -20,7 +21,6 @@ use Rattle.document.specs.Outcome.{Lent, lent, Bounded, Ready, Opening, Begins, 
 use Rattle.document.specs.declared.Refusal.{Refusal}
 use Rattle.document.specs.declared.StartTag.{StartTag}
 use Rattle.document.specs.declared.Fill.{Fill}
-use Rattle.document.specs.declared.Answer.{Answer}
 use Rattle.document.proofs.Openings.{opening_fault}
 use Rattle.document.proofs.Loops.{name_inside}
 use Rattle.rows.specs.Outcome.{WarningPut, WarningFits}
@@ -107,24 +107,24 @@ pub ruleset definition_rows = (row_typed, row_untyped, rules)
 
 -- ---- from the row on
 
-module _ {doc : List ℕ} {c : StartTag} {f g : Fill} {b b' : Lent} {x : Inner} (l : Content doc c f.rows g b b' x) where
-  pub rest_fault : {y : Refusal} → x ≡ Inner.Fault y → Rest doc c f g b b' (Answer.Fault y)
+module _ {doc : List ℕ} {c : StartTag} {f g : Fill} {b b' : Lent} {x : Result Inner Refusal} (l : Content doc c f.rows g b b' x) where
+  pub rest_fault : {y : Refusal} → x ≡ Err y → Rest doc c f g b b' (Err y)
   rest_fault e = record {
     kind = l.kind;
     onward = tt;
     ends = λ t fs u v b₀ z s y k. (rw e at l).ends (tagged c f.rows t no_parts).reason t fs v z y;
   }
 
-content_done : {doc : List ℕ} {c : StartTag} {i : ℕ} {g : Fill} {b b' : Lent} {x : Inner} {h : Fill} {p : Parts} → Content doc c i g b b' x → x ≡ Inner.Done h p → Content doc c i g b b' (Inner.Done h p)
+content_done : {doc : List ℕ} {c : StartTag} {i : ℕ} {g : Fill} {b b' : Lent} {x : Result Inner Refusal} {h : Fill} {p : Parts} → Content doc c i g b b' x → x ≡ Ok (record { fill = h; parts = p }) → Content doc c i g b b' (Ok (record { fill = h; parts = p }))
 content_done l e = rw e at l
 
-module _ {doc : List ℕ} {c : StartTag} {f g : Fill} {b : Lent} {rows w text : List ℕ} {x : Inner} (l : Content doc c f.rows g b (lent rows w text) x) {h : Fill} {p : Parts} (e : x ≡ Inner.Done h p) where
+module _ {doc : List ℕ} {c : StartTag} {f g : Fill} {b : Lent} {rows w text : List ℕ} {x : Result Inner Refusal} (l : Content doc c f.rows g b (lent rows w text) x) {h : Fill} {p : Parts} (e : x ≡ Ok (record { fill = h; parts = p })) where
   pub rest_judging : Judging doc c f g → Judging doc c f h
   rest_judging j =
       let m = content_done l e in
       record { ready = j.ready; since = omega (arith, j.since, m.onward.0); owner = omega (arith, j.owner, m.onward.1); bounds = m.onward.3 }
 
-  pub rest_done : {w' : List ℕ} {r : Fill} → Judged doc c p f h w w' r → Rest doc c f g b (lent rows w' text) (Answer.Done r)
+  pub rest_done : {w' : List ℕ} {r : Fill} → Judged doc c p f h w w' r → Rest doc c f g b (lent rows w' text) (Ok r)
   rest_done {w'} {r} o = record {
     kind = l.kind;
     onward = (o.since, o.grown, o.bounds);
@@ -147,14 +147,14 @@ pub ruleset rests = (judging_bounds, judging_owner, judging_named, rest_fault, r
 
 -- ---- all of a definition
 
-module _ {doc : List ℕ} {c : StartTag} {f : Fill} {p : ℕ} {rows rows' bytes bytes' : List ℕ} {a : Answer} (o : Opening doc c.kind c p f rows rows' bytes bytes' a) {g : Fill} (e : a ≡ Answer.Done g) where
-  opened : Opening doc c.kind c p f rows rows' bytes bytes' (Answer.Done g)
+module _ {doc : List ℕ} {c : StartTag} {f : Fill} {p : ℕ} {rows rows' bytes bytes' : List ℕ} {a : Result Fill Refusal} (o : Opening doc c.kind c p f rows rows' bytes bytes' a) {g : Fill} (e : a ≡ Ok g) where
+  opened : Opening doc c.kind c p f rows rows' bytes bytes' (Ok g)
   opened = rw e at o
 
   pub row_judging : Ready doc c f → Judging doc c f g
   row_judging r = record { ready = r; since = omega (arith, opened.onward.0); owner = omega (arith, opened.onward.1); bounds = opened.onward.2 }
 
-  pub definition_done : {w : List ℕ} {b : Lent} {r : Answer} → Rest doc c f g (lent rows' w bytes') b r → Begins doc c.kind c p f (lent rows w bytes) b r
+  pub definition_done : {w : List ℕ} {b : Lent} {r : Result Fill Refusal} → Rest doc c f g (lent rows' w bytes') b r → Begins doc c.kind c p f (lent rows w bytes) b r
   definition_done {w} {b} {r} l =
       opening_then o e l.onward
       (λ t fs u row z s y.

@@ -10,6 +10,7 @@ use native.Mathlib.Omega.{arith}
 use lib.Dec.{eqb}
 use lib.ListN.{length, take}
 use lib.Seq.{take_at}
+use Rattle.std.specs.Prelude.{Result, Ok, Err}
 use Rattle.slices.specs.Bytes.{if}
 use Rattle.document.specs.Kinds as kinds
 use Rattle.document.specs.Tags.{Shown}
@@ -20,8 +21,8 @@ use Rattle.document.specs.Reading.{tag_name, Frame, element, State, reading, clo
 use Rattle.document.specs.Outcome.{Lent, lent, Stands, Ready, Bounded, TagIs, Opening, Begins, Others, Child, Children, Steps, Onward, Ends, runs, whole, moved}
 use Rattle.document.specs.declared.StartTag.{StartTag}
 use Rattle.document.specs.declared.Fill.{Fill}
-use Rattle.document.specs.declared.Answer.{Answer}
 use Rattle.document.specs.declared.Next.{Next}
+use Rattle.document.specs.declared.Refusal.{Refusal}
 use Rattle.document.proofs.Openings.{tag_named, opening_fault, opening_bounds, opening_owner}
 use Rattle.document.proofs.Loops.{Sofar, loop_begins, loop_fault, loop_close, loop_ready, loop_child_fault, loop_child, loop_less, child_other, name_inside, moved_owner}
 use Rattle.telepathy.specs.Outcome.{DefinitionKind, PartKind, PartContent}
@@ -49,17 +50,17 @@ by_definition P a b c d {k} h = go (eqb k kinds.simple_type) (eqb k kinds.enum) 
 -- ---- the children of a part
 
 -- the kinds of docstrings and of elements that nobody asked for
-pub child_none : {doc : List ℕ} {c : StartTag} {i : ℕ} {f : Fill} {rows rows' w w' bytes : List ℕ} {r : Answer} → Others doc c i f rows rows' w w' r → Child doc [] true c i f (lent rows w bytes) (lent rows' w' bytes) r
+pub child_none : {doc : List ℕ} {c : StartTag} {i : ℕ} {f : Fill} {rows rows' w w' bytes : List ℕ} {r : Result Fill Refusal} → Others doc c i f rows rows' w w' r → Child doc [] true c i f (lent rows w bytes) (lent rows' w' bytes) r
 child_none h = child_other refl h
 
-pub part_less : {doc : List ℕ} {at len i : ℕ} {f₀ f m : Fill} {b₀ : Lent} {rows rows' w w' bytes : List ℕ} {r : Next} {c : StartTag} {a : Answer} {g : Fill} → Sofar doc [] true at len i f₀ b₀ f (lent rows w bytes) → Steps doc f.at at len r → r ≡ Next.Start c → Others doc c i m rows rows' w w' a → m ≡ moved f c.end → a ≡ Answer.Done g → length doc - g.at < length doc - f.at
+pub part_less : {doc : List ℕ} {at len i : ℕ} {f₀ f m : Fill} {b₀ : Lent} {rows rows' w w' bytes : List ℕ} {r : Result Next Refusal} {c : StartTag} {a : Result Fill Refusal} {g : Fill} → Sofar doc [] true at len i f₀ b₀ f (lent rows w bytes) → Steps doc f.at at len r → r ≡ Ok (Next.Start c) → Others doc c i m rows rows' w w' a → m ≡ moved f c.end → a ≡ Ok g → length doc - g.at < length doc - f.at
 part_less {bytes = bytes} s n q h y e = loop_less s n q (child_none {bytes = bytes} h) y e
 
 pub ruleset part_loop = (moved_owner, child_none, part_less, loop_begins, loop_fault, loop_close, loop_ready, loop_child_fault, loop_child, rules)
 
 -- ---- the row of a part
 
-module _ {doc : List ℕ} {k : ℕ} {c : StartTag} {p : ℕ} {f : Fill} {rows rows' bytes bytes' : List ℕ} {r : Answer} where
+module _ {doc : List ℕ} {k : ℕ} {c : StartTag} {p : ℕ} {f : Fill} {rows rows' bytes bytes' : List ℕ} {r : Result Fill Refusal} where
   pub row_enumvalue : k ≡ kinds.enumvalue → Opening doc kinds.enumvalue c p f rows rows' bytes bytes' r → Opening doc k c p f rows rows' bytes bytes' r
   row_enumvalue e o = rw e o
 
@@ -71,14 +72,14 @@ pub ruleset part_rows = (row_enumvalue, row_member, rules)
 -- ---- a part
 
 module _ {doc : List ℕ} {c : StartTag} {i : ℕ} {f : Fill} {b : Lent} where
-  pub content_none : PartKind c.kind → Bounded doc f → c.closes ≡ true → PartContent doc c i f b b (Answer.Done f)
+  pub content_none : PartKind c.kind → Bounded doc f → c.closes ≡ true → PartContent doc c i f b b (Ok f)
   content_none j h x = record {
     kind = j;
     onward = (omega arith, omega arith, h);
     ends = λ t fs u z s. (u, s, rw (sym z.closes ∙ x), refl);
   }
 
-  pub content_children : {b' : Lent} {r : Answer} → PartKind c.kind → c.closes ≡ false → Children doc [] true c.at c.len i f b b' r → PartContent doc c i f b b' r
+  pub content_children : {b' : Lent} {r : Result Fill Refusal} → PartKind c.kind → c.closes ≡ false → Children doc [] true c.at c.len i f b b' r → PartContent doc c i f b b' r
   content_children {b'} {r} j x l = record {
     kind = j;
     onward = l.onward;
@@ -90,13 +91,13 @@ module _ {doc : List ℕ} {c : StartTag} {i : ℕ} {f : Fill} {b : Lent} where
 pub ruleset contents = (content_none, content_children, rules)
 
 -- an answer of a run is one of another that comes to the same
-pub carried : {s s' : State Shown} {before before' : List (Row Shown)} (doc : List ℕ) (n : ℕ) (fs : List Frame) (b : Lent) (r : Answer) → s ≡ s' → before ≡ before' → Ends doc s' fs n before b r → Ends doc s fs n before' b r
-carried doc n fs b (Answer.Fault x) h k e = h ∙ e
-carried doc n fs b (Answer.Done g) h k e = (e.0, e.1, h ∙ e.2, e.3 ∙ k)
+pub carried : {s s' : State Shown} {before before' : List (Row Shown)} (doc : List ℕ) (n : ℕ) (fs : List Frame) (b : Lent) (r : Result Fill Refusal) → s ≡ s' → before ≡ before' → Ends doc s' fs n before b r → Ends doc s fs n before' b r
+carried doc n fs b (Err x) h k e = h ∙ e
+carried doc n fs b (Ok g) h k e = (e.0, e.1, h ∙ e.2, e.3 ∙ k)
 
 -- from the row on, whatever the element is
-module _ {doc : List ℕ} {k : ℕ} {c : StartTag} {p : ℕ} {f : Fill} {rows rows' bytes bytes' : List ℕ} {a : Answer} (o : Opening doc k c p f rows rows' bytes bytes' a) {g : Fill} (e : a ≡ Answer.Done g) where
-  done : Opening doc k c p f rows rows' bytes bytes' (Answer.Done g)
+module _ {doc : List ℕ} {k : ℕ} {c : StartTag} {p : ℕ} {f : Fill} {rows rows' bytes bytes' : List ℕ} {a : Result Fill Refusal} (o : Opening doc k c p f rows rows' bytes bytes' a) {g : Fill} (e : a ≡ Ok g) where
+  done : Opening doc k c p f rows rows' bytes bytes' (Ok g)
   done = rw e at o
 
   pub opening_end : g.at ≡ c.end
@@ -106,12 +107,12 @@ module _ {doc : List ℕ} {k : ℕ} {c : StartTag} {p : ℕ} {f : Fill} {rows ro
   unfolding begins
   after t fs u z h = let i = done.is t z in (i.0, rw (h, i.1), λ w s. i.2 u w s)
 
-  further : (r : Answer) → Onward doc g r → Onward doc f r
-  further (Answer.Fault x) h = tt
-  further (Answer.Done m) h = (omega (arith, done.onward.0, h.0), omega (arith, done.onward.1, h.1), h.2)
+  further : (r : Result Fill Refusal) → Onward doc g r → Onward doc f r
+  further (Err x) h = tt
+  further (Ok m) h = (omega (arith, done.onward.0, h.0), omega (arith, done.onward.1, h.1), h.2)
 
   pub opening_then :
-      {w : List ℕ} {b : Lent} {r : Answer} →
+      {w : List ℕ} {b : Lent} {r : Result Fill Refusal} →
       Onward doc f r →
       ((t : Tag) (fs : List Frame) (u : Tables Shown) (row : Row Shown) → TagIs doc c t → Stands u (lent rows w bytes) f → Stands (with_row row u) (lent rows' w bytes') g → Ends doc (runs doc c.end (entered whole doc k t row fs u)) (noted k t fs) f.rows (take f.rows (with_row row u).rows) b r) →
       Begins doc k c p f (lent rows w bytes) b r
@@ -122,7 +123,7 @@ module _ {doc : List ℕ} {k : ℕ} {c : StartTag} {p : ℕ} {f : Fill} {rows ro
         carried doc f.rows (noted k t fs) b r (ap (runs doc c.end) i.1) (take_at u.rows (i.0 ∷ []) f.rows s.many) (l t fs u i.0 z s (i.2 w s));
   }
 
-pub part_done : {doc : List ℕ} {c : StartTag} {p : ℕ} {f : Fill} {rows rows' w bytes bytes' : List ℕ} {a : Answer} {g : Fill} {b : Lent} {r : Answer} → Opening doc c.kind c p f rows rows' bytes bytes' a → a ≡ Answer.Done g → PartContent doc c f.rows g (lent rows' w bytes') b r → Begins doc c.kind c p f (lent rows w bytes) b r
+pub part_done : {doc : List ℕ} {c : StartTag} {p : ℕ} {f : Fill} {rows rows' w bytes bytes' : List ℕ} {a : Result Fill Refusal} {g : Fill} {b : Lent} {r : Result Fill Refusal} → Opening doc c.kind c p f rows rows' bytes bytes' a → a ≡ Ok g → PartContent doc c f.rows g (lent rows' w bytes') b r → Begins doc c.kind c p f (lent rows w bytes) b r
 part_done {doc} {c} {f = f} {g = g} {b} {r} o e l =
     opening_then o e (further o e r l.onward)
     (λ t fs u row z s j.

@@ -1,6 +1,6 @@
 -- What the functions say: a definition's kind and its parts, why it is dropped, and how a run goes on in it.
 -- Assumes nothing.
-use Rattle.std.specs.Prelude.{ℕ, ◌≤◌, ◌<◌, ◌≡◌, List, ◌∷◌, Bool, true, false, not, ◌||◌, eqb, take}
+use Rattle.std.specs.Prelude.{ℕ, ◌≤◌, ◌<◌, ◌≡◌, List, ◌∷◌, Bool, true, false, not, ◌||◌, eqb, take, Result, Ok, Err}
 use Rattle.slices.specs.Bytes.{if, bytes}
 use Rattle.names.specs.Signature.{basic_signature}
 use Rattle.document.specs.Kinds as kinds
@@ -14,7 +14,7 @@ use Rattle.document.specs.Outcome as outcome
 use Rattle.document.specs.Outcome.{Lent, lent, name_at, Stands, Bounded, Ready, TagIs, runs, whole}
 use Rattle.document.specs.declared.StartTag.{StartTag}
 use Rattle.document.specs.declared.Fill.{Fill}
-use Rattle.document.specs.declared.Answer.{Answer}
+use Rattle.document.specs.declared.Refusal.{Refusal}
 use Rattle.telepathy.specs.declared.Parts.{Parts}
 use Rattle.telepathy.specs.declared.Inner.{Inner}
 
@@ -27,7 +27,7 @@ pub record PartKind (k : ℕ) : Type 0 where
   pub is : among k kinds.parts ≡ true
 
 -- what reading a part with row i says, from after its row on
-pub record PartContent (doc : List ℕ) (c : StartTag) (i : ℕ) (f : Fill) (b b' : Lent) (r : Answer) : Type 0 where
+pub record PartContent (doc : List ℕ) (c : StartTag) (i : ℕ) (f : Fill) (b b' : Lent) (r : Result Fill Refusal) : Type 0 where
   pub kind : PartKind c.kind
   pub onward : outcome.Onward doc f r
   pub ends :
@@ -85,19 +85,19 @@ pub record Told (doc : List ℕ) (c : StartTag) (p : Parts) (r : ℕ) : Type 0 w
   pub is : (t : Tag) (i : ℕ) → TagIs doc c t → r ≡ reason_of (tagged c i t p)
 
 -- an answer that is no fault is further on, with no fewer rows and no more parts than its place, within bounds
-abbrev pub Onward : List ℕ → Fill → Inner → Type 0
-Onward doc f (Inner.Fault x) = Unit {0}
-Onward doc f (Inner.Done g p) = (f.at ≤ g.at) × (f.rows ≤ g.rows) × (p.count ≤ g.at) × Bounded doc g
+abbrev pub Onward : List ℕ → Fill → Result Inner Refusal → Type 0
+Onward doc f (Err x) = Unit {0}
+Onward doc f (Ok x) = (f.at ≤ x.fill.at) × (f.rows ≤ x.fill.rows) × (x.parts.count ≤ x.fill.at) × Bounded doc x.fill
 
 -- a run refuses as the answer says; or it goes on in the state for the parts seen and for tables that the buffers stand for,
 -- and the first i rows are as they were
-abbrev pub Ends : List ℕ → State Shown → (Parts → Tables Shown → State Shown) → ℕ → List (Row Shown) → Lent → Inner → Type 0
-Ends doc s after i before b (Inner.Fault x) = s ≡ refused x
-Ends doc s after i before b (Inner.Done g p) =
-    (v : Tables Shown) × Stands v b g × (s ≡ runs doc g.at (after p v)) × (take i v.rows ≡ before)
+abbrev pub Ends : List ℕ → State Shown → (Parts → Tables Shown → State Shown) → ℕ → List (Row Shown) → Lent → Result Inner Refusal → Type 0
+Ends doc s after i before b (Err x) = s ≡ refused x
+Ends doc s after i before b (Ok x) =
+    (v : Tables Shown) × Stands v b x.fill × (s ≡ runs doc x.fill.at (after x.parts v)) × (take i v.rows ≡ before)
 
 -- what reading a part says, when these parts were seen before: whatever the definition is, the part is noted in it
-pub record Noted (doc : List ℕ) (c : StartTag) (i : ℕ) (p : Parts) (f : Fill) (b b' : Lent) (r : Inner) : Type 0 where
+pub record Noted (doc : List ℕ) (c : StartTag) (i : ℕ) (p : Parts) (f : Fill) (b b' : Lent) (r : Result Inner Refusal) : Type 0 where
   pub onward : Onward doc f r
   pub ends :
       (k lt why : ℕ) (n : Name) (t : Tag) (fs : List Frame) (u : Tables Shown) →
@@ -106,7 +106,7 @@ pub record Noted (doc : List ℕ) (c : StartTag) (i : ℕ) (p : Parts) (f : Fill
       Ends doc (runs doc c.end (begins whole doc c.kind t (definition (open_as k i lt n why p) ∷ fs) u)) (λ q v. reading.reading (definition (open_as k i lt n why q) ∷ fs) v) f.rows u.rows b' r
 
 -- what reading a child of a definition of kind k with row i says, when these parts were seen before
-pub record Child (doc : List ℕ) (k i : ℕ) (c : StartTag) (p : Parts) (f : Fill) (b b' : Lent) (r : Inner) : Type 0 where
+pub record Child (doc : List ℕ) (k i : ℕ) (c : StartTag) (p : Parts) (f : Fill) (b b' : Lent) (r : Result Inner Refusal) : Type 0 where
   pub onward : Onward doc f r
   pub ends :
       (lt why : ℕ) (n : Name) (t : Tag) (fs : List Frame) (u : Tables Shown) →
@@ -115,7 +115,7 @@ pub record Child (doc : List ℕ) (k i : ℕ) (c : StartTag) (p : Parts) (f : Fi
       Ends doc (runs doc c.end (child whole doc k i t (definition (open_as k i lt n why p) ∷ fs) u)) (λ q v. reading.reading (definition (open_as k i lt n why q) ∷ fs) v) i (take i u.rows) b' r
 
 -- what reading the rest of a definition says, of which no part was seen, and whose name stands in the document
-pub record Body (doc : List ℕ) (k at len i : ℕ) (f : Fill) (b b' : Lent) (r : Inner) : Type 0 where
+pub record Body (doc : List ℕ) (k at len i : ℕ) (f : Fill) (b b' : Lent) (r : Result Inner Refusal) : Type 0 where
   pub onward : Onward doc f r
   pub ends :
       (lt why : ℕ) (fs : List Frame) (u : Tables Shown) →
@@ -127,7 +127,7 @@ abbrev pub entering : Tag → Definition → List Frame → Tables Shown → Sta
 entering t d fs u = let o = reading.reading (definition d ∷ fs) u in if t.self (closed fs (judged d u)) o
 
 -- what reading all of a definition from after its row on says, but for what is dropped
-pub record Content (doc : List ℕ) (c : StartTag) (i : ℕ) (f : Fill) (b b' : Lent) (r : Inner) : Type 0 where
+pub record Content (doc : List ℕ) (c : StartTag) (i : ℕ) (f : Fill) (b b' : Lent) (r : Result Inner Refusal) : Type 0 where
   pub kind : DefinitionKind c.kind
   pub onward : Onward doc f r
   pub ends :
@@ -158,7 +158,7 @@ pub record Judged (doc : List ℕ) (c : StartTag) (p : Parts) (f h : Fill) (w w'
       Stands (judged (tagged c f.rows t p) v) (lent rows w' text) r × (take f.rows (judged (tagged c f.rows t p) v).rows ≡ u.rows)
 
 -- what reading a definition says, from after its row on: it began at f, and its row is put at g
-pub record Rest (doc : List ℕ) (c : StartTag) (f g : Fill) (b b' : Lent) (r : Answer) : Type 0 where
+pub record Rest (doc : List ℕ) (c : StartTag) (f g : Fill) (b b' : Lent) (r : Result Fill Refusal) : Type 0 where
   pub kind : DefinitionKind c.kind
   pub onward : outcome.Onward doc f r
   pub ends :

@@ -3,11 +3,11 @@
 #![tactic(auto)]
 
 ghost use Rattle.std.specs.Prelude.{◌+◌, ◌≤◌, ◌<◌, true, [], length};
-ghost use Rattle.scan.specs.Classes.{Classes};
 ghost use Rattle.document.specs.Outcome.{Ready, Bounded, Begins, Opening, Children, lent};
 ghost use Rattle.telepathy.specs.Outcome.{DefinitionKind, PartKind, PartContent, Holds, Unseen, Completes, Noted, Breaks, Keyed, More, TagTold, PartsTold, Told, Child, Body, Content, Judging, Judged, Rest};
 
-use document::{Answer, Fill, Next, Refusal, StartTag, kinds};
+use document::{Fill, Next, Refusal, StartTag, kinds};
+use scan::ClassTable;
 use tags::step;
 
 // What was seen of a definition's parts: how many, whether one was incomplete, whether the first one's type is basic.
@@ -18,17 +18,17 @@ pub struct Parts {
     pub basic: bool,
 }
 
-// What reading the content of a definition comes to: a fault, or where it ended and its parts.
+// What was read of a definition's content: where it ended, and its parts.
 #[derive(Clone, Copy)]
-pub enum Inner {
-    Fault(Refusal),
-    Done(Fill, Parts),
+pub struct Inner {
+    pub fill: Fill,
+    pub parts: Parts,
 }
 
 // The children of an enumvalue or a member with row i: docstrings, and elements that nobody asked for.
 fn part_children(
     doc: &[u8],
-    classes: &[u8; 256],
+    classes: &ClassTable,
     rows: &mut [u32],
     warnings: &mut [u32],
     text: &mut [u8],
@@ -36,34 +36,21 @@ fn part_children(
     len: usize,
     i: usize,
     f: Fill,
-) -> Answer
-    requires fact_1 { Bounded doc.now f }
-    requires fact_2 { i < f.rows }
-    requires fact_3 { «at» + len ≤ length doc.now }
-    requires fact_4 { Classes classes.now }
+) -> Result<Fill, Refusal>
+    requires bounded { Bounded doc.now f }
+    requires owner { i < f.rows }
+    requires named { «at» + len ≤ length doc.now }
     ensures { Children doc.now [] true «at» len i f
         (lent rows.old warnings.old text.old)
         (lent rows.new warnings.new text.new) result }
 {
     let mut g = f;
     loop {
-        match step(doc, classes, g.at, at, len) {
-            Next::Fault(refusal) => {
-                return Answer::Fault(refusal);
-            }
-            Next::Close(_, end) => {
-                return Answer::Done(g.moved(end));
-            }
+        match step(doc, classes, g.at, at, len)? {
+            Next::Close(closing) => return Ok(g.moved(closing.end)),
             Next::Start(c) => {
                 let h = g.moved(c.end);
-                match skip::docstring_or_skip(doc, classes, rows, warnings, c, i, h) {
-                    Answer::Fault(refusal) => {
-                        return Answer::Fault(refusal);
-                    }
-                    Answer::Done(m) => {
-                        g = m;
-                    }
-                }
+                g = skip::docstring_or_skip(doc, classes, rows, warnings, c, i, h)?;
             }
         }
     }
@@ -77,10 +64,10 @@ fn part_row(
     c: StartTag,
     parent: usize,
     f: Fill,
-) -> Answer
-    requires fact_1 { Ready doc.now c f }
-    requires fact_2 { parent ≤ 1048576 }
-    requires fact_3 { PartKind c.kind }
+) -> Result<Fill, Refusal>
+    requires ready { Ready doc.now c f }
+    requires parent_small { parent ≤ 1048576 }
+    requires of_kind { PartKind c.kind }
     ensures { Opening doc.now c.kind c parent f rows.old rows.new
         text.old text.new result }
 {
@@ -93,25 +80,24 @@ fn part_row(
 // The content of an enumvalue or a member with row i, from after its start tag on.
 fn part_content(
     doc: &[u8],
-    classes: &[u8; 256],
+    classes: &ClassTable,
     rows: &mut [u32],
     warnings: &mut [u32],
     text: &mut [u8],
     c: StartTag,
     i: usize,
     f: Fill,
-) -> Answer
-    requires fact_1 { Bounded doc.now f }
-    requires fact_2 { i < f.rows }
-    requires fact_3 { PartKind c.kind }
-    requires fact_4 { c.at + c.len ≤ length doc.now }
-    requires fact_5 { Classes classes.now }
+) -> Result<Fill, Refusal>
+    requires bounded { Bounded doc.now f }
+    requires owner { i < f.rows }
+    requires of_kind { PartKind c.kind }
+    requires named { c.at + c.len ≤ length doc.now }
     ensures { PartContent doc.now c i f
         (lent rows.old warnings.old text.old)
         (lent rows.new warnings.new text.new) result }
 {
     if c.closes {
-        return Answer::Done(f);
+        return Ok(f);
     }
     part_children(doc, classes, rows, warnings, text, c.at, c.len, i, f)
 }
@@ -119,32 +105,29 @@ fn part_content(
 // An enumvalue or a member of the definition with row i.
 fn part(
     doc: &[u8],
-    classes: &[u8; 256],
+    classes: &ClassTable,
     rows: &mut [u32],
     warnings: &mut [u32],
     text: &mut [u8],
     c: StartTag,
     i: usize,
     f: Fill,
-) -> Answer
-    requires fact_1 { Ready doc.now c f }
-    requires fact_2 { i < f.rows }
-    requires fact_3 { PartKind c.kind }
-    requires fact_4 { Classes classes.now }
+) -> Result<Fill, Refusal>
+    requires ready { Ready doc.now c f }
+    requires owner { i < f.rows }
+    requires of_kind { PartKind c.kind }
     ensures { Begins doc.now c.kind c (i + 1) f
         (lent rows.old warnings.old text.old)
         (lent rows.new warnings.new text.new) result }
 {
-    match part_row(doc, rows, text, c, i + 1, f) {
-        Answer::Fault(refusal) => Answer::Fault(refusal),
-        Answer::Done(g) => part_content(doc, classes, rows, warnings, text, c, f.rows, g),
-    }
+    let g = part_row(doc, rows, text, c, i + 1, f)?;
+    part_content(doc, classes, rows, warnings, text, c, f.rows, g)
 }
 
 // Whether an enumvalue or a member is complete.
 fn complete(doc: &[u8], c: StartTag, f: Fill) -> bool
-    requires fact_1 { Ready doc.now c f }
-    requires fact_2 { PartKind c.kind }
+    requires ready { Ready doc.now c f }
+    requires of_kind { PartKind c.kind }
     ensures { Completes doc.now c result }
 {
     let v = c.values;
@@ -165,8 +148,8 @@ fn complete(doc: &[u8], c: StartTag, f: Fill) -> bool
 
 // Whether a part was incomplete, with this one.
 fn broken(doc: &[u8], c: StartTag, p: Parts, f: Fill) -> bool
-    requires fact_1 { Ready doc.now c f }
-    requires fact_2 { PartKind c.kind }
+    requires ready { Ready doc.now c f }
+    requires of_kind { PartKind c.kind }
     ensures { Breaks doc.now c p result }
 {
     if p.broken {
@@ -191,9 +174,9 @@ fn keyed(doc: &[u8], c: StartTag, p: Parts, f: Fill) -> bool
 
 // The parts with one more.
 fn one_more(doc: &[u8], c: StartTag, p: Parts, f: Fill) -> Parts
-    requires fact_1 { Ready doc.now c f }
-    requires fact_2 { PartKind c.kind }
-    requires fact_3 { p.count < f.at }
+    requires ready { Ready doc.now c f }
+    requires of_kind { PartKind c.kind }
+    requires few { p.count < f.at }
     ensures { More doc.now c f p result }
 {
     let b = broken(doc, c, p, f);
@@ -233,7 +216,7 @@ fn holds(kind: u32, part: u32) -> bool
 // A part of the definition with row i, when these parts were seen before.
 fn noted_part(
     doc: &[u8],
-    classes: &[u8; 256],
+    classes: &ClassTable,
     rows: &mut [u32],
     warnings: &mut [u32],
     text: &mut [u8],
@@ -241,27 +224,24 @@ fn noted_part(
     i: usize,
     p: Parts,
     f: Fill,
-) -> Inner
-    requires fact_1 { Ready doc.now c f }
-    requires fact_2 { i < f.rows }
-    requires fact_3 { PartKind c.kind }
-    requires fact_4 { p.count < f.at }
-    requires fact_5 { Classes classes.now }
+) -> Result<Inner, Refusal>
+    requires ready { Ready doc.now c f }
+    requires owner { i < f.rows }
+    requires of_kind { PartKind c.kind }
+    requires few { p.count < f.at }
     ensures { Noted doc.now c i p f
         (lent rows.old warnings.old text.old)
         (lent rows.new warnings.new text.new) result }
 {
     let q = one_more(doc, c, p, f);
-    match part(doc, classes, rows, warnings, text, c, i, f) {
-        Answer::Fault(refusal) => Inner::Fault(refusal),
-        Answer::Done(g) => Inner::Done(g, q),
-    }
+    let fill = part(doc, classes, rows, warnings, text, c, i, f)?;
+    Ok(Inner { fill, parts: q })
 }
 
 // A child of the definition with row i, when these parts were seen before.
 fn definition_child(
     doc: &[u8],
-    classes: &[u8; 256],
+    classes: &ClassTable,
     rows: &mut [u32],
     warnings: &mut [u32],
     text: &mut [u8],
@@ -270,12 +250,11 @@ fn definition_child(
     i: usize,
     p: Parts,
     f: Fill,
-) -> Inner
-    requires fact_1 { Ready doc.now c f }
-    requires fact_2 { i < f.rows }
-    requires fact_3 { DefinitionKind kind }
-    requires fact_4 { p.count < f.at }
-    requires fact_5 { Classes classes.now }
+) -> Result<Inner, Refusal>
+    requires ready { Ready doc.now c f }
+    requires owner { i < f.rows }
+    requires of_kind { DefinitionKind kind }
+    requires few { p.count < f.at }
     ensures { Child doc.now kind i c p f
         (lent rows.old warnings.old text.old)
         (lent rows.new warnings.new text.new) result }
@@ -283,16 +262,14 @@ fn definition_child(
     if holds(kind, c.kind) {
         return noted_part(doc, classes, rows, warnings, text, c, i, p, f);
     }
-    match skip::docstring_or_skip(doc, classes, rows, warnings, c, i, f) {
-        Answer::Fault(refusal) => Inner::Fault(refusal),
-        Answer::Done(g) => Inner::Done(g, p),
-    }
+    let fill = skip::docstring_or_skip(doc, classes, rows, warnings, c, i, f)?;
+    Ok(Inner { fill, parts: p })
 }
 
 // The children of the definition with row i, whose name stands at a place.
 fn definition_children(
     doc: &[u8],
-    classes: &[u8; 256],
+    classes: &ClassTable,
     rows: &mut [u32],
     warnings: &mut [u32],
     text: &mut [u8],
@@ -301,12 +278,11 @@ fn definition_children(
     len: usize,
     i: usize,
     f: Fill,
-) -> Inner
-    requires fact_1 { Bounded doc.now f }
-    requires fact_2 { i < f.rows }
-    requires fact_3 { DefinitionKind kind }
-    requires fact_4 { «at» + len ≤ length doc.now }
-    requires fact_5 { Classes classes.now }
+) -> Result<Inner, Refusal>
+    requires bounded { Bounded doc.now f }
+    requires owner { i < f.rows }
+    requires of_kind { DefinitionKind kind }
+    requires named { «at» + len ≤ length doc.now }
     ensures { Body doc.now kind «at» len i f
         (lent rows.old warnings.old text.old)
         (lent rows.new warnings.new text.new) result }
@@ -314,35 +290,18 @@ fn definition_children(
     let mut g = f;
     let mut p = no_parts();
     loop {
-        match step(doc, classes, g.at, at, len) {
-            Next::Fault(refusal) => {
-                return Inner::Fault(refusal);
-            }
-            Next::Close(_, end) => {
-                let h = Fill {
-                    at: end,
-                    rows: g.rows,
-                    warnings: g.warnings,
-                    text: g.text,
-                };
-                return Inner::Done(h, p);
+        match step(doc, classes, g.at, at, len)? {
+            Next::Close(closing) => {
+                return Ok(Inner {
+                    fill: g.moved(closing.end),
+                    parts: p,
+                });
             }
             Next::Start(c) => {
-                let h = Fill {
-                    at: c.end,
-                    rows: g.rows,
-                    warnings: g.warnings,
-                    text: g.text,
-                };
-                match definition_child(doc, classes, rows, warnings, text, kind, c, i, p, h) {
-                    Inner::Fault(refusal) => {
-                        return Inner::Fault(refusal);
-                    }
-                    Inner::Done(m, q) => {
-                        g = m;
-                        p = q;
-                    }
-                }
+                let h = g.moved(c.end);
+                let read = definition_child(doc, classes, rows, warnings, text, kind, c, i, p, h)?;
+                g = read.fill;
+                p = read.parts;
             }
         }
     }
@@ -351,25 +310,27 @@ fn definition_children(
 // The content of the definition with row i, from after its start tag on.
 fn content(
     doc: &[u8],
-    classes: &[u8; 256],
+    classes: &ClassTable,
     rows: &mut [u32],
     warnings: &mut [u32],
     text: &mut [u8],
     c: StartTag,
     i: usize,
     f: Fill,
-) -> Inner
-    requires fact_1 { Bounded doc.now f }
-    requires fact_2 { i < f.rows }
-    requires fact_3 { DefinitionKind c.kind }
-    requires fact_4 { c.at + c.len ≤ length doc.now }
-    requires fact_5 { Classes classes.now }
+) -> Result<Inner, Refusal>
+    requires bounded { Bounded doc.now f }
+    requires owner { i < f.rows }
+    requires of_kind { DefinitionKind c.kind }
+    requires named { c.at + c.len ≤ length doc.now }
     ensures { Content doc.now c i f
         (lent rows.old warnings.old text.old)
         (lent rows.new warnings.new text.new) result }
 {
     if c.closes {
-        return Inner::Done(f, no_parts());
+        return Ok(Inner {
+            fill: f,
+            parts: no_parts(),
+        });
     }
     definition_children(
         doc, classes, rows, warnings, text, c.kind, c.at, c.len, i, f,
@@ -378,8 +339,8 @@ fn content(
 
 // Why a definition is dropped by its tag alone, or 0.
 fn tag_reason(doc: &[u8], c: StartTag, f: Fill) -> u32
-    requires fact_1 { Ready doc.now c f }
-    requires fact_2 { DefinitionKind c.kind }
+    requires ready { Ready doc.now c f }
+    requires of_kind { DefinitionKind c.kind }
     ensures { TagTold doc.now c result }
 {
     let v = c.values;
@@ -428,8 +389,8 @@ fn parts_reason(kind: u32, p: Parts) -> u32
 
 // Why a definition is dropped, or 0; only the first reason is told.
 fn reason(doc: &[u8], c: StartTag, p: Parts, f: Fill) -> u32
-    requires fact_1 { Ready doc.now c f }
-    requires fact_2 { DefinitionKind c.kind }
+    requires ready { Ready doc.now c f }
+    requires of_kind { DefinitionKind c.kind }
     ensures { Told doc.now c p result }
 {
     let why = tag_reason(doc, c, f);
@@ -441,8 +402,8 @@ fn reason(doc: &[u8], c: StartTag, p: Parts, f: Fill) -> u32
 
 // Where reading goes on after a definition that began at f and ended at h: a dropped one's rows and text are given back.
 fn judge(doc: &[u8], warnings: &mut [u32], c: StartTag, p: Parts, f: Fill, h: Fill) -> Fill
-    requires fact_1 { Judging doc.now c f h }
-    requires fact_2 { DefinitionKind c.kind }
+    requires judging { Judging doc.now c f h }
+    requires of_kind { DefinitionKind c.kind }
     ensures { Judged doc.now c p f h warnings.old warnings.new result }
 {
     let why = reason(doc, c, p, f);
@@ -459,6 +420,7 @@ fn judge(doc: &[u8], warnings: &mut [u32], c: StartTag, p: Parts, f: Fill, h: Fi
 }
 
 // The row of a definition.
+#[tactic(auto, using(crate::proofs::Judgement::definition_rows))]
 fn definition_row(
     doc: &[u8],
     rows: &mut [u32],
@@ -466,10 +428,10 @@ fn definition_row(
     c: StartTag,
     parent: usize,
     f: Fill,
-) -> Answer
-    requires fact_1 { Ready doc.now c f }
-    requires fact_2 { parent ≤ 1048576 }
-    requires fact_3 { DefinitionKind c.kind }
+) -> Result<Fill, Refusal>
+    requires ready { Ready doc.now c f }
+    requires parent_small { parent ≤ 1048576 }
+    requires of_kind { DefinitionKind c.kind }
     ensures { Opening doc.now c.kind c parent f rows.old rows.new
         text.old text.new result }
 {
@@ -482,48 +444,42 @@ fn definition_row(
 // The rest of a definition that began at f and whose row is put: its content, then whether it is dropped.
 fn rest(
     doc: &[u8],
-    classes: &[u8; 256],
+    classes: &ClassTable,
     rows: &mut [u32],
     warnings: &mut [u32],
     text: &mut [u8],
     c: StartTag,
     f: Fill,
     g: Fill,
-) -> Answer
-    requires fact_1 { Judging doc.now c f g }
-    requires fact_2 { DefinitionKind c.kind }
-    requires fact_3 { Classes classes.now }
+) -> Result<Fill, Refusal>
+    requires judging { Judging doc.now c f g }
+    requires of_kind { DefinitionKind c.kind }
     ensures { Rest doc.now c f g
         (lent rows.old warnings.old text.old)
         (lent rows.new warnings.new text.new) result }
 {
-    match content(doc, classes, rows, warnings, text, c, f.rows, g) {
-        Inner::Fault(refusal) => Answer::Fault(refusal),
-        Inner::Done(h, p) => Answer::Done(judge(doc, warnings, c, p, f, h)),
-    }
+    let inner = content(doc, classes, rows, warnings, text, c, f.rows, g)?;
+    Ok(judge(doc, warnings, c, inner.parts, f, inner.fill))
 }
 
 // A definition, from after its start tag on.
 pub fn definition(
     doc: &[u8],
-    classes: &[u8; 256],
+    classes: &ClassTable,
     rows: &mut [u32],
     warnings: &mut [u32],
     text: &mut [u8],
     c: StartTag,
     parent: usize,
     f: Fill,
-) -> Answer
-    requires fact_1 { Ready doc.now c f }
-    requires fact_2 { parent ≤ 1048576 }
-    requires fact_3 { DefinitionKind c.kind }
-    requires fact_4 { Classes classes.now }
+) -> Result<Fill, Refusal>
+    requires ready { Ready doc.now c f }
+    requires parent_small { parent ≤ 1048576 }
+    requires of_kind { DefinitionKind c.kind }
     ensures { Begins doc.now c.kind c parent f
         (lent rows.old warnings.old text.old)
         (lent rows.new warnings.new text.new) result }
 {
-    match definition_row(doc, rows, text, c, parent, f) {
-        Answer::Fault(refusal) => Answer::Fault(refusal),
-        Answer::Done(g) => rest(doc, classes, rows, warnings, text, c, f, g),
-    }
+    let g = definition_row(doc, rows, text, c, parent, f)?;
+    rest(doc, classes, rows, warnings, text, c, f, g)
 }

@@ -7,41 +7,25 @@ use mathlib.Core.Path.{◌≡◌, refl, ap, sym, subst, ◌∙◌}
 use mathlib.Core.List.{List, [], ◌∷◌}
 use mathlib.Core.Bool.{Bool, true, false, not, ◌&&◌}
 use borrow.Author.Rules.{rules}
-use borrow.Author.Tests.{eq-eqb, ne_eqb, lt-ltb, le-ltb, ltb-true, leb-true, not-true, not-false}
+use borrow.Author.Tests.{lt-ltb, le-ltb, ltb-true, leb-true}
 use lib.Dec.{T, eqb, ltb, leb}
 use lib.ListN.{length, drop, get_or}
+use Rattle.faults.specs.declared.Fault.{Fault}
 use Rattle.slices.specs.Bytes.{if}
-use Rattle.answers.specs.Text.{text, wrong, Says, Finishes}
-use Rattle.answers.specs.declared.TextAnswer.{TextAnswer}
+use Rattle.answers.specs.Text.{wrong, Says, Finishes}
 use Rattle.document.specs.Kinds as kinds
 use Rattle.document.specs.Elements.{among, may_hold}
 use Rattle.items.specs.Words.{Word, triple_at, row_of, rows_of, RowWords}
 use Rattle.items.specs.Sound.{kind_at, placed, good_triple, doc_use, any_text, sound, soundness}
 use Rattle.items.proofs.Rows.{row_word, kind_at_lem, both_true, row_parts, RowIs, sound_claimed, sound_held, sound_row_lem}
 use Rattle.soundness.specs.Outcome.{Judges}
-use Rattle.soundness.specs.declared.Soundness.{Soundness}
 use Rattle.soundness.proofs.Rows.{judged_sound, judged_unsound}
 use Rattle.trees.specs.Written.{tree_at, written_tree}
 use Rattle.trees.specs.Writing.{is_writable, tree_writing, WritesTree}
 use Rattle.trees.specs.Steps.{group_kinds, group_of, Held}
-use Rattle.trees.specs.declared.walk.Walked.{Walked}
-use Rattle.trees.specs.declared.walk.Walked.TheVariants.{Deep, Put}
+use Rattle.std.specs.Prelude.{Result, Ok, Err}
 use Rattle.trees.specs.Walk.{Walks, Writable, WritesSound}
 use Rattle.trees.proofs.Counted.{All, only}
-
--- ---- kinds
-
-module _ {k : ℕ} where
-  pub part_one : k ≡ 10 → Writable k false
-  part_one e = record { is = rw (eq-eqb k 10 e) }
-
-  pub part_two : k ≡ 12 → Writable k false
-  part_two e = record { is = rw (ne_eqb k 10 (λ f. omega (arith, e, f)), eq-eqb k 12 e) }
-
-  pub no_part : (k ≡ 10 → ⊥) → (k ≡ 12 → ⊥) → Writable k true
-  no_part a b = record { is = rw (ne_eqb k 10 a, ne_eqb k 12 b) }
-
-pub ruleset writable = (part_one, part_two, no_part, rules)
 
 -- ---- sound rows
 
@@ -111,27 +95,27 @@ writable_is {ws} {n} {i} {k} {b} l w y =
     go true = refl
     go false = refl
 
-module _ {d x ws t t' : List ℕ} {n i : ℕ} {r : TextAnswer} where
+module _ {d x ws t t' : List ℕ} {n i : ℕ} {r : Result ℕ Fault} where
   pub no_row : n ≤ i → Says (wrong 20 i) (length t) t' r → WritesSound d x ws n i t t' r
   no_row h s = record { says = rw (le-ltb i n h) s }
 
   module _ (l : i < n) {k : ℕ} {b : Bool} (w : Word ws i 0 k) (y : Writable k b) where
-    pub no_kind : not b ≡ true → Says (wrong 20 i) (length t) t' r → WritesSound d x ws n i t t' r
-    no_kind e s = record { says = rw (writable_is l w y ∙ not-true b e) s }
+    pub no_kind : b ≡ false → Says (wrong 20 i) (length t) t' r → WritesSound d x ws n i t t' r
+    no_kind e s = record { says = rw (writable_is l w y ∙ e) s }
 
-    module _ {z : Walked} {t₁ : List ℕ} (e : not b ≡ false) (q : Walks d x ws n i t₁ z) (same : length t₁ ≡ length t) where
-      pub row_deep : {p : ℕ} → z ≡ Deep p → Says (wrong 7 p) (length t₁) t' r → WritesSound d x ws n i t t' r
+    module _ {z : Result ℕ ℕ} {t₁ : List ℕ} (e : b ≡ true) (q : Walks d x ws n i t₁ z) (same : length t₁ ≡ length t) where
+      pub row_deep : {p : ℕ} → z ≡ Err p → Says (wrong 7 p) (length t₁) t' r → WritesSound d x ws n i t t' r
       row_deep f s =
           let v = (subst (λ z. Walks d x ws n i t₁ z) f q).is.is in
-          record { says = rw (writable_is l w y ∙ not-false b e, v) (rw same at s) }
+          record { says = rw (writable_is l w y ∙ e, v) (rw same at s) }
 
-      pub row_written : {m : ℕ} → z ≡ Put m → Finishes m 21 m t₁ t' r → WritesSound d x ws n i t t' r
+      pub row_written : {m : ℕ} → z ≡ Ok m → Finishes m 21 m t₁ t' r → WritesSound d x ws n i t t' r
       row_written {m} f s =
           let v = (subst (λ z. Walks d x ws n i t₁ z) f q).is in
           let whole = written_tree (tree_at d x ws n i) in
           let u = s.says whole v.stands in
           let k : m ≡ length whole = sym (v.stands.many ∙ omega arith) in
-          record { says = rw (writable_is l w y ∙ not-false b e, v.shallow) (rw (same, k) at u) }
+          record { says = rw (writable_is l w y ∙ e, v.shallow) (rw (same, k) at u) }
 
 module _ {d x ws : List ℕ} {n i : ℕ} (h : Held d x ws n) (l : i < n) where
   pub row_held : i * 16 + 16 ≤ length ws
@@ -141,7 +125,7 @@ pub ruleset rows = (no_row, no_kind, row_deep, row_written, row_held, rules)
 
 -- ---- the answers
 
-module _ {d x ws t' : List ℕ} {n i room : ℕ} {r : TextAnswer} where
+module _ {d x ws t' : List ℕ} {n i room : ℕ} {r : Result ℕ Fault} where
   pub long_document : 1048576 < length d → Says (wrong 2 1048576) room t' r → WritesTree d x ws n i room t' r
   unfolding tree_writing
   long_document h s = record { says = rw (lt-ltb 1048576 (length d) h) s }
@@ -151,16 +135,16 @@ module _ {d x ws t' : List ℕ} {n i room : ℕ} {r : TextAnswer} where
     unfolding tree_writing
     long_text k s = record { says = rw (le-ltb 1048576 (length d) h, lt-ltb 1048576 (length x) k) s }
 
-    module _ (k : length x ≤ 1048576) {z : Soundness} (g : Judges d x ws n z) where
-      pub not_sound : {p : ℕ} → z ≡ Soundness.Unsound p → Says (wrong 19 p) room t' r → WritesTree d x ws n i room t' r
+    module _ (k : length x ≤ 1048576) {z : Result Unit ℕ} (g : Judges d x ws n z) where
+      pub not_sound : {p : ℕ} → z ≡ Err p → Says (wrong 19 p) room t' r → WritesTree d x ws n i room t' r
       unfolding tree_writing
       not_sound e s = record { says = rw (le-ltb 1048576 (length d) h, le-ltb 1048576 (length x) k, judged_unsound g e) s }
 
-      pub is_sound : {t : List ℕ} → z ≡ Soundness.Sound → length t ≡ room → WritesSound d x ws n i t t' r → WritesTree d x ws n i room t' r
+      pub is_sound : {u : Unit} {t : List ℕ} → z ≡ Ok u → length t ≡ room → WritesSound d x ws n i t t' r → WritesTree d x ws n i room t' r
       unfolding tree_writing
       is_sound e l s = record { says = rw (le-ltb 1048576 (length d) h, le-ltb 1048576 (length x) k, judged_sound g e) (rw l at s.says) }
 
-pub admits : {d x ws : List ℕ} {n : ℕ} {z : Soundness} → length d ≤ 1048576 → length x ≤ 1048576 → Judges d x ws n z → z ≡ Soundness.Sound → Held d x ws n
+pub admits : {d x ws : List ℕ} {n : ℕ} {z : Result Unit ℕ} {u : Unit} → length d ≤ 1048576 → length x ≤ 1048576 → Judges d x ws n z → z ≡ Ok u → Held d x ws n
 admits {d} {x} {ws} {n} h k g e = sound_rows_held d x ws n (judged_sound g e) h k
 
 pub ruleset entry = (long_document, long_text, not_sound, is_sound, admits, rules)

@@ -7,7 +7,7 @@ use mathlib.Core.List.{List, [], ◌∷◌, ◌++◌, append_assoc}
 use mathlib.Core.Option.{Option, none, some}
 use mathlib.Core.Bool.{Bool, true, false, not, ◌&&◌, ◌||◌, and-false}
 use borrow.Author.Rules.{rules}
-use borrow.Author.Tests.{eq-eqb, ne_eqb, eqb-true, leb-true, leb-false, le-leb, lt-leb, not-true, not-false}
+use borrow.Author.Tests.{eq-eqb, ne_eqb, eqb-true, leb-true, leb-false, le-leb, lt-leb}
 use native.Mathlib.Numerals.{add-one}
 use lib.Dec.{T, eqb, leb}
 use lib.ListN.{length, take, drop, length-drop}
@@ -29,8 +29,8 @@ use Rattle.trees.specs.Written.{Element, docstring, element_at, tag_of, attribut
 use Rattle.trees.specs.Writing.{is_open, is_open_node, too_deep, too_deeps}
 use Rattle.trees.specs.Steps.{Held, Sought, HasChild, Puttable, StartPut, DocstringPut}
 use Rattle.trees.specs.declared.children.Standing.{Standing}
-use Rattle.trees.specs.declared.walk.Start.{Start}
-use Rattle.trees.specs.declared.walk.Start.TheVariants.{Closed, Opened, TooDeep}
+use Rattle.trees.specs.declared.walk.Start.TheVariants.{Closed, Opened}
+use Rattle.std.specs.Prelude.{Ok, Err}
 use Rattle.trees.specs.Walk.{bytes_of, bytes_in, inside_of, OpenIs, IsDeep, AmongOpen, IsAround, Resumes, Openable, Opens, Beginning, Begins}
 use Rattle.trees.proofs.Zipper.{some_tree, under_none, under_some}
 
@@ -121,9 +121,9 @@ open_tree e bare h = absurd (subst T (sym h) tt)
 open_tree e (more t f) h = refl
 
 module _ {ws : List ℕ} {n i : ℕ} {s : Standing} (q : Sought ws n i 0 (i + 1) s) where
-  pub opens_docstring : {k : ℕ} → Word ws i 13 k → (k ≡ 0 → ⊥) → OpenIs ws n i true
-  opens_docstring w z = record {
-    is = λ d x h. sym (open_doc (element_at d x ws i) (under i (links_of n ws)) (a_docstring h (omega (arith, q.within)) (λ e. z (w.is ∙ e))));
+  pub opens_docstring : {k : ℕ} → Word ws i 13 k → (k ≡ 0 → ⊥) → OpenIs ws n i (not (eqb k 0))
+  opens_docstring {k} w z = record {
+    is = λ d x h. ap not (ne_eqb k 0 z) ∙ sym (open_doc (element_at d x ws i) (under i (links_of n ws)) (a_docstring h (omega (arith, q.within)) (λ e. z (w.is ∙ e))));
   }
 
   pub opens_child : {k : ℕ} {r : Bool} → Word ws i 13 k → k ≡ 0 → HasChild ws n i r → OpenIs ws n i r
@@ -165,13 +165,7 @@ module _ {k o : ℕ} where
   pub around_other : (k ≡ 1 → ⊥) → IsAround k o o
   around_other e = record { is = λ a p. p ∙ ap (λ b. if b (suc a) a) (ne_eqb k 1 e) }
 
-pub inside_node : (k o : ℕ) → k ≡ 1 → o + 1 ≡ inside_of k o
-inside_node k o e = rw (eq-eqb k 1 e) (add-one o)
-
-pub inside_other : (k o : ℕ) → (k ≡ 1 → ⊥) → o ≡ inside_of k o
-inside_other k o e = rw (ne_eqb k 1 e)
-
-pub ruleset counting = (deep_node, deep_other, inside_node, inside_other, around_some, around_node, around_other, rules)
+pub ruleset counting = (deep_node, deep_other, around_some, around_node, around_other, rules)
 
 pub resume_ordered : {s : Standing} {i end : ℕ} → s.ordered ≡ true → Resumes s i end end
 resume_ordered e = record { ordered = λ _. refl; other = λ f. absurd (subst T (sym e ∙ f) tt) }
@@ -278,21 +272,21 @@ module _ (d x ws : List ℕ) (k : ℕ) (f : Forest ℕ) where
 puts_as : {a b t t' : List ℕ} {n r : ℕ} → a ≡ b → Puts a n t t' r → Puts b n t t' r
 puts_as {t = t} {t'} {n} {r} e p = subst (λ l. Puts l n t t' r) e p
 
-module _ {d x ws cl : List ℕ} {n i put : ℕ} (h : Openable d x ws n i cl put) where
+module _ {d x ws : List ℕ} {n i put : ℕ} (h : Openable d x ws n i put) where
   pub open_row : i * 16 + 16 ≤ length ws
   open_row = omega (arith, h.within, h.held.held)
 
   pub open_ends : put + length (bytes ">") < 2 ^ 62
   open_ends = omega (arith, h.room)
 
-  pub open_docstring : {t t₁ : List ℕ} {u : ℕ} → Puts (bytes ">") put t t₁ u → Puttable d x ws n i cl u
-  open_docstring p = record { held = h.held; within = h.within; classes = h.classes; room = omega (arith, h.room, p.counts) }
+  pub open_docstring : {t t₁ : List ℕ} {u : ℕ} → Puts (bytes ">") put t t₁ u → Puttable d x ws n i u
+  open_docstring p = record { held = h.held; within = h.within; room = omega (arith, h.room, p.counts) }
 
 module _ {d x ws : List ℕ} {i put a k : ℕ} {c : Bool} (w : Word ws i 0 k) (g : IsDeep k a c) where
-  pub opens_deep : {t t₁ : List ℕ} → c ≡ true → Opens d x ws i a put t t₁ TooDeep
-  opens_deep f = record { is = record { node = sym w.is ∙ (g.deep f).0; deep = (g.deep f).1 } }
+  pub opens_deep : {t t₁ : List ℕ} → c ≡ true → Opens d x ws i a put t t₁ (Err i)
+  opens_deep f = record { is = record { row = refl; node = sym w.is ∙ (g.deep f).0; deep = (g.deep f).1 } }
 
-  pub opens_put : {t t₁ t₂ : List ℕ} {u r : ℕ} → c ≡ false → Puts (bytes ">") put t t₁ u → DocstringPut d x ws i u t₁ t₂ r → Opens d x ws i a put t t₂ (Opened r)
+  pub opens_put : {t t₁ t₂ : List ℕ} {u r : ℕ} → c ≡ false → Puts (bytes ">") put t t₁ u → DocstringPut d x ws i u t₁ t₂ r → Opens d x ws i a put t t₂ (Ok r)
   opens_put f p z = record {
     is = record {
       shallow = λ v. g.shallow f (w.is ∙ v);
@@ -303,9 +297,9 @@ module _ {d x ws : List ℕ} {i put a k : ℕ} {c : Bool} (w : Word ws i 0 k) (g
 
 pub ruleset openings = (open_row, open_ends, open_docstring, opens_deep, opens_put, rules)
 
-module _ {d x ws cl : List ℕ} {n i put : ℕ} {s : Standing} (h : Beginning d x ws n i s cl put) where
-  pub begin_puts : Puttable d x ws n i cl put
-  begin_puts = record { held = h.held; within = h.within; classes = h.classes; room = omega (arith, h.room) }
+module _ {d x ws : List ℕ} {n i put : ℕ} {s : Standing} (h : Beginning d x ws n i s put) where
+  pub begin_puts : Puttable d x ws n i put
+  begin_puts = record { held = h.held; within = h.within; room = omega (arith, h.room) }
 
   pub begin_sought : Sought ws n i 0 (i + 1) s
   begin_sought = record {
@@ -322,13 +316,13 @@ module _ {d x ws cl : List ℕ} {n i put : ℕ} {s : Standing} (h : Beginning d 
     pub begin_ends : m + length (bytes "/>") < 2 ^ 62
     begin_ends = omega (arith, h.room, q.most)
 
-    pub begin_opens : Openable d x ws n i cl m
-    begin_opens = record { held = h.held; within = h.within; classes = h.classes; room = omega (arith, h.room, q.most) }
+    pub begin_opens : Openable d x ws n i m
+    begin_opens = record { held = h.held; within = h.within; room = omega (arith, h.room, q.most) }
 
     module _ {b : Bool} (o : OpenIs ws n i b) {a : ℕ} {t₂ : List ℕ} where
-      pub begins_closed : {r : ℕ} → not b ≡ true → Puts (bytes "/>") m t₁ t₂ r → Begins d x ws n i a put t t₂ (Closed r)
+      pub begins_closed : {r : ℕ} → b ≡ false → Puts (bytes "/>") m t₁ t₂ r → Begins d x ws n i a put t t₂ (Ok (Closed r))
       begins_closed e p =
-          let c = sym (o.is d x h.held) ∙ not-true b e in
+          let c = sym (o.is d x h.held) ∙ e in
           record {
             is = record {
               closed = c;
@@ -337,15 +331,15 @@ module _ {d x ws cl : List ℕ} {n i put : ℕ} {s : Standing} (h : Beginning d 
             };
           }
 
-      pub begins_open : {r : Start} → not b ≡ false → Opens d x ws i a m t₁ t₂ r → Begins d x ws n i a put t t₂ r
-      begins_open {r} e p = go r p
-        where
-          c : is_open (element_at d x ws i) (under i (links_of n ws)) ≡ true
-          c = sym (o.is d x h.held) ∙ not-false b e
+      pub begins_deep : {k : ℕ} → b ≡ true → Opens d x ws i a m t₁ t₂ (Err k) → Begins d x ws n i a put t t₂ (Err k)
+      begins_deep e p =
+          let c = sym (o.is d x h.held) ∙ e in
+          record { is = record { row = p.is.row; opens = c; node = p.is.node; deep = p.is.deep } }
 
-          go : (r : Start) → Opens d x ws i a m t₁ t₂ r → Begins d x ws n i a put t t₂ r
-          go (Closed r) p = absurd p.is
-          go (Opened r) p = record {
+      pub begins_open : {r : ℕ} → b ≡ true → Opens d x ws i a m t₁ t₂ (Ok r) → Begins d x ws n i a put t t₂ (Ok (Opened r))
+      begins_open e p =
+          let c = sym (o.is d x h.held) ∙ e in
+          record {
             is = record {
               opens = c;
               shallow = p.is.shallow;
@@ -355,6 +349,5 @@ module _ {d x ws cl : List ℕ} {n i put : ℕ} {s : Standing} (h : Beginning d 
               most = omega (arith, q.most, p.is.most);
             };
           }
-          go TooDeep p = record { is = record { opens = c; node = p.is.node; deep = p.is.deep } }
 
-pub ruleset beginning = (begin_puts, begin_sought, begin_ends, begin_opens, begins_closed, begins_open, rules)
+pub ruleset beginning = (begin_puts, begin_sought, begin_ends, begin_opens, begins_closed, begins_deep, begins_open, rules)

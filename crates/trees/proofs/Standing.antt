@@ -18,18 +18,10 @@ use Rattle.items.specs.Order.{parent_at}
 use Rattle.items.proofs.Order.{follow_falls, run_ends}
 use Rattle.trees.specs.Shape.{types, args, members, annotations, nodes}
 use Rattle.trees.specs.Steps.{group_kinds, group_of, NodesLast, Stands, child_in, Sought, Next, HasChild, RowsHeld, RowKept, Late, LastNode, NodesStand, Asked, Child, Past, RunPast, GroupPast}
-use Rattle.trees.specs.declared.children.Found.TheVariants.{At, Nothing}
+use Rattle.std.specs.Prelude.{Ok, Err}
 use Rattle.trees.specs.declared.children.Standing.{Standing}
 
 -- ---- the group of a kind
-
-pub group_one : (k j g : ℕ) → k ≡ j → group_of j ≡ g → g ≡ group_of k
-group_one k j g e f = rw e (sym f)
-
-pub group_rest : (k : ℕ) → (k ≡ kinds.node → ⊥) → (k ≡ kinds.annotation → ⊥) → (k ≡ kinds.arg → ⊥) → (k ≡ kinds.simple_type → ⊥) → (k ≡ kinds.enum → ⊥) → (k ≡ kinds.struct → ⊥) → (k ≡ kinds.mapping → ⊥) → 2 ≡ group_of k
-group_rest k a b c d e f g = rw (ne_eqb k kinds.node a, ne_eqb k kinds.annotation b, ne_eqb k kinds.arg c, ne_eqb k kinds.simple_type d, ne_eqb k kinds.enum e, ne_eqb k kinds.struct f, ne_eqb k kinds.mapping g)
-
-pub ruleset groups = (group_one, group_rest, rules)
 
 -- a kind is in one group
 group_is : (k g : ℕ) → g < 5 → among k (group_kinds g) ≡ true → group_of k ≡ g
@@ -157,7 +149,7 @@ pub ruleset runs = (run_not, run_past, rules)
 pub group_no : {ws : List ℕ} {i g k : ℕ} {s : Standing} → GroupPast ws i g k s false
 group_no = record { none = λ e. never e }
 
-pub group_past : {ws : List ℕ} {i g k p a b : ℕ} {s : Standing} → Asked ws i g k → not s.last ≡ false → Word ws k 1 p → p ≡ i + 1 → Word ws k 0 a → a ≡ kinds.node → Word ws i 0 b → b ≡ kinds.node → GroupPast ws i g k s (ltb g 4)
+pub group_past : {ws : List ℕ} {i g k p a b : ℕ} {s : Standing} → Asked ws i g k → s.last ≡ true → Word ws k 1 p → p ≡ i + 1 → Word ws k 0 a → a ≡ kinds.node → Word ws i 0 b → b ≡ kinds.node → GroupPast ws i g k s (ltb g 4)
 group_past {ws} {i} {g} {k} {p} {a} {b} {s} q o w e v f u h = record { none = λ y n st m l r. go y n st m l r (eqb (word_at ws m 0) kinds.node) refl }
   where
     node_row : word_at ws k 0 ≡ kinds.node
@@ -170,7 +162,7 @@ group_past {ws} {i} {g} {k} {p} {a} {b} {s} q o w e v f u h = record { none = λ
     go y n st m l r false z = below k m
         (λ x. not_child ws g i m (λ d.
         let c : word_at ws m 1 - 1 ≡ i = omega (arith, d) in
-        let t = st.last (not-false s.last o) k m x r node_row z (ap (λ j. word_at ws j 0) c ∙ sym u.is ∙ h) in
+        let t = st.last o k m x r node_row z (ap (λ j. word_at ws j 0) c ∙ sym u.is ∙ h) in
         absurd (omega (arith, t, d, q.after))))
         (λ x.
         let c : m ≡ k = omega (arith, x, l) in
@@ -214,7 +206,7 @@ module _ {ws : List ℕ} {n i g from : ℕ} {s : Standing} (q : Sought ws n i g 
       grouped = q.grouped k l;
     }
 
-    pub look_past : {b : Bool} → Past ws i g k s b → b ≡ true → Next ws n i g from s (Nothing k)
+    pub look_past : {b : Bool} → Past ws i g k s b → b ≡ true → Next ws n i g from s (Err k)
     look_past p e = record {
       is = record {
         onward = h.onward;
@@ -225,7 +217,7 @@ module _ {ws : List ℕ} {n i g from : ℕ} {s : Standing} (q : Sought ws n i g 
     }
 
 module _ {ws : List ℕ} {n i g from k : ℕ} {s : Standing} (h : Looking ws n i g from s k) where
-  pub look_ends : n ≤ k → Next ws n i g from s (Nothing n)
+  pub look_ends : n ≤ k → Next ws n i g from s (Err n)
   look_ends l =
       let z : k ≡ n = omega (arith, l, h.within) in
       record {
@@ -238,7 +230,7 @@ module _ {ws : List ℕ} {n i g from k : ℕ} {s : Standing} (h : Looking ws n i
       }
 
   module _ (l : k < n) {b : Bool} (c : Child ws i g k b) where
-    pub look_found : b ≡ true → Next ws n i g from s (At k)
+    pub look_found : b ≡ true → Next ws n i g from s (Ok k)
     look_found e = record { is = record { onward = h.onward; within = l; is = sym c.is ∙ e; none = h.none; passed = h.passed } }
 
     pub look_more : {t : Bool} → b ≡ false → Past ws i g k s t → t ≡ false → Looking ws n i g from s (k + 1)

@@ -1,6 +1,6 @@
 -- Laws of putting the bytes of one element.
 -- Assumes nothing.
-use Prim.Native.Nat.{ℕ, zero, suc, ◌+◌, ◌-◌, ◌*◌, ◌≤◌, ◌<◌, ◌^◌}
+use Prim.Native.Nat.{ℕ, zero, suc, ◌+◌, ◌*◌, ◌≤◌, ◌<◌, ◌^◌}
 use native.Mathlib.Omega.{arith}
 use mathlib.Core.Path.{◌≡◌, refl, ap, sym, subst, ◌∙◌}
 use mathlib.Core.List.{List, [], ◌∷◌, ◌++◌, append_assoc, append-nil}
@@ -15,7 +15,6 @@ use Rattle.slices.specs.Bytes.{if, bytes}
 use Rattle.utf8.specs.WellFormed.{well_formed}
 use Rattle.tables.specs.Triple.{inside, resolved, part, shown}
 use Rattle.tables.specs.declared.Triple.{Triple}
-use Rattle.scan.specs.Classes.{Classes}
 use Rattle.answers.specs.Puts.{Puts}
 use Rattle.answers.proofs.Putting.{puts_none, puts_then}
 use Rattle.references.specs.Escape.{escape}
@@ -28,8 +27,7 @@ use Rattle.items.specs.Written.{Pair, pair, pairs, tag, closing_tag, concat}
 use Rattle.items.proofs.Rows.{row_word}
 use Rattle.items.proofs.Words.{word_in}
 use Rattle.trees.specs.Written.{docstring, tag_of, given, name_key, value_key, tp_key, word_pairs, docstrings}
-use Rattle.trees.specs.Steps.{Puttable, StartPut, DocstringPut, ClosePut, PartIn, PartOf, tag_texts, key_texts, word_texts, keyed, CountFits, PartPut, NamePut, RowHeld, GivenHeld, GivenPut, shown_at, AttributePut, NamedPut, AttributesPut, TaggedPut, WordHeld, WordPut}
-use Rattle.trees.specs.declared.elements.Part.{Part}
+use Rattle.trees.specs.Steps.{Puttable, StartPut, DocstringPut, ClosePut, keyed, CountFits, NamePut, RowHeld, GivenHeld, GivenPut, shown_at, AttributePut, AttributesPut, TaggedPut, WordHeld, WordPut}
 
 -- the same bytes in other words
 puts_as : {xs ys t t' : List ℕ} {n r : ℕ} → xs ≡ ys → Puts xs n t t' r → Puts ys n t t' r
@@ -39,11 +37,6 @@ take_short : (n : ℕ) (l : List ℕ) → length (take n l) ≤ length l
 take_short zero l = omega arith
 take_short (suc n) [] = omega arith
 take_short (suc n) (b ∷ l) = omega (arith, take_short n l)
-
-take_most : (n : ℕ) (l : List ℕ) → length (take n l) ≤ n
-take_most zero l = omega arith
-take_most (suc n) [] = omega arith
-take_most (suc n) (b ∷ l) = omega (arith, take_most n l)
 
 -- no triple shows more than the longer buffer
 short-part : (d x : List ℕ) (t : Triple) → length d ≤ 1048576 → length x ≤ 1048576 → length (part d x t) ≤ 1048576
@@ -63,16 +56,11 @@ pairs-append (p ∷ ps) qs = ap (◌++◌ (pair p.key p.value)) (pairs-append ps
 
 -- ---- names of tags
 
-pub name_in : {s : List ℕ} {p : Part} → PartOf tag_texts s p → PartIn (bytes "nodeinterfacemethodpropertysignalannotationargtp:simple-typetp:enumtp:enumvaluetp:structtp:membertp:mapping") p
-unfolding tag_texts
-name_in e = e.part
+pub name_fits : (s : List ℕ) {before t t' : List ℕ} {n m : ℕ} → CountFits (n + length before) 20 → Puts before n t t' m → length s ≤ 20 → m + length s < 2 ^ 62
+name_fits s h p l = omega (arith, h.fits, p.counts)
 
-pub name_fits : {before t t' : List ℕ} {n m : ℕ} → CountFits (n + length before) 20 → Puts before n t t' m → CountFits m 20
-name_fits h p = record { fits = omega (arith, h.fits, p.counts) }
-
-pub name_put : {k n m r : ℕ} {p : Part} {before t t₁ t₂ : List ℕ} → PartOf tag_texts (tag_of k) p → Puts before n t t₁ m → PartPut (bytes "nodeinterfacemethodpropertysignalannotationargtp:simple-typetp:enumtp:enumvaluetp:structtp:membertp:mapping") p m t₁ t₂ r → NamePut k before n t t₂ r
-unfolding tag_texts
-name_put e q w = record { puts = puts_then q (puts_as e.is w.puts); most = omega (arith, q.counts, w.most) }
+pub name_put : {k n m r : ℕ} {before s t t₁ t₂ : List ℕ} → Puts before n t t₁ m → s ≡ tag_of k → length s ≤ 20 → Puts s m t₁ t₂ r → NamePut k before n t t₂ r
+name_put q e l w = record { puts = puts_then q (puts_as e w); most = omega (arith, q.counts, w.counts) }
 
 pub close_fits : (n : ℕ) → n + 33554432 < 2 ^ 62 → CountFits (n + length (bytes "</")) 20
 close_fits n h = record { fits = omega (arith, h) }
@@ -84,131 +72,99 @@ pub close_put : {k n m r : ℕ} {t t₁ t₂ : List ℕ} → NamePut k (bytes "<
 unfolding closing_tag
 close_put p q = record { puts = puts_then p.puts q; most = omega (arith, p.most, q.counts) }
 
-pub ruleset names = (name_in, name_fits, name_put, close_fits, close_end_lem, close_put, rules)
+pub ruleset names = (name_fits, name_put, close_fits, close_end_lem, close_put, rules)
 
 -- ---- attributes
 
-pub attribute_absent : (d x keys : List ℕ) (p : Part) {ws t : List ℕ} {i k n : ℕ} {y : Triple} {b : Bool} → TripleIs ws i k y → b ≡ absent y → b ≡ true → AttributePut d x ws i k keys p n t t n
-attribute_absent d x keys p e a f = record { puts = λ key q. rw (ap absent (sym e.is) ∙ sym a ∙ f) puts_none; most = omega arith }
+pub attribute_absent : (d x before : List ℕ) {ws t : List ℕ} {i k n : ℕ} {y : Triple} {b : Bool} → TripleIs ws i k y → b ≡ absent y → b ≡ true → AttributePut d x ws i k before n t t n
+attribute_absent d x before e a f = record { puts = λ key q. rw (ap absent (sym e.is) ∙ sym a ∙ f) puts_none; most = omega arith }
 
 attribute_bytes : (key e : List ℕ) → (keyed key ++ e) ++ (34 ∷ []) ≡ (32 ∷ (key ++ (61 ∷ (34 ∷ (e ++ (34 ∷ [])))))) ++ []
 attribute_bytes key e = simp (append_assoc, append-nil)
 
-module _ {s cl keys : List ℕ} {n : ℕ} {p : Part} (h : GivenHeld s cl keys p n) where
-  key_long : length (take (p.to - p.from) (drop p.from keys)) ≤ 20
-  key_long = omega (arith, h.part.short, take_most (p.to - p.from) (drop p.from keys))
+module _ {s b : List ℕ} {n : ℕ} (h : GivenHeld s b n) where
+  pub given_value : (n + length b + 6 * length s < 2 ^ 62)
+  given_value = omega (arith, h.room, h.short, h.lead)
 
-  pub given_value : Classes cl × (n + length (take (p.to - p.from) (drop p.from keys)) + 6 * length s < 2 ^ 62)
-  given_value = (h.classes, omega (arith, h.room, h.short, key_long))
-
-  module _ {t t₁ : List ℕ} {a : ℕ} (v : Puts (take (p.to - p.from) (drop p.from keys) ++ escape s) n t t₁ a) where
+  module _ {t t₁ : List ℕ} {a : ℕ} (v : Puts (b ++ escape s) n t t₁ a) where
     most_put : a ≤ n + 6291476
-    most_put = omega (arith, v.counts, length-append (take (p.to - p.from) (drop p.from keys)) (escape s), escape_most s, h.short, key_long)
+    most_put = omega (arith, v.counts, length-append b (escape s), escape_most s, h.short, h.lead)
 
     pub given_end : a + length (bytes "\"") < 2 ^ 62
     given_end = omega (arith, h.room, most_put)
 
-    pub given_put : {r : ℕ} {t₂ : List ℕ} → Puts (bytes "\"") a t₁ t₂ r → GivenPut s keys p n t t₂ r
+    pub given_put : {r : ℕ} {t₂ : List ℕ} → Puts (bytes "\"") a t₁ t₂ r → GivenPut s b n t t₂ r
     given_put q = record {
-      puts = λ key o. puts_as (attribute_bytes key (escape s)) (puts_then (puts_as (ap (λ l. l ++ escape s) o.is) v) q);
+      puts = λ key o. puts_as (attribute_bytes key (escape s)) (puts_then (puts_as (ap (λ l. l ++ escape s) o) v) q);
       most = omega (arith, q.counts, most_put);
     }
 
 pub ruleset givens = (given_value, given_end, given_put, rules)
 
-pub attribute_held : {d x ws cl keys s : List ℕ} {i n : ℕ} {p : Part} (y : Triple) → RowHeld d x ws i cl n 6291520 → PartIn keys p → s ≡ shown d x y → GivenHeld s cl keys p n
-attribute_held {d} {x} y h q z = record { short = rw z (short_shown d x y h.document h.text); classes = h.classes; part = q; room = h.room }
+pub attribute_held : {d x ws b s : List ℕ} {i n : ℕ} (y : Triple) → RowHeld d x ws i n 6291520 → length b ≤ 20 → s ≡ shown d x y → GivenHeld s b n
+attribute_held {d} {x} y h q z = record { short = rw z (short_shown d x y h.document h.text); lead = q; room = h.room }
 
-pub attribute_put : {d x ws keys s t t₁ : List ℕ} {i k n r : ℕ} {p : Part} {y : Triple} {b : Bool} → TripleIs ws i k y → b ≡ absent y → b ≡ false → s ≡ shown d x y → GivenPut s keys p n t t₁ r → AttributePut d x ws i k keys p n t t₁ r
+pub attribute_put : {d x ws b s t t₁ : List ℕ} {i k n r : ℕ} {y : Triple} {a : Bool} → TripleIs ws i k y → a ≡ absent y → a ≡ false → s ≡ shown d x y → GivenPut s b n t t₁ r → AttributePut d x ws i k b n t t₁ r
 attribute_put {d} {x} {ws} {s = s} {i = i} {k = k} e c f z g =
     let u : s ≡ shown d x (triple_at k (drop (i * 16) ws)) = z ∙ ap (shown d x) e.is in
     record { puts = λ key o. rw (ap absent (sym e.is) ∙ sym c ∙ f) (puts_as (ap (λ v. pairs (given key (some v))) u) (g.puts key o)); most = g.most }
 
-pub key_in : {keys s : List ℕ} {p : Part} → keys ≡ key_texts → PartOf key_texts s p → PartIn keys p
-key_in e q = rw e q.part
+module _ {d x ws : List ℕ} {i n : ℕ} (h : RowHeld d x ws i n 18875000) where
+  pub first_held : RowHeld d x ws i n 6291520
+  first_held = record { document = h.document; text = h.text; held = h.held; room = omega (arith, h.room) }
 
-pub tp_in : {keys : List ℕ} → keys ≡ key_texts → PartIn keys (record { from = 31; to = 41 })
-unfolding key_texts
-tp_in e = rw e (record { order = omega arith; within = omega arith; short = omega arith })
+  module _ {b t t₁ : List ℕ} {m : ℕ} (a : AttributePut d x ws i 2 b n t t₁ m) where
+    pub second_held : RowHeld d x ws i m 6291520
+    second_held = record { document = h.document; text = h.text; held = h.held; room = omega (arith, h.room, a.most) }
 
-tp_of : PartOf key_texts (keyed tp_key) (record { from = 31; to = 41 })
-unfolding key_texts
-tp_of = record { part = record { order = omega arith; within = omega arith; short = omega arith }; is = refl }
+    pub third_held : {e t₂ : List ℕ} {l : ℕ} → AttributePut d x ws i 5 e m t₁ t₂ l → RowHeld d x ws i l 6291520
+    third_held c = record { document = h.document; text = h.text; held = h.held; room = omega (arith, h.room, a.most, c.most) }
 
-module _ {d x ws cl : List ℕ} {i n : ℕ} (h : RowHeld d x ws i cl n 18875000) where
-  pub first_held : RowHeld d x ws i cl n 6291520
-  first_held = record { document = h.document; text = h.text; held = h.held; classes = h.classes; room = omega (arith, h.room) }
-
-  module _ {keys t t₁ : List ℕ} {p : Part} {m : ℕ} (a : AttributePut d x ws i 2 keys p n t t₁ m) where
-    pub second_held : RowHeld d x ws i cl m 6291520
-    second_held = record { document = h.document; text = h.text; held = h.held; classes = h.classes; room = omega (arith, h.room, a.most) }
-
-  pub third_held : {t t₁ : List ℕ} {k m : ℕ} → NamedPut d x ws i k n t t₁ m → RowHeld d x ws i cl m 6291520
-  third_held a = record { document = h.document; text = h.text; held = h.held; classes = h.classes; room = omega (arith, h.room, a.most) }
-
-pub named_put : {d x ws keys t t₁ t₂ : List ℕ} {i k n m r : ℕ} {p q : Part} → keys ≡ key_texts → PartOf key_texts (keyed (name_key k)) p → PartOf key_texts (keyed (value_key k)) q → AttributePut d x ws i 2 keys p n t t₁ m → AttributePut d x ws i 5 keys q m t₁ t₂ r → NamedPut d x ws i k n t t₂ r
-named_put {k = k} {p = p} {q = q} e f g a b = record {
-  puts =
-      puts_then (a.puts (name_key k) (subst (λ s. PartOf s (keyed (name_key k)) p) (sym e) f))
-      (b.puts (value_key k) (subst (λ s. PartOf s (keyed (value_key k)) q) (sym e) g));
-  most = omega (arith, a.most, b.most);
-}
-
-pub attributes_put : {d x ws keys t t₁ t₂ : List ℕ} {i k n m r : ℕ} → keys ≡ key_texts → NamedPut d x ws i k n t t₁ m → AttributePut d x ws i 8 keys (record { from = 31; to = 41 }) m t₁ t₂ r → AttributesPut d x ws i k n t t₂ r
-attributes_put {d} {x} {ws} {i = i} {k = k} e a c = record {
+pub attributes_put : {d x ws a b t t₁ t₂ t₃ : List ℕ} {i k n m l r : ℕ} → a ≡ keyed (name_key k) → b ≡ keyed (value_key k) → AttributePut d x ws i 2 a n t t₁ m → AttributePut d x ws i 5 b m t₁ t₂ l → AttributePut d x ws i 8 (bytes " tp:type=\"") l t₂ t₃ r → AttributesPut d x ws i k n t t₃ r
+attributes_put {d} {x} {ws} {i = i} {k = k} e f u v c = record {
   puts =
       puts_as
       (append_assoc (pairs (given (name_key k) (shown_at d x ws i 2))) (pairs (given (value_key k) (shown_at d x ws i 5))) (pairs (given tp_key (shown_at d x ws i 8))))
-      (puts_then a.puts (c.puts tp_key (subst (λ s. PartOf s (keyed tp_key) (record { from = 31; to = 41 })) (sym e) tp_of)));
-  most = omega (arith, a.most, c.most);
+      (puts_then (puts_then (u.puts (name_key k) e) (v.puts (value_key k) f)) (c.puts tp_key refl));
+  most = omega (arith, u.most, v.most, c.most);
 }
 
 pub ruleset attribute = (attribute_absent, attribute_held, attribute_put, rules)
 
-pub ruleset attributes_of = (key_in, tp_in, first_held, second_held, third_held, named_put, attributes_put, rules)
+pub ruleset attributes_of = (first_held, second_held, third_held, attributes_put, rules)
 
 -- ---- word 14
 
 pub word_valid : {ws : List ℕ} {i k n w : ℕ} → WordHeld ws i k n → Word ws i 14 w → valid_word k w ≡ true
 word_valid h w = rw w.is h.valid
 
-pub word_part : {s : List ℕ} {p : Part} → PartOf word_texts s p → PartIn (bytes " access=\"read\" access=\"write\" access=\"readwrite\" direction=\"in\" direction=\"out\"") p
-unfolding word_texts
-word_part e = e.part
+pub word_fits : (s : List ℕ) {ws : List ℕ} {i k n : ℕ} → WordHeld ws i k n → length s ≤ 20 → n + length s < 2 ^ 62
+word_fits s h l = omega (arith, h.room)
 
-pub word_fits : {ws : List ℕ} {i k n : ℕ} → WordHeld ws i k n → CountFits n 20
-word_fits h = record { fits = omega (arith, h.room) }
+pub word_put : {ws s t t₁ : List ℕ} {i k n w r : ℕ} → Word ws i 14 w → s ≡ pairs (word_pairs k w) → length s ≤ 20 → Puts s n t t₁ r → WordPut ws i k n t t₁ r
+word_put {k = k} e q l v = record { puts = puts_as (q ∙ ap (λ j. pairs (word_pairs k j)) e.is) v; most = omega (arith, v.counts) }
 
-pub word_put : {ws t t₁ : List ℕ} {i k n w r : ℕ} {p : Part} → Word ws i 14 w → PartOf word_texts (pairs (word_pairs k w)) p → PartPut (bytes " access=\"read\" access=\"write\" access=\"readwrite\" direction=\"in\" direction=\"out\"") p n t t₁ r → WordPut ws i k n t t₁ r
-unfolding word_texts
-word_put {k = k} e q v = record { puts = puts_as (q.is ∙ ap (λ j. pairs (word_pairs k j)) e.is) v.puts; most = v.most }
-
-pub ruleset told = (word_valid, word_part, word_fits, word_put, rules)
+pub ruleset told = (word_valid, word_fits, word_put, rules)
 
 -- ---- the start tag
 
-pub keys_are : bytes " name=\" suffix=\" type=\" value=\" tp:type=\"" ≡ key_texts
-unfolding key_texts
-keys_are = refl
-
-pub tag_fits : {d x ws cl : List ℕ} {i n : ℕ} → RowHeld d x ws i cl n 18876000 → CountFits (n + length (bytes "<")) 20
+pub tag_fits : {d x ws : List ℕ} {i n : ℕ} → RowHeld d x ws i n 18876000 → CountFits (n + length (bytes "<")) 20
 tag_fits h = record { fits = omega (arith, h.room) }
 
-pub tagged_held : {d x ws cl t t₁ : List ℕ} {i k n m : ℕ} → RowHeld d x ws i cl n 18876000 → NamePut k (bytes "<") n t t₁ m → RowHeld d x ws i cl m 18875000
-tagged_held h p = record { document = h.document; text = h.text; held = h.held; classes = h.classes; room = omega (arith, h.room, p.most) }
+pub tagged_held : {d x ws t t₁ : List ℕ} {i k n m : ℕ} → RowHeld d x ws i n 18876000 → NamePut k (bytes "<") n t t₁ m → RowHeld d x ws i m 18875000
+tagged_held h p = record { document = h.document; text = h.text; held = h.held; room = omega (arith, h.room, p.most) }
 
 pub tagged_put : {d x ws t t₁ t₂ : List ℕ} {i k n m r : ℕ} → NamePut k (bytes "<") n t t₁ m → AttributesPut d x ws i k m t₁ t₂ r → TaggedPut d x ws i k n t t₂ r
 tagged_put p q = record { puts = puts_then p.puts q.puts; most = omega (arith, p.most, q.most) }
 
-pub ruleset tagging = (keys_are, tag_fits, tagged_held, tagged_put, rules)
+pub ruleset tagging = (tag_fits, tagged_held, tagged_put, rules)
 
-module _ {d x ws cl : List ℕ} {n i put : ℕ} (h : Puttable d x ws n i cl put) where
-  pub start_held : RowHeld d x ws i cl put 18876000
+module _ {d x ws : List ℕ} {n i put : ℕ} (h : Puttable d x ws n i put) where
+  pub start_held : RowHeld d x ws i put 18876000
   start_held = record {
     document = h.held.document;
     text = h.held.text;
     held = omega (arith, h.held.held, h.within);
-    classes = h.classes;
     room = omega (arith, h.room);
   }
 
@@ -331,7 +287,7 @@ doc_none {ws} {t} {i} {put} d x e f = record {
   most = omega arith;
 }
 
-module _ {d x ws cl t t₁ s : List ℕ} {n i put m : ℕ} (y : Triple) (h : Puttable d x ws n i cl put) (p : Puts (bytes "<tp:docstring>") put t t₁ m) (z : s ≡ shown d x y) where
+module _ {d x ws t t₁ s : List ℕ} {n i put m : ℕ} (y : Triple) (h : Puttable d x ws n i put) (p : Puts (bytes "<tp:docstring>") put t t₁ m) (z : s ≡ shown d x y) where
   doc_short : length s ≤ 1048576
   doc_short = rw z (short_shown d x y h.held.document h.held.text)
 

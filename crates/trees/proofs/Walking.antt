@@ -14,8 +14,6 @@ use Rattle.slices.specs.Bytes.{if}
 use Rattle.utf8.proofs.Sequences.{below}
 use Rattle.tables.specs.Table.{Rep}
 use Rattle.tables.proofs.Tables.{empty_stands}
-use Rattle.scan.specs.Classes.{Classes}
-use Rattle.document.specs.Kinds as kinds
 use Rattle.document.specs.Elements.{among}
 use Rattle.items.specs.Words.{Word, word_at}
 use Rattle.items.specs.Written.{closing_tag}
@@ -25,17 +23,14 @@ use Rattle.trees.specs.Shape.{links_of, under, shape_at, types, args, members, a
 use Rattle.trees.specs.Written.{element_at, tree_at, tag_of, written_tree}
 use Rattle.trees.specs.Writing.{first, too_deep, too_deeps}
 use Rattle.trees.specs.Steps.{group_kinds, group_of, Held, Stands, Sought, NextAt, NoNext, Next, ClosePut}
-use Rattle.trees.specs.declared.children.Found.{Found}
-use Rattle.trees.specs.declared.children.Found.TheVariants.{At, Nothing}
 use Rattle.trees.specs.declared.children.Standing.{Standing}
 use Rattle.trees.specs.declared.walk.Walk.{Walk}
-use Rattle.trees.specs.declared.walk.Walked.{Walked}
-use Rattle.trees.specs.declared.walk.Walked.TheVariants.{Deep, Put}
-use Rattle.trees.specs.declared.walk.Turn.{Turn}
-use Rattle.trees.specs.declared.walk.Turn.TheVariants.{On, End}
 use Rattle.trees.specs.declared.walk.Start.{Start}
-use Rattle.trees.specs.declared.walk.Start.TheVariants.{Closed, Opened, TooDeep}
-use Rattle.trees.specs.Walk.{rest, bytes_of, bytes_in, inside_of, AmongOpen, IsAround, Resumes, Beginning, Begins, Above, at_top, up, Walking, TopOpen, Walks, Turns}
+use Rattle.trees.specs.declared.walk.Start.TheVariants.{Closed, Opened}
+use Rattle.std.specs.Prelude.{Result, Ok, Err}
+use Rattle.std.specs.declared.ops.ControlFlow.{ControlFlow}
+use Rattle.std.specs.declared.ops.ControlFlow.TheVariants.{Continue, Break}
+use Rattle.trees.specs.Walk.{rest, bytes_of, bytes_in, inside_of, AmongOpen, IsAround, Resumes, Beginning, Begins, Above, at_top, up, Walking, TopOpen, Walks, Enters, Leaves, Turns, LeavesIs}
 use Rattle.trees.proofs.Zipper.{rest_all_on, rest_next, rest_next_on, rest_later, rest_none, rest_pass}
 use Rattle.trees.proofs.Counted.{only, under_most}
 use Rattle.trees.proofs.Opening.{closed_shallow, open_deep, open_shallow}
@@ -93,8 +88,9 @@ module _ {d x ws : List ℕ} {n top : ℕ} {s : Standing} where
   above_parent (at_top e _ _ _) z = absurd (z e)
   above_parent (up _ e _ _ _ _ _ _ _) z = omega (arith, e)
 
-begins_as : {d x ws : List ℕ} {n i o put : ℕ} {t t' : List ℕ} {a b : Start} → Begins d x ws n i o put t t' a → a ≡ b → Begins d x ws n i o put t t' b
-begins_as {d} {x} {ws} {n} {i} {o} {put} {t} {t'} h e = subst (λ z. Begins d x ws n i o put t t' z) e h
+-- the start of an element that a match tells apart
+begins_as : {d x ws : List ℕ} {n i o put : ℕ} {t t' : List ℕ} {a b : Start} → Begins d x ws n i o put t t' (Ok a) → a ≡ b → Begins d x ws n i o put t t' (Ok b)
+begins_as {d} {x} {ws} {n} {i} {o} {put} {t} {t'} h e = subst (λ z. Begins d x ws n i o put t t' (Ok z)) e h
 
 -- ---- a turn
 
@@ -123,8 +119,8 @@ module _ {d x ws : List ℕ} {n top : ℕ} {s : Standing} {w : Walk} {out : List
   walk_few = h.few
 
   module _ {k : ℕ} (q : NextAt ws n w.row w.group w.from s k) where
-    pub enter_begins : {cl : List ℕ} → Classes cl → Beginning d x ws n k s cl w.put
-    enter_begins c = record { held = h.held; stand = h.stand; within = q.within; classes = c; room = omega (arith, h.room) }
+    pub enter_begins : Beginning d x ws n k s w.put
+    enter_begins = record { held = h.held; stand = h.stand; within = q.within; room = omega (arith, h.room) }
 
     pub enter_held : k * 16 + 16 ≤ length ws
     enter_held = omega (arith, q.within, h.held.held)
@@ -149,18 +145,17 @@ module _ {d x ws : List ℕ} {n top : ℕ} {s : Standing} {w : Walk} {out : List
             let p : word_at ws m 1 ≡ suc w.row = ap (λ j. word_at ws j 1) e ∙ parent_is in
             omega (arith, p)
 
-    pub enter_deep : {t : List ℕ} {z : Start} → Begins d x ws n k w.nodes w.put out t z → z ≡ TooDeep → Turns d x ws n top s w t (End (Deep k))
-    enter_deep b₀ y = let b = begins_as b₀ y in record {
+    pub enter_deep : {t : List ℕ} {j : ℕ} → Begins d x ws n k w.nodes w.put out t (Err j) → Enters d x ws n top s w t (Err j)
+    enter_deep b = record {
       is = record {
-        is = record {
-          is = h.deep
-              ∙ ap (λ f. first (too_deeps (element_at d x ws) w.nodes f) h.next) (rest_next ws n q)
-              ∙ ap (λ p. first (first p (too_deeps (element_at d x ws) w.nodes (rest (links_of n ws) w.group w.row (suc k)))) h.next) (open_deep d x ws k (under k (links_of n ws)) w.nodes b.is.opens b.is.node b.is.deep);
-        };
+        is = h.deep
+            ∙ ap (λ f. first (too_deeps (element_at d x ws) w.nodes f) h.next) (rest_next ws n q)
+            ∙ ap (λ p. first (first p (too_deeps (element_at d x ws) w.nodes (rest (links_of n ws) w.group w.row (suc k)))) h.next) (open_deep d x ws k (under k (links_of n ws)) w.nodes b.is.opens b.is.node b.is.deep)
+            ∙ ap some (sym b.is.row);
       };
     }
 
-    pub enter_closed : {t : List ℕ} {z : Start} {put : ℕ} → Begins d x ws n k w.nodes w.put out t z → z ≡ Closed put → Turns d x ws n top s w t (On record { row = w.row; group = w.group; from = k + 1; nodes = w.nodes; put = put; left = w.left - 1 })
+    pub enter_closed : {t : List ℕ} {z : Start} {put : ℕ} → Begins d x ws n k w.nodes w.put out t (Ok z) → z ≡ Closed put → Enters d x ws n top s w t (Ok record { row = w.row; group = w.group; from = k + 1; nodes = w.nodes; put = put; left = w.left - 1 })
     enter_closed b₀ y = let b = begins_as b₀ y in record {
       is = record {
         fewer = omega (arith, walk_left);
@@ -198,7 +193,7 @@ module _ {d x ws : List ℕ} {n top : ℕ} {s : Standing} {w : Walk} {out : List
         go true e = omega (arith, l (eqb-true (word_at ws k 0) 1 e))
         go false e = h.few
 
-    pub enter_open : {t : List ℕ} {z : Start} {put kind o : ℕ} → Begins d x ws n k w.nodes w.put out t z → z ≡ Opened put → Word ws k 0 kind → o ≡ inside_of kind w.nodes → Turns d x ws n top s w t (On record { row = k; group = 0; from = k + 1; nodes = o; put = put; left = w.left - 1 })
+    pub enter_open : {t : List ℕ} {z : Start} {put kind o : ℕ} → Begins d x ws n k w.nodes w.put out t (Ok z) → z ≡ Opened put → Word ws k 0 kind → o ≡ inside_of kind w.nodes → Enters d x ws n top s w t (Ok record { row = k; group = 0; from = k + 1; nodes = o; put = put; left = w.left - 1 })
     enter_open {put = put} {kind} {o} b₀ y v e =
         let b = begins_as b₀ y in
         let g = group_of (word_at ws k 0) in
@@ -244,7 +239,7 @@ module _ {d x ws : List ℕ} {n top : ℕ} {s : Standing} {w : Walk} {out : List
         }
 
   module _ {end : ℕ} (q : NoNext ws n w.row w.group w.from s end) where
-    pub leave_group : {t : List ℕ} → t ≡ out → w.group < 4 → Turns d x ws n top s w t (On record { row = w.row; group = w.group + 1; from = w.row + 1; nodes = w.nodes; put = w.put; left = w.left - 1 })
+    pub leave_group : {t : List ℕ} → t ≡ out → w.group < 4 → Leaves d x ws n top s w t (Continue record { row = w.row; group = w.group + 1; from = w.row + 1; nodes = w.nodes; put = w.put; left = w.left - 1 })
     leave_group {t} e l = record {
       is = record {
         fewer = omega (arith, walk_left);
@@ -282,17 +277,15 @@ module _ {d x ws : List ℕ} {n top : ℕ} {s : Standing} {w : Walk} {out : List
         stands_closed : Rep 1 t put (h.done ++ closing_tag (tag_of (word_at ws w.row 0)))
         stands_closed = subst (λ z. Rep 1 t put (h.done ++ closing_tag (tag_of z))) v.is (c.puts.stands h.done h.stands)
 
-        pub close_top : w.row ≡ top → Turns d x ws n top s w t (End (Put put))
+        pub close_top : w.row ≡ top → Leaves d x ws n top s w t (Break put)
         close_top e = go h.above refl refl
           where
-            go : {a : List ℕ} {p : Option ℕ} → Above d x ws n top s w.row w.nodes a p h.turns → a ≡ h.tail → p ≡ h.next → Turns d x ws n top s w t (End (Put put))
+            go : {a : List ℕ} {p : Option ℕ} → Above d x ws n top s w.row w.nodes a p h.turns → a ≡ h.tail → p ≡ h.next → Leaves d x ws n top s w t (Break put)
             go (up l _ _ _ _ _ _ _ _) f g = absurd (omega (arith, l, e))
             go (at_top _ _ y z) f g = record {
               is = record {
-                is = record {
-                  stands = subst (Rep 1 t put) (sym (whole_left ∙ ap (λ l. h.done ++ (closing_tag (tag_of (word_at ws w.row 0)) ++ l)) (sym f ∙ y) ∙ ap (◌++◌ h.done) (append-nil (closing_tag (tag_of (word_at ws w.row 0)))))) stands_closed;
-                  shallow = deep_left ∙ sym g ∙ z;
-                };
+                stands = subst (Rep 1 t put) (sym (whole_left ∙ ap (λ l. h.done ++ (closing_tag (tag_of (word_at ws w.row 0)) ++ l)) (sym f ∙ y) ∙ ap (◌++◌ h.done) (append-nil (closing_tag (tag_of (word_at ws w.row 0)))))) stands_closed;
+                shallow = deep_left ∙ sym g ∙ z;
               };
             }
 
@@ -328,10 +321,10 @@ module _ {d x ws : List ℕ} {n top : ℕ} {s : Standing} {w : Walk} {out : List
               before : w.row < word_at ws m 1 → p < word_at ws m 1
               before l = omega (arith, l, less)
 
-        pub close_up : {parent group from o : ℕ} → (w.row ≡ top → ⊥) → Word ws w.row 1 parent → group ≡ group_of kind → Resumes s w.row end from → IsAround kind w.nodes o → Turns d x ws n top s w t (On record { row = parent - 1; group = group; from = from; nodes = o; put = put; left = w.left - 1 })
+        pub close_up : {parent group from o : ℕ} → (w.row ≡ top → ⊥) → Word ws w.row 1 parent → group ≡ group_of kind → Resumes s w.row end from → IsAround kind w.nodes o → Leaves d x ws n top s w t (Continue record { row = parent - 1; group = group; from = from; nodes = o; put = put; left = w.left - 1 })
         close_up {parent} {group} {from} {o} z y f r a = go h.above refl refl
           where
-            go : {l : List ℕ} {p : Option ℕ} → Above d x ws n top s w.row w.nodes l p h.turns → l ≡ h.tail → p ≡ h.next → Turns d x ws n top s w t (On record { row = parent - 1; group = group; from = from; nodes = o; put = put; left = w.left - 1 })
+            go : {l : List ℕ} {p : Option ℕ} → Above d x ws n top s w.row w.nodes l p h.turns → l ≡ h.tail → p ≡ h.next → Leaves d x ws n top s w t (Continue record { row = parent - 1; group = group; from = from; nodes = o; put = put; left = w.left - 1 })
             go (at_top e _ _ _) _ _ = absurd (z e)
             go (up {p = p} {a = b} {left = left} {end = after} {next = next} big e few u j m enough passed above) f1 f2 =
                 let g = group_of (word_at ws w.row 0) in
@@ -376,14 +369,11 @@ module _ {d x ws : List ℕ} {n top : ℕ} {s : Standing} {w : Walk} {out : List
 -- ---- the beginning
 
 module _ {d x ws : List ℕ} {n top : ℕ} where
-  pub top_begins : {s : Standing} {cl : List ℕ} → Held d x ws n → top < n → Stands ws n s → Classes cl → Beginning d x ws n top s cl 0
-  top_begins h l g c = record { held = h; stand = g; within = l; classes = c; room = omega arith }
+  pub top_begins : {s : Standing} → Held d x ws n → top < n → Stands ws n s → Beginning d x ws n top s 0
+  top_begins h l g = record { held = h; stand = g; within = l; room = omega arith }
 
-  module _ {s : Standing} {cl : List ℕ} (h : Beginning d x ws n top s cl 0) where
-    pub top_classes : Classes cl
-    top_classes = h.classes
-
-    pub top_opens : {t t' : List ℕ} {z : Start} {put : ℕ} → Begins d x ws n top 0 0 t t' z → z ≡ Opened put → TopOpen d x ws n top s put t'
+  module _ {s : Standing} (h : Beginning d x ws n top s 0) where
+    pub top_opens : {t t' : List ℕ} {z : Start} {put : ℕ} → Begins d x ws n top 0 0 t t' (Ok z) → z ≡ Opened put → TopOpen d x ws n top s put t'
     top_opens {t} b₀ y =
         let b = begins_as b₀ y in
         record {
@@ -398,11 +388,11 @@ module _ {d x ws : List ℕ} {n top : ℕ} where
         }
 
   module _ {t t' : List ℕ} where
-    pub top_deep : {z : Start} → Begins d x ws n top 0 0 t t' z → z ≡ TooDeep → Walks d x ws n top t' (Deep top)
+    pub top_deep : {k : ℕ} → Begins d x ws n top 0 0 t t' (Err k) → Walks d x ws n top t' (Err k)
     unfolding shape_at
-    top_deep b₀ y = let b = begins_as b₀ y in record { is = record { is = open_deep d x ws top (under top (links_of n ws)) 0 b.is.opens b.is.node b.is.deep } }
+    top_deep b = record { is = record { is = open_deep d x ws top (under top (links_of n ws)) 0 b.is.opens b.is.node b.is.deep ∙ ap some (sym b.is.row) } }
 
-    pub top_closed : {z : Start} {put : ℕ} → Begins d x ws n top 0 0 t t' z → z ≡ Closed put → Walks d x ws n top t' (Put put)
+    pub top_closed : {z : Start} {put : ℕ} → Begins d x ws n top 0 0 t t' (Ok z) → z ≡ Closed put → Walks d x ws n top t' (Ok put)
     unfolding shape_at
     top_closed b₀ y = let b = begins_as b₀ y in record {
       is = record {
@@ -456,11 +446,21 @@ module _ {d x ws : List ℕ} {n top put : ℕ} {s : Standing} {out : List ℕ} (
 
 -- ---- one turn, and all
 
-pub turn_at : {ws : List ℕ} {n i g from k : ℕ} {s : Standing} {r : Found} → Next ws n i g from s r → r ≡ At k → NextAt ws n i g from s k
-turn_at {ws} {n} {i} {g} {from} {s = s} q e = (subst (λ r. Next ws n i g from s r) e q).is
+pub turn_at : {ws : List ℕ} {n i g from k : ℕ} {s : Standing} → Next ws n i g from s (Ok k) → NextAt ws n i g from s k
+turn_at q = q.is
 
-pub turn_none : {ws : List ℕ} {n i g from k : ℕ} {s : Standing} {r : Found} → Next ws n i g from s r → r ≡ Nothing k → NoNext ws n i g from s k
-turn_none {ws} {n} {i} {g} {from} {s = s} q e = (subst (λ r. Next ws n i g from s r) e q).is
+pub turn_none : {ws : List ℕ} {n i g from k : ℕ} {s : Standing} → Next ws n i g from s (Err k) → NoNext ws n i g from s k
+turn_none q = q.is
+
+module _ {d x ws : List ℕ} {n top : ℕ} {s : Standing} {w : Walk} {out : List ℕ} where
+  pub turn_deep : {k : ℕ} → Enters d x ws n top s w out (Err k) → Turns d x ws n top s w out (Err k)
+  turn_deep q = record { is = q.is }
+
+  pub turn_enters : {w' : Walk} → Enters d x ws n top s w out (Ok w') → Turns d x ws n top s w out (Ok (Continue w'))
+  turn_enters q = record { is = q.is }
+
+  pub turn_leaves : {r : ControlFlow ℕ Walk} → Leaves d x ws n top s w out r → Turns d x ws n top s w out (Ok r)
+  turn_leaves q = record { is = q.is }
 
 -- the loop: the walk goes on in a buffer as long as the one lent
 pub record Looping (d x ws : List ℕ) (n top : ℕ) (s : Standing) (out : List ℕ) (w : Walk) (t : List ℕ) : Type 0 where
@@ -475,24 +475,30 @@ module _ {d x ws : List ℕ} {n top : ℕ} {s : Standing} {w : Walk} where
     pub loop_walks : Walking d x ws n top s w t
     loop_walks = g.walks
 
-    module _ {t' : List ℕ} {r : Turn} (q : Turns d x ws n top s w t' r) where
-      pub loop_again : {w' : Walk} → r ≡ On w' → length t' ≡ length t → Looping d x ws n top s out w' t'
-      loop_again e f = record { walks = (subst (λ r. Turns d x ws n top s w t' r) e q).is.walks; same = f ∙ g.same }
+    pub loop_deep : {t' : List ℕ} {k : ℕ} → Turns d x ws n top s w t' (Err k) → Walks d x ws n top t' (Err k)
+    loop_deep q = record { is = q.is }
 
-      pub loop_less : {w' : Walk} → r ≡ On w' → w'.left < w.left
-      loop_less e = (subst (λ r. Turns d x ws n top s w t' r) e q).is.fewer
+    module _ {t' : List ℕ} {r : ControlFlow ℕ Walk} (q : Turns d x ws n top s w t' (Ok r)) where
+      turned : {z : ControlFlow ℕ Walk} → r ≡ z → LeavesIs d x ws n top s w t' z
+      turned e = subst (λ z. LeavesIs d x ws n top s w t' z) e q.is
 
-      pub loop_ends : {z : Walked} → r ≡ End z → Walks d x ws n top t' z
-      loop_ends e = (subst (λ r. Turns d x ws n top s w t' r) e q).is
+      pub loop_again : {w' : Walk} → r ≡ Continue w' → length t' ≡ length t → Looping d x ws n top s out w' t'
+      loop_again e f = record { walks = (turned e).walks; same = f ∙ g.same }
 
-    pub loop_never : {z : Walked} → w.left ≤ 0 → Walks d x ws n top t z
+      pub loop_less : {w' : Walk} → r ≡ Continue w' → w'.left < w.left
+      loop_less e = (turned e).fewer
+
+      pub loop_ends : {put : ℕ} → r ≡ Break put → Walks d x ws n top t' (Ok put)
+      loop_ends e = record { is = turned e }
+
+    pub loop_never : {z : Result ℕ ℕ} → w.left ≤ 0 → Walks d x ws n top t z
     loop_never l = absurd (omega (arith, walk_left g.walks, l))
 
-pub ruleset turning = (walk_sought, turn_at, turn_none, rules)
+pub ruleset turning = (walk_sought, turn_at, turn_none, turn_deep, turn_enters, turn_leaves, rules)
 
-pub ruleset looping = (loop_begins, loop_walks, loop_again, loop_less, loop_ends, loop_never, rules)
+pub ruleset looping = (loop_begins, loop_walks, loop_deep, loop_again, loop_less, loop_ends, loop_never, rules)
 
-pub ruleset topping = (top_classes, top_opens, top_deep, top_closed, rules)
+pub ruleset topping = (top_opens, top_deep, top_closed, rules)
 
 pub ruleset treeing = (top_begins, rules)
 

@@ -1,9 +1,8 @@
 -- What the functions that write a tree need and say: d is the document, x the text, ws the words of the rows, of which n are claimed.
 -- Assumes nothing.
-use Rattle.std.specs.Prelude.{ℕ, zero, suc, ◌+◌, ◌-◌, ◌*◌, ◌≤◌, ◌<◌, ◌^◌, ◌≡◌, List, [], ◌∷◌, ◌++◌, Bool, true, false, ◌&&◌, eqb, length, take, drop}
+use Rattle.std.specs.Prelude.{ℕ, zero, suc, ◌+◌, ◌-◌, ◌*◌, ◌≤◌, ◌<◌, ◌^◌, ◌≡◌, List, [], ◌∷◌, ◌++◌, Bool, true, false, ◌&&◌, eqb, length, drop, Result, Ok, Err}
 use Rattle.std.proofs.Math.Option.{Option, some}
-use Rattle.slices.specs.Bytes.{if, bytes}
-use Rattle.scan.specs.Classes.{Classes}
+use Rattle.slices.specs.Bytes.{if}
 use Rattle.answers.specs.Puts.{Puts}
 use Rattle.document.specs.Kinds as kinds
 use Rattle.document.specs.Elements.{among}
@@ -13,10 +12,7 @@ use Rattle.items.specs.Order.{DocumentOrder}
 use Rattle.items.specs.Written.{pairs, closing_tag, concat}
 use Rattle.trees.specs.Shape.{types, args, members, annotations, nodes}
 use Rattle.trees.specs.Written.{element_at, tag_of, name_key, value_key, tp_key, given, word_pairs, attributes, docstrings}
-use Rattle.trees.specs.declared.children.Found.{Found}
-use Rattle.trees.specs.declared.children.Found.TheVariants.{At, Nothing}
 use Rattle.trees.specs.declared.children.Standing.{Standing}
-use Rattle.trees.specs.declared.elements.Part.{Part}
 
 -- the groups by their numbers
 abbrev pub group_kinds : ℕ → List ℕ
@@ -88,12 +84,12 @@ pub record NoNext (ws : List ℕ) (n i g from : ℕ) (s : Standing) (e : ℕ) : 
   pub none : (m : ℕ) → from ≤ m → m < n → child_in ws g i m ≡ false
   pub passed : s.ordered ≡ true → (m : ℕ) → from ≤ m → m < e → i < word_at ws m 1
 
-abbrev pub NextIs : List ℕ → ℕ → ℕ → ℕ → ℕ → Standing → Found → Type 0
-NextIs ws n i g from s (At k) = NextAt ws n i g from s k
-NextIs ws n i g from s (Nothing e) = NoNext ws n i g from s e
+abbrev pub NextIs : List ℕ → ℕ → ℕ → ℕ → ℕ → Standing → Result ℕ ℕ → Type 0
+NextIs ws n i g from s (Ok k) = NextAt ws n i g from s k
+NextIs ws n i g from s (Err e) = NoNext ws n i g from s e
 
 -- what the search is
-pub record Next (ws : List ℕ) (n i g from : ℕ) (s : Standing) (r : Found) : Type 0 where
+pub record Next (ws : List ℕ) (n i g from : ℕ) (s : Standing) (r : Result ℕ ℕ) : Type 0 where
   pub is : NextIs ws n i g from s r
 
 -- whether row i has a child
@@ -102,10 +98,9 @@ pub record HasChild (ws : List ℕ) (n i : ℕ) (r : Bool) : Type 0 where
   pub none : r ≡ false → (k : ℕ) → i < k → k < n → word_at ws k 1 ≡ suc i → ⊥
 
 -- what putting bytes of row i needs
-pub record Puttable (d x ws : List ℕ) (n i : ℕ) (cl : List ℕ) (put : ℕ) : Type 0 where
+pub record Puttable (d x ws : List ℕ) (n i : ℕ) (put : ℕ) : Type 0 where
   pub held : Held d x ws n
   pub within : i < n
-  pub classes : Classes cl
   pub room : put + 33554432 < 2 ^ 62
 
 -- the start tag of row i, up to its end
@@ -173,26 +168,6 @@ pub record RunPast (ws : List ℕ) (i k : ℕ) (s : Standing) (r : Bool) : Type 
 pub record GroupPast (ws : List ℕ) (i g k : ℕ) (s : Standing) (r : Bool) : Type 0 where
   pub none : r ≡ true → (n : ℕ) → Stands ws n s → (m : ℕ) → k ≤ m → m < n → child_in ws g i m ≡ false
 
--- a part of some texts, which is short
-pub record PartIn (texts : List ℕ) (p : Part) : Type 0 where
-  pub order : p.from ≤ p.to
-  pub within : p.to ≤ length texts
-  pub short : p.to ≤ p.from + 20
-
--- and it is s
-pub record PartOf (texts s : List ℕ) (p : Part) : Type 0 where
-  pub part : PartIn texts p
-  pub is : take (p.to - p.from) (drop p.from texts) ≡ s
-
-unfoldable pub tag_texts : List ℕ
-tag_texts = bytes "nodeinterfacemethodpropertysignalannotationargtp:simple-typetp:enumtp:enumvaluetp:structtp:membertp:mapping"
-
-unfoldable pub key_texts : List ℕ
-key_texts = bytes " name=\" suffix=\" type=\" value=\" tp:type=\""
-
-unfoldable pub word_texts : List ℕ
-word_texts = bytes " access=\"read\" access=\"write\" access=\"readwrite\" direction=\"in\" direction=\"out\""
-
 -- an attribute up to its value
 abbrev pub keyed : List ℕ → List ℕ
 keyed k = 32 ∷ k ++ (61 ∷ 34 ∷ [])
@@ -201,44 +176,34 @@ keyed k = 32 ∷ k ++ (61 ∷ 34 ∷ [])
 pub record CountFits (n more : ℕ) : Type 0 where
   pub fits : n + more < 2 ^ 62
 
-pub record PartPut (texts : List ℕ) (p : Part) (n : ℕ) (t t' : List ℕ) (r : ℕ) : Type 0 where
-  pub puts : Puts (take (p.to - p.from) (drop p.from texts)) n t t' r
-  pub most : r ≤ n + 20
-
 pub record NamePut (kind : ℕ) (before : List ℕ) (n : ℕ) (t t' : List ℕ) (r : ℕ) : Type 0 where
   pub puts : Puts (before ++ tag_of kind) n t t' r
   pub most : r ≤ n + length before + 20
 
 -- the document and the text are within the limit, row i is held, and there is room to count so many more
-pub record RowHeld (d x ws : List ℕ) (i : ℕ) (cl : List ℕ) (n more : ℕ) : Type 0 where
+pub record RowHeld (d x ws : List ℕ) (i : ℕ) (n more : ℕ) : Type 0 where
   pub document : length d ≤ 1048576
   pub text : length x ≤ 1048576
   pub held : i * 16 + 16 ≤ length ws
-  pub classes : Classes cl
   pub room : n + more < 2 ^ 62
 
--- what putting an attribute of a value needs, and what it says, by the key of which the part has the bytes
-pub record GivenHeld (value cl keys : List ℕ) (p : Part) (n : ℕ) : Type 0 where
+-- what putting an attribute of a value needs, and what it says, by the key that stands before it
+pub record GivenHeld (value before : List ℕ) (n : ℕ) : Type 0 where
   pub short : length value ≤ 1048576
-  pub classes : Classes cl
-  pub part : PartIn keys p
+  pub lead : length before ≤ 20
   pub room : n + 6291520 < 2 ^ 62
 
-pub record GivenPut (value keys : List ℕ) (p : Part) (n : ℕ) (t t' : List ℕ) (r : ℕ) : Type 0 where
-  pub puts : (key : List ℕ) → PartOf keys (keyed key) p → Puts (pairs (given key (some value))) n t t' r
+pub record GivenPut (value before : List ℕ) (n : ℕ) (t t' : List ℕ) (r : ℕ) : Type 0 where
+  pub puts : (key : List ℕ) → before ≡ keyed key → Puts (pairs (given key (some value))) n t t' r
   pub most : r ≤ n + 6291488
 
 -- what the triple from word k on of row i shows, if it is there
 abbrev pub shown_at : List ℕ → List ℕ → List ℕ → ℕ → ℕ → Option (List ℕ)
 shown_at d x ws i k = shown_by d x (triple_at k (drop (i * 16) ws))
 
-pub record AttributePut (d x ws : List ℕ) (i k : ℕ) (keys : List ℕ) (p : Part) (n : ℕ) (t t' : List ℕ) (r : ℕ) : Type 0 where
-  pub puts : (key : List ℕ) → PartOf keys (keyed key) p → Puts (pairs (given key (shown_at d x ws i k))) n t t' r
+pub record AttributePut (d x ws : List ℕ) (i k : ℕ) (before : List ℕ) (n : ℕ) (t t' : List ℕ) (r : ℕ) : Type 0 where
+  pub puts : (key : List ℕ) → before ≡ keyed key → Puts (pairs (given key (shown_at d x ws i k))) n t t' r
   pub most : r ≤ n + 6291488
-
-pub record NamedPut (d x ws : List ℕ) (i kind n : ℕ) (t t' : List ℕ) (r : ℕ) : Type 0 where
-  pub puts : Puts (pairs (given (name_key kind) (shown_at d x ws i 2)) ++ pairs (given (value_key kind) (shown_at d x ws i 5))) n t t' r
-  pub most : r ≤ n + 12582976
 
 pub record AttributesPut (d x ws : List ℕ) (i kind n : ℕ) (t t' : List ℕ) (r : ℕ) : Type 0 where
   pub puts : Puts (pairs (given (name_key kind) (shown_at d x ws i 2)) ++ (pairs (given (value_key kind) (shown_at d x ws i 5)) ++ pairs (given tp_key (shown_at d x ws i 8)))) n t t' r

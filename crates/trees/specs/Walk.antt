@@ -1,13 +1,12 @@
 -- What the functions that walk over a tree need and say: d is the document, x the text, ws the words of the rows, of which n are claimed.
 -- Assumes nothing.
-use Rattle.std.specs.Prelude.{ℕ, zero, suc, ◌+◌, ◌-◌, ◌*◌, ◌≤◌, ◌<◌, ◌^◌, ◌≡◌, List, [], ◌++◌, Bool, true, false, eqb, length, drop}
+use Rattle.std.specs.Prelude.{ℕ, zero, suc, ◌+◌, ◌-◌, ◌*◌, ◌≤◌, ◌<◌, ◌^◌, ◌≡◌, List, [], ◌++◌, Bool, true, false, eqb, length, drop, Result, Ok, Err}
 use Rattle.std.proofs.Math.Option.{Option, none, some}
+use Rattle.faults.specs.declared.Fault.{Fault}
 use Rattle.slices.specs.Bytes.{if, bytes}
 use Rattle.tables.specs.Table.{Rep}
-use Rattle.scan.specs.Classes.{Classes}
 use Rattle.answers.specs.Puts.{Puts}
 use Rattle.answers.specs.Text.{Says, wrong}
-use Rattle.answers.specs.declared.TextAnswer.{TextAnswer}
 use Rattle.document.specs.Kinds as kinds
 use Rattle.document.specs.Elements.{among}
 use Rattle.items.specs.Words.{word_at}
@@ -19,12 +18,10 @@ use Rattle.trees.specs.Writing.{is_open, first, too_deep, too_deeps, is_writable
 use Rattle.trees.specs.Steps.{group_kinds, group_of, Held, Stands}
 use Rattle.trees.specs.declared.children.Standing.{Standing}
 use Rattle.trees.specs.declared.walk.Walk.{Walk}
-use Rattle.trees.specs.declared.walk.Walked.{Walked}
-use Rattle.trees.specs.declared.walk.Walked.TheVariants.{Deep, Put}
-use Rattle.trees.specs.declared.walk.Turn.{Turn}
-use Rattle.trees.specs.declared.walk.Turn.TheVariants.{On, End}
 use Rattle.trees.specs.declared.walk.Start.{Start}
-use Rattle.trees.specs.declared.walk.Start.TheVariants.{Closed, Opened, TooDeep}
+use Rattle.trees.specs.declared.walk.Start.TheVariants.{Closed, Opened}
+use Rattle.std.specs.declared.ops.ControlFlow.{ControlFlow}
+use Rattle.std.specs.declared.ops.ControlFlow.TheVariants.{Continue, Break}
 
 -- the children of row i in a group from a row on, with all under them; those of the groups after it; both
 abbrev pub seek : List Link → ℕ → ℕ → ℕ → Forest ℕ
@@ -73,10 +70,9 @@ pub record Resumes (s : Standing) (i end r : ℕ) : Type 0 where
   pub other : s.ordered ≡ false → r ≡ suc i
 
 -- what putting row i from the end of its start tag needs, and what it is
-pub record Openable (d x ws : List ℕ) (n i : ℕ) (cl : List ℕ) (put : ℕ) : Type 0 where
+pub record Openable (d x ws : List ℕ) (n i : ℕ) (put : ℕ) : Type 0 where
   pub held : Held d x ws n
   pub within : i < n
-  pub classes : Classes cl
   pub room : put + 33554440 < 2 ^ 62
 
 pub record OpenedPut (d x ws : List ℕ) (i o put : ℕ) (t t' : List ℕ) (r : ℕ) : Type 0 where
@@ -84,24 +80,23 @@ pub record OpenedPut (d x ws : List ℕ) (i o put : ℕ) (t t' : List ℕ) (r : 
   pub puts : Puts (bytes ">" ++ concat (docstrings (element_at d x ws i).doc)) put t t' r
   pub most : r ≤ put + 1048641
 
-pub record DeepNode (ws : List ℕ) (i o : ℕ) : Type 0 where
+pub record DeepNode (ws : List ℕ) (i o k : ℕ) : Type 0 where
+  pub row : k ≡ i
   pub node : word_at ws i 0 ≡ kinds.node
   pub deep : 1024 ≤ o
 
-abbrev pub OpensIs : List ℕ → List ℕ → List ℕ → ℕ → ℕ → ℕ → List ℕ → List ℕ → Start → Type 0
-OpensIs d x ws i o put t t' (Closed r) = ⊥
-OpensIs d x ws i o put t t' (Opened r) = OpenedPut d x ws i o put t t' r
-OpensIs d x ws i o put t t' TooDeep = DeepNode ws i o
+abbrev pub OpensIs : List ℕ → List ℕ → List ℕ → ℕ → ℕ → ℕ → List ℕ → List ℕ → Result ℕ ℕ → Type 0
+OpensIs d x ws i o put t t' (Ok r) = OpenedPut d x ws i o put t t' r
+OpensIs d x ws i o put t t' (Err k) = DeepNode ws i o k
 
-pub record Opens (d x ws : List ℕ) (i o put : ℕ) (t t' : List ℕ) (r : Start) : Type 0 where
+pub record Opens (d x ws : List ℕ) (i o put : ℕ) (t t' : List ℕ) (r : Result ℕ ℕ) : Type 0 where
   pub is : OpensIs d x ws i o put t t' r
 
 -- what putting row i needs
-pub record Beginning (d x ws : List ℕ) (n i : ℕ) (s : Standing) (cl : List ℕ) (put : ℕ) : Type 0 where
+pub record Beginning (d x ws : List ℕ) (n i : ℕ) (s : Standing) (put : ℕ) : Type 0 where
   pub held : Held d x ws n
   pub stand : Stands ws n s
   pub within : i < n
-  pub classes : Classes cl
   pub room : put + 67108864 < 2 ^ 62
 
 -- row i is closed at once, or it is open, or it is too deep where o nodes are open
@@ -118,7 +113,8 @@ pub record OpenPut (d x ws : List ℕ) (n i o put : ℕ) (t t' : List ℕ) (r : 
   pub is : bytes_of d x ws (tree i (under i (links_of n ws))) ≡ begun ++ (bytes_in d x ws (under i (links_of n ws)) ++ closing_tag (tag_of (word_at ws i 0)))
   pub most : r ≤ put + 33554432
 
-pub record DeepAt (d x ws : List ℕ) (n i o : ℕ) : Type 0 where
+pub record DeepAt (d x ws : List ℕ) (n i o k : ℕ) : Type 0 where
+  pub row : k ≡ i
   pub opens : is_open (element_at d x ws i) (under i (links_of n ws)) ≡ true
   pub node : word_at ws i 0 ≡ kinds.node
   pub deep : 1024 ≤ o
@@ -126,10 +122,13 @@ pub record DeepAt (d x ws : List ℕ) (n i o : ℕ) : Type 0 where
 abbrev pub StartIs : List ℕ → List ℕ → List ℕ → ℕ → ℕ → ℕ → ℕ → List ℕ → List ℕ → Start → Type 0
 StartIs d x ws n i o put t t' (Closed r) = ClosedPut d x ws n i put t t' r
 StartIs d x ws n i o put t t' (Opened r) = OpenPut d x ws n i o put t t' r
-StartIs d x ws n i o put t t' TooDeep = DeepAt d x ws n i o
 
-pub record Begins (d x ws : List ℕ) (n i o put : ℕ) (t t' : List ℕ) (r : Start) : Type 0 where
-  pub is : StartIs d x ws n i o put t t' r
+abbrev pub BeginIs : List ℕ → List ℕ → List ℕ → ℕ → ℕ → ℕ → ℕ → List ℕ → List ℕ → Result Start ℕ → Type 0
+BeginIs d x ws n i o put t t' (Ok z) = StartIs d x ws n i o put t t' z
+BeginIs d x ws n i o put t t' (Err k) = DeepAt d x ws n i o k
+
+pub record Begins (d x ws : List ℕ) (n i o put : ℕ) (t t' : List ℕ) (r : Result Start ℕ) : Type 0 where
+  pub is : BeginIs d x ws n i o put t t' r
 
 -- what is left to do after row i is closed, inside of which o nodes are open: the bytes, the first row too deep, the turns
 pub data Above (d x ws : List ℕ) (n top : ℕ) (s : Standing) : ℕ → ℕ → List ℕ → Option ℕ → ℕ → Type 0 where
@@ -195,30 +194,45 @@ pub record AllPut (d x ws : List ℕ) (n top : ℕ) (out : List ℕ) (r : ℕ) :
 pub record DeepRow (d x ws : List ℕ) (n top k : ℕ) : Type 0 where
   pub is : too_deep (element_at d x ws) 0 (shape_at ws n top) ≡ some k
 
-abbrev pub WalkedIs : List ℕ → List ℕ → List ℕ → ℕ → ℕ → List ℕ → Walked → Type 0
-WalkedIs d x ws n top out (Deep k) = DeepRow d x ws n top k
-WalkedIs d x ws n top out (Put r) = AllPut d x ws n top out r
+abbrev pub WalkedIs : List ℕ → List ℕ → List ℕ → ℕ → ℕ → List ℕ → Result ℕ ℕ → Type 0
+WalkedIs d x ws n top out (Ok r) = AllPut d x ws n top out r
+WalkedIs d x ws n top out (Err k) = DeepRow d x ws n top k
 
-pub record Walks (d x ws : List ℕ) (n top : ℕ) (out : List ℕ) (r : Walked) : Type 0 where
+pub record Walks (d x ws : List ℕ) (n top : ℕ) (out : List ℕ) (r : Result ℕ ℕ) : Type 0 where
   pub is : WalkedIs d x ws n top out r
 
--- after one turn
+-- the walk goes on
 pub record Goes (d x ws : List ℕ) (n top : ℕ) (s : Standing) (w : Walk) (out : List ℕ) (w' : Walk) : Type 0 where
   pub walks : Walking d x ws n top s w' out
   pub fewer : w'.left < w.left
 
-abbrev pub TurnIs : List ℕ → List ℕ → List ℕ → ℕ → ℕ → Standing → Walk → List ℕ → Turn → Type 0
-TurnIs d x ws n top s w out (On w') = Goes d x ws n top s w out w'
-TurnIs d x ws n top s w out (End r) = Walks d x ws n top out r
+-- after a child is entered, after a group is left, and after one turn
+abbrev pub EntersIs : List ℕ → List ℕ → List ℕ → ℕ → ℕ → Standing → Walk → List ℕ → Result Walk ℕ → Type 0
+EntersIs d x ws n top s w out (Ok w') = Goes d x ws n top s w out w'
+EntersIs d x ws n top s w out (Err k) = DeepRow d x ws n top k
 
-pub record Turns (d x ws : List ℕ) (n top : ℕ) (s : Standing) (w : Walk) (out : List ℕ) (r : Turn) : Type 0 where
+pub record Enters (d x ws : List ℕ) (n top : ℕ) (s : Standing) (w : Walk) (out : List ℕ) (r : Result Walk ℕ) : Type 0 where
+  pub is : EntersIs d x ws n top s w out r
+
+abbrev pub LeavesIs : List ℕ → List ℕ → List ℕ → ℕ → ℕ → Standing → Walk → List ℕ → ControlFlow ℕ Walk → Type 0
+LeavesIs d x ws n top s w out (Continue w') = Goes d x ws n top s w out w'
+LeavesIs d x ws n top s w out (Break r) = AllPut d x ws n top out r
+
+pub record Leaves (d x ws : List ℕ) (n top : ℕ) (s : Standing) (w : Walk) (out : List ℕ) (r : ControlFlow ℕ Walk) : Type 0 where
+  pub is : LeavesIs d x ws n top s w out r
+
+abbrev pub TurnIs : List ℕ → List ℕ → List ℕ → ℕ → ℕ → Standing → Walk → List ℕ → Result (ControlFlow ℕ Walk) ℕ → Type 0
+TurnIs d x ws n top s w out (Ok r) = LeavesIs d x ws n top s w out r
+TurnIs d x ws n top s w out (Err k) = DeepRow d x ws n top k
+
+pub record Turns (d x ws : List ℕ) (n top : ℕ) (s : Standing) (w : Walk) (out : List ℕ) (r : Result (ControlFlow ℕ Walk) ℕ) : Type 0 where
   pub is : TurnIs d x ws n top s w out r
 
 -- the entry: what is answered and left for row i of sound rows
 pub record Writable (kind : ℕ) (r : Bool) : Type 0 where
   pub is : among kind kinds.parts ≡ if r false true
 
-pub record WritesSound (d x ws : List ℕ) (n i : ℕ) (t t' : List ℕ) (r : TextAnswer) : Type 0 where
+pub record WritesSound (d x ws : List ℕ) (n i : ℕ) (t t' : List ℕ) (r : Result ℕ Fault) : Type 0 where
   pub says :
       Says
       (if (is_writable ws n i) (tree_written (length t) (too_deep (element_at d x ws) 0 (shape_at ws n i)) (tree_at d x ws n i)) (wrong 20 i))

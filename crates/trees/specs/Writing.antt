@@ -1,10 +1,10 @@
 -- What writing a tree answers and leaves (docs/FORMAT.md, Answers), for the room lent.
 -- Assumes nothing.
-use Rattle.std.specs.Prelude.{ℕ, suc, List, Bool, true, not, ◌&&◌, ◌||◌, eqb, leb, ltb, length}
+use Rattle.std.specs.Prelude.{ℕ, suc, List, Bool, true, not, ◌&&◌, ◌||◌, eqb, leb, ltb, length, Result}
 use Rattle.std.proofs.Math.Option.{Option, none, some}
+use Rattle.faults.specs.declared.Fault.{Fault}
 use Rattle.slices.specs.Bytes.{if, empty}
 use Rattle.answers.specs.Text.{Text, text, wrong, roomy, Says}
-use Rattle.answers.specs.declared.TextAnswer.{TextAnswer}
 use Rattle.document.specs.Kinds as kinds
 use Rattle.document.specs.Elements.{among}
 use Rattle.items.specs.Words.{rows_of}
@@ -54,5 +54,5 @@ tree_writing document x ws n i room =
     if (ltb 1048576 (length document) || ltb 1048576 (length x)) (wrong 2 1048576) r
 
 -- what writing the tree of row i answers, and what it leaves in a buffer of that room
-pub record WritesTree (document x ws : List ℕ) (n i room : ℕ) (out : List ℕ) (r : TextAnswer) : Type 0 where
+pub record WritesTree (document x ws : List ℕ) (n i room : ℕ) (out : List ℕ) (r : Result ℕ Fault) : Type 0 where
   pub says : Says (tree_writing document x ws n i room) room out r

@@ -3,6 +3,7 @@ ghost use Rattle.std.specs.Prelude.{◌≡◌, true, ◌+◌, ◌*◌, ◌≤◌
 ghost use Rattle.document.specs.Elements.{among};
 ghost use Rattle.trees.specs.Steps.{group_of, Held, Stands, Sought, Next, HasChild, RowsHeld, RowKept, Late, LastNode, NodesStand, Asked, Child, Past, RunPast, GroupPast};
 
+use crate::lent::Table;
 use document::kinds;
 
 // How the rows stand: in document order; and so that after a node no other child of the same node follows.
@@ -20,15 +21,13 @@ pub fn group_of(kind: u32) -> u32
         kinds::NODE => 4,
         kinds::ANNOTATION => 3,
         kinds::ARG => 1,
-        kinds::SIMPLE_TYPE => 0,
-        kinds::ENUM => 0,
-        kinds::STRUCT => 0,
-        kinds::MAPPING => 0,
+        kinds::SIMPLE_TYPE | kinds::ENUM | kinds::STRUCT | kinds::MAPPING => 0,
         _ => 2,
     }
 }
 
 // Whether row k is no node and stands in a node that is not the last node before it.
+#[tactic(auto, using(crate::proofs::Standing::lates))]
 fn stands_late(rows: &[u32], k: usize, node: usize) -> bool
     requires { RowKept rows.now k }
     ensures { Late rows.now k node result }
@@ -37,10 +36,7 @@ fn stands_late(rows: &[u32], k: usize, node: usize) -> bool
         return false;
     }
     let above = (items::word(rows, k, 1) as usize) - 1;
-    if items::word(rows, above, 0) != kinds::NODE {
-        return false;
-    }
-    above != node
+    items::word(rows, above, 0) == kinds::NODE && above != node
 }
 
 // The last node up to row k, if `node` is the last before it.
@@ -49,24 +45,24 @@ fn last_node(rows: &[u32], k: usize, node: usize) -> usize
     ensures { LastNode rows.now k node result }
 {
     if items::word(rows, k, 0) == kinds::NODE {
-        return k;
+        k
+    } else {
+        node
     }
-    node
 }
 
 // Whether no row that is not a node stands in a node after a node of the same parent: then the parent is the last node before it.
+#[tactic(auto, using(crate::proofs::Standing::lasts))]
 fn nodes_stand_last(rows: &[u32], n: usize) -> bool
     requires { RowsHeld rows.now n }
     ensures { NodesStand rows.now n result }
 {
     let mut node = 0;
-    let mut k = 1;
-    while k < n {
+    for k in 1..n {
         if stands_late(rows, k, node) {
             return false;
         }
         node = last_node(rows, k, node);
-        k += 1;
     }
     true
 }
@@ -82,99 +78,77 @@ pub fn rows_stand<'a>(document: &'a [u8], text: &'a [u8], rows: &[u32], n: usize
     }
 }
 
-// A child of a group, or where the search for one ended.
-#[derive(Clone, Copy)]
-pub enum Found {
-    At(usize),
-    Nothing(usize),
-}
-
 // Whether rows in document order have no child of row i at row k or after it, as far as row k says it.
+#[tactic(auto, using(crate::proofs::Standing::runs))]
 fn ends_run(rows: &[u32], i: usize, k: usize, s: Standing) -> bool
-    requires fact_1 { i < k }
-    requires fact_2 { k * 16 + 16 ≤ length rows.now }
+    requires after { i < k }
+    requires held { k * 16 + 16 ≤ length rows.now }
     ensures { RunPast rows.now i k s result }
 {
-    if s.ordered {
-        return items::word(rows, k, 1) as usize <= i;
-    }
-    false
+    s.ordered && items::word(rows, k, 1) as usize <= i
 }
 
 // The same of a group but nodes, where row k is a node and nodes stand last.
+#[tactic(auto, using(crate::proofs::Standing::pasts))]
 fn ends_group(rows: &[u32], i: usize, group: u32, k: usize, s: Standing) -> bool
     requires { Asked rows.now i group k }
     ensures { GroupPast rows.now i group k s result }
 {
-    if !s.last {
-        return false;
-    }
-    if items::word(rows, k, 1) as usize != i + 1 {
-        return false;
-    }
-    if items::word(rows, k, 0) != kinds::NODE {
-        return false;
-    }
-    if items::word(rows, i, 0) != kinds::NODE {
-        return false;
-    }
-    group < 4
+    s.last
+        && items::word(rows, k, 1) as usize == i + 1
+        && items::word(rows, k, 0) == kinds::NODE
+        && items::word(rows, i, 0) == kinds::NODE
+        && group < 4
 }
 
 // Whether no child of row i in a group stands at row k or after it, as far as row k says it.
+#[tactic(auto, using(crate::proofs::Standing::either_past))]
 fn is_past(rows: &[u32], i: usize, group: u32, k: usize, s: Standing) -> bool
     requires { Asked rows.now i group k }
     ensures { Past rows.now i group k s result }
 {
-    if ends_run(rows, i, k, s) {
-        return true;
-    }
-    ends_group(rows, i, group, k, s)
+    ends_run(rows, i, k, s) || ends_group(rows, i, group, k, s)
 }
 
 // Whether row k is a child of row i in a group.
+#[tactic(auto, using(crate::proofs::Standing::childs))]
 fn is_child(rows: &[u32], i: usize, group: u32, k: usize) -> bool
     requires { Asked rows.now i group k }
     ensures { Child rows.now i group k result }
 {
-    if items::word(rows, k, 1) as usize == i + 1 {
-        return group_of(items::word(rows, k, 0)) == group;
-    }
-    false
+    items::word(rows, k, 1) as usize == i + 1 && group_of(items::word(rows, k, 0)) == group
 }
 
-// The first child of row i in a group from a row on.
-pub fn next_child(rows: &[u32], n: usize, i: usize, group: u32, from: usize, s: Standing) -> Found
-    requires { Sought rows.now n i group from s }
-    ensures { Next rows.now n i group from s result }
+// The first child of row i in a group from a row on, or else where the search ended.
+#[tactic(auto, using(crate::proofs::Standing::looks))]
+pub fn next_child(table: &Table, i: usize, group: u32, from: usize) -> Result<usize, usize>
+    requires { Sought table.now.rows.now table.now.n i group from table.now.standing }
+    ensures { Next table.now.rows.now table.now.n i group from table.now.standing result }
 {
-    let mut k = from;
-    while k < n {
-        if is_child(rows, i, group, k) {
-            return Found::At(k);
+    for k in from..table.n {
+        if is_child(table.rows, i, group, k) {
+            return Ok(k);
         }
-        if is_past(rows, i, group, k, s) {
-            return Found::Nothing(k);
+        if is_past(table.rows, i, group, k, table.standing) {
+            return Err(k);
         }
-        k += 1;
     }
-    Found::Nothing(n)
+    Err(table.n)
 }
 
 // Whether row i has a child; in document order the next row is one, or there is none.
-pub fn has_child(rows: &[u32], n: usize, i: usize, s: Standing) -> bool
-    requires { Sought rows.now n i 0 (i + 1) s }
-    ensures { HasChild rows.now n i result }
+#[tactic(auto, using(crate::proofs::Standing::haves))]
+pub fn has_child(table: &Table, i: usize) -> bool
+    requires { Sought table.now.rows.now table.now.n i 0 (i + 1) table.now.standing }
+    ensures { HasChild table.now.rows.now table.now.n i result }
 {
-    let mut k = i + 1;
-    while k < n {
-        if items::word(rows, k, 1) as usize == i + 1 {
+    for k in i + 1..table.n {
+        if items::word(table.rows, k, 1) as usize == i + 1 {
             return true;
         }
-        if s.ordered {
+        if table.standing.ordered {
             return false;
         }
-        k += 1;
     }
     false
 }

@@ -8,24 +8,21 @@ ghost use Rattle.trees.specs.Walk.{Writable, WritesSound};
 
 use answers::TextAnswer;
 use document::kinds;
-use soundness::Soundness;
 
 mod children;
 mod elements;
+mod lent;
 mod walk;
 
 // Whether rows of a kind are written by themselves: all but the parts of a definition.
 fn is_writable(kind: u32) -> bool
     ensures { Writable kind result }
 {
-    match kind {
-        kinds::ENUMVALUE => false,
-        kinds::MEMBER => false,
-        _ => true,
-    }
+    !matches!(kind, kinds::ENUMVALUE | kinds::MEMBER)
 }
 
 // The tree of a row of sound rows, or why it is not written.
+#[tactic(auto, using(crate::proofs::Entry::rows))]
 fn write_sound<'a>(
     document: &'a [u8],
     text: &'a [u8],
@@ -44,14 +41,15 @@ fn write_sound<'a>(
         return answers::refuse(out, 20, row);
     }
     match walk::put_tree(document, text, rows, claimed, row, out) {
-        walk::Walked::Deep(place) => answers::refuse(out, 7, place),
-        walk::Walked::Put(n) => answers::finish(out, n, 21, n),
+        Err(place) => answers::refuse(out, 7, place),
+        Ok(n) => answers::finish(out, n, 21, n),
     }
 }
 
 // Writes the element of a row with all under it: any row but an enumvalue or a member. Refused with 2 for a document or a text of more than
 // 1,048,576 bytes, with 19 for rows that are not sound, with 20 for no such row or one that is a part of a definition, with 7 at the first row, as
 // written, that would be the 1,025th open node, and with 21 and the bytes needed where there is no room.
+#[tactic(auto, using(crate::proofs::Entry::entry))]
 pub fn write_tree<'a>(
     document: &'a [u8],
     text: &'a [u8],
@@ -70,7 +68,7 @@ pub fn write_tree<'a>(
         return answers::refuse(out, 2, 1048576);
     }
     match soundness::check(document, text, rows, claimed) {
-        Soundness::Unsound(place) => answers::refuse(out, 19, place),
-        Soundness::Sound => write_sound(document, text, rows, claimed, row, out),
+        Err(place) => answers::refuse(out, 19, place),
+        Ok(()) => write_sound(document, text, rows, claimed, row, out),
     }
 }

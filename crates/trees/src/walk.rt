@@ -1,13 +1,14 @@
 // The walk over a tree, from element to element in the order of writing. No function calls itself, and nothing is kept but the row that is
 // open: parents say the way back.
 ghost use Rattle.std.specs.Prelude.{◌+◌, ◌≤◌, ◌<◌, ◌^◌, ◌≡◌};
-ghost use Rattle.scan.specs.Classes.{Classes};
 ghost use Rattle.trees.specs.Steps.{Held, Sought, NextAt, NoNext};
-ghost use Rattle.trees.specs.Walk.{inside_of, OpenIs, IsDeep, AmongOpen, IsAround, Resumes, Openable, Opens, Beginning, Begins, Walking, Turns, TopOpen, Walks};
+ghost use Rattle.trees.specs.Walk.{inside_of, OpenIs, IsDeep, AmongOpen, IsAround, Resumes, Openable, Opens, Beginning, Begins, Walking, Enters, Leaves, Turns, TopOpen, Walks};
 
-use crate::children::{Found, Standing};
+use crate::children::Standing;
+use crate::lent::Table;
 use crate::{children, elements};
 use document::kinds;
+use std::ops::ControlFlow;
 
 // In row `row` children of a group are sought from row `from` on; so many nodes are open, so many bytes put, and so many turns left at most.
 #[derive(Clone, Copy)]
@@ -20,47 +21,28 @@ pub struct Walk {
     pub left: usize,
 }
 
-// What the walk comes to: the bytes put, or the row that is too deep.
-#[derive(Clone, Copy)]
-pub enum Walked {
-    Deep(usize),
-    Put(usize),
-}
-
-// After one turn: the walk goes on, or it has ended.
-#[derive(Clone, Copy)]
-pub enum Turn {
-    On(Walk),
-    End(Walked),
-}
-
-// The start of an element: it is closed at once; or it is open, its docstring put; or it would be the 1,025th open node.
+// The start of an element: it is closed at once, or it is open, its docstring put. Either has the bytes put.
 #[derive(Clone, Copy)]
 pub enum Start {
     Closed(usize),
     Opened(usize),
-    TooDeep,
 }
 
 // Whether something follows the attributes of row i.
-fn is_open(rows: &[u32], n: usize, i: usize, s: Standing) -> bool
-    requires { Sought rows.now n i 0 (i + 1) s }
-    ensures { OpenIs rows.now n i result }
+#[tactic(auto, using(crate::proofs::Opening::opening))]
+fn is_open(table: &Table, i: usize) -> bool
+    requires { Sought table.now.rows.now table.now.n i 0 (i + 1) table.now.standing }
+    ensures { OpenIs table.now.rows.now table.now.n i result }
 {
-    if items::word(rows, i, 13) != 0 {
-        return true;
-    }
-    children::has_child(rows, n, i, s)
+    items::word(table.rows, i, 13) != 0 || children::has_child(table, i)
 }
 
 // Whether a row of a kind would be the 1,025th open node.
+#[tactic(auto, using(crate::proofs::Opening::counting))]
 fn is_deep(kind: u32, nodes: usize) -> bool
     ensures { IsDeep kind nodes result }
 {
-    if kind == kinds::NODE {
-        return 1024 <= nodes;
-    }
-    false
+    kind == kinds::NODE && 1024 <= nodes
 }
 
 // How many nodes are open inside an element of a kind.
@@ -69,88 +51,80 @@ fn inside(kind: u32, nodes: usize) -> usize
     ensures { result ≡ inside_of kind nodes }
 {
     if kind == kinds::NODE {
-        return nodes + 1;
+        nodes + 1
+    } else {
+        nodes
     }
-    nodes
 }
 
 // And around it.
+#[tactic(auto, using(crate::proofs::Opening::counting))]
 fn around(kind: u32, nodes: usize) -> usize
     requires { AmongOpen kind nodes }
     ensures { IsAround kind nodes result }
 {
     if kind == kinds::NODE {
-        return nodes - 1;
+        nodes - 1
+    } else {
+        nodes
     }
-    nodes
 }
 
-// Row i, of which something follows the attributes, from the end of its start tag up to its first child.
-fn put_open<'a>(
-    document: &'a [u8],
-    text: &'a [u8],
-    rows: &[u32],
-    n: usize,
+// Row i, of which something follows the attributes, from the end of its start tag up to its first child; or row i, which is too deep.
+#[tactic(auto, using(crate::proofs::Opening::openings))]
+fn put_open(
+    table: &Table,
     i: usize,
-    classes: &[u8; 256],
     nodes: usize,
     out: &mut [u8],
     put: usize,
-) -> Start
-    requires { Openable document.now text.now rows.now n i classes.now put }
-    ensures { Opens document.now text.now rows.now i nodes put out.old out.new result }
+) -> Result<usize, usize>
+    requires { Openable table.now.document.now table.now.text.now table.now.rows.now table.now.n i
+        put }
+    ensures { Opens table.now.document.now table.now.text.now table.now.rows.now i nodes put
+        out.old out.new result }
 {
-    if is_deep(items::word(rows, i, 0), nodes) {
-        return Start::TooDeep;
+    if is_deep(items::word(table.rows, i, 0), nodes) {
+        return Err(i);
     }
     let opened = writer::put_text(out, put, b">");
-    Start::Opened(elements::put_docstring(document, text, rows, n, i, classes, out, opened))
+    Ok(elements::put_docstring(table, i, out, opened))
 }
 
-// Row i up to its first child.
-fn put_begin<'a>(
-    document: &'a [u8],
-    text: &'a [u8],
-    rows: &[u32],
-    n: usize,
+// Row i up to its first child, or row i, which is too deep.
+#[tactic(auto, using(crate::proofs::Opening::beginning))]
+fn put_begin(
+    table: &Table,
     i: usize,
-    s: Standing,
-    classes: &[u8; 256],
     nodes: usize,
     out: &mut [u8],
     put: usize,
-) -> Start
-    requires { Beginning document.now text.now rows.now n i s classes.now put }
-    ensures { Begins document.now text.now rows.now n i nodes put out.old out.new result }
+) -> Result<Start, usize>
+    requires { Beginning table.now.document.now table.now.text.now table.now.rows.now table.now.n i
+        table.now.standing put }
+    ensures { Begins table.now.document.now table.now.text.now table.now.rows.now table.now.n i
+        nodes put out.old out.new result }
 {
-    let tagged = elements::put_start(document, text, rows, n, i, classes, out, put);
-    if !is_open(rows, n, i, s) {
-        return Start::Closed(writer::put_text(out, tagged, b"/>"));
+    let tagged = elements::put_start(table, i, out, put);
+    if !is_open(table, i) {
+        return Ok(Start::Closed(writer::put_text(out, tagged, b"/>")));
     }
-    put_open(document, text, rows, n, i, classes, nodes, out, tagged)
+    let opened = put_open(table, i, nodes, out, tagged)?;
+    Ok(Start::Opened(opened))
 }
 
 // Child k of the row that is open.
-fn enter<'a>(
-    document: &'a [u8],
-    text: &'a [u8],
-    rows: &[u32],
-    n: usize,
-    top: usize,
-    k: usize,
-    s: Standing,
-    classes: &[u8; 256],
-    w: Walk,
-    out: &mut [u8],
-) -> Turn
-    requires fact_1 { Walking document.now text.now rows.now n top s w out.old }
-    requires fact_2 { NextAt rows.now n w.row w.group w.from s k }
-    requires fact_3 { Classes classes.now }
-    ensures { Turns document.now text.now rows.now n top s w out.new result }
+#[tactic(auto, using(crate::proofs::Walking::entering))]
+fn enter(table: &Table, top: usize, k: usize, w: Walk, out: &mut [u8]) -> Result<Walk, usize>
+    requires walking { Walking table.now.document.now table.now.text.now table.now.rows.now
+        table.now.n top table.now.standing w out.old }
+    requires child { NextAt table.now.rows.now table.now.n w.row w.group w.from
+        table.now.standing k }
+    ensures { Enters table.now.document.now table.now.text.now table.now.rows.now
+        table.now.n top table.now.standing w out.new result }
 {
-    match put_begin(document, text, rows, n, k, s, classes, w.nodes, out, w.put) {
-        Start::TooDeep => Turn::End(Walked::Deep(k)),
-        Start::Closed(put) => Turn::On(Walk {
+    match put_begin(table, k, w.nodes, out, w.put)? {
+        Start::Closed(put) => Ok(Walk {
             row: w.row,
             group: w.group,
             from: k + 1,
@@ -158,11 +132,11 @@ fn enter<'a>(
             put,
             left: w.left - 1,
         }),
-        Start::Opened(put) => Turn::On(Walk {
+        Start::Opened(put) => Ok(Walk {
             row: k,
             group: 0,
             from: k + 1,
-            nodes: inside(items::word(rows, k, 0), w.nodes),
+            nodes: inside(items::word(table.rows, k, 0), w.nodes),
             put,
             left: w.left - 1,
         }),
@@ -170,43 +144,35 @@ fn enter<'a>(
 }
 
 // Where the search for a further child of the parent begins after row i is closed; in document order the rows up to `end` stand in row i.
+#[tactic(auto, using(crate::proofs::Opening::resuming))]
 fn resume(s: Standing, i: usize, end: usize) -> usize
     requires { i + 1 < 2 ^ 62 }
     ensures { Resumes s i end result }
 {
-    if s.ordered {
-        return end;
-    }
-    i + 1
+    if s.ordered { end } else { i + 1 }
 }
 
-// Row i is closed, of which no group has a further child; then its parent is open.
-fn close<'a>(
-    document: &'a [u8],
-    text: &'a [u8],
-    rows: &[u32],
-    n: usize,
-    top: usize,
-    s: Standing,
-    w: Walk,
-    end: usize,
-    out: &mut [u8],
-) -> Turn
-    requires fact_1 { Walking document.now text.now rows.now n top s w out.old }
-    requires fact_2 { NoNext rows.now n w.row w.group w.from s end }
-    requires fact_3 { 4 ≤ w.group }
-    ensures { Turns document.now text.now rows.now n top s w out.new result }
+// Row i is closed, of which no group has a further child; then its parent is open, or the bytes put are all.
+#[tactic(auto, using(crate::proofs::Walking::closing))]
+fn close(table: &Table, top: usize, w: Walk, end: usize, out: &mut [u8]) -> ControlFlow<usize, Walk>
+    requires walking { Walking table.now.document.now table.now.text.now table.now.rows.now
+        table.now.n top table.now.standing w out.old }
+    requires no_more { NoNext table.now.rows.now table.now.n w.row w.group w.from
+        table.now.standing end }
+    requires last { 4 ≤ w.group }
+    ensures { Leaves table.now.document.now table.now.text.now table.now.rows.now
+        table.now.n top table.now.standing w out.new result }
 {
     let i = w.row;
-    let kind = items::word(rows, i, 0);
+    let kind = items::word(table.rows, i, 0);
     let put = elements::put_close(kind, out, w.put);
     if i == top {
-        return Turn::End(Walked::Put(put));
+        return ControlFlow::Break(put);
     }
-    Turn::On(Walk {
-        row: (items::word(rows, i, 1) as usize) - 1,
+    ControlFlow::Continue(Walk {
+        row: (items::word(table.rows, i, 1) as usize) - 1,
         group: children::group_of(kind),
-        from: resume(s, i, end),
+        from: resume(table.standing, i, end),
         nodes: around(kind, w.nodes),
         put,
         left: w.left - 1,
@@ -214,23 +180,17 @@ fn close<'a>(
 }
 
 // The group has no further child: the next group, or the closing tag, after which the parent is open.
-fn leave<'a>(
-    document: &'a [u8],
-    text: &'a [u8],
-    rows: &[u32],
-    n: usize,
-    top: usize,
-    s: Standing,
-    w: Walk,
-    end: usize,
-    out: &mut [u8],
-) -> Turn
-    requires fact_1 { Walking document.now text.now rows.now n top s w out.old }
-    requires fact_2 { NoNext rows.now n w.row w.group w.from s end }
-    ensures { Turns document.now text.now rows.now n top s w out.new result }
+#[tactic(auto, using(crate::proofs::Walking::leaving))]
+fn leave(table: &Table, top: usize, w: Walk, end: usize, out: &mut [u8]) -> ControlFlow<usize, Walk>
+    requires walking { Walking table.now.document.now table.now.text.now table.now.rows.now
+        table.now.n top table.now.standing w out.old }
+    requires no_more { NoNext table.now.rows.now table.now.n w.row w.group w.from
+        table.now.standing end }
+    ensures { Leaves table.now.document.now table.now.text.now table.now.rows.now
+        table.now.n top table.now.standing w out.new result }
 {
     if w.group < 4 {
-        return Turn::On(Walk {
+        return ControlFlow::Continue(Walk {
             row: w.row,
             group: w.group + 1,
             from: w.row + 1,
@@ -239,111 +199,89 @@ fn leave<'a>(
             left: w.left - 1,
         });
     }
-    close(document, text, rows, n, top, s, w, end, out)
+    close(table, top, w, end, out)
 }
 
-// One turn.
-fn one_turn<'a>(
-    document: &'a [u8],
-    text: &'a [u8],
-    rows: &[u32],
-    n: usize,
+// One turn: the walk goes on, or it ends with the bytes put; or the row that is too deep.
+#[tactic(auto, using(crate::proofs::Walking::turning))]
+fn one_turn(
+    table: &Table,
     top: usize,
-    s: Standing,
-    classes: &[u8; 256],
     w: Walk,
     out: &mut [u8],
-) -> Turn
-    requires fact_1 { Walking document.now text.now rows.now n top s w out.old }
-    requires fact_2 { Classes classes.now }
-    ensures { Turns document.now text.now rows.now n top s w out.new result }
+) -> Result<ControlFlow<usize, Walk>, usize>
+    requires walking { Walking table.now.document.now table.now.text.now table.now.rows.now
+        table.now.n top table.now.standing w out.old }
+    ensures { Turns table.now.document.now table.now.text.now table.now.rows.now
+        table.now.n top table.now.standing w out.new result }
 {
-    match children::next_child(rows, n, w.row, w.group, w.from, s) {
-        Found::At(k) => enter(document, text, rows, n, top, k, s, classes, w, out),
-        Found::Nothing(end) => leave(document, text, rows, n, top, s, w, end, out),
+    match children::next_child(table, w.row, w.group, w.from) {
+        Ok(k) => {
+            let next = enter(table, top, k, w, out)?;
+            Ok(ControlFlow::Continue(next))
+        }
+        Err(end) => Ok(leave(table, top, w, end, out)),
     }
 }
 
 // From a walk on to its end, which comes within the turns left.
-fn walk_on<'a>(
-    document: &'a [u8],
-    text: &'a [u8],
-    rows: &[u32],
-    n: usize,
-    top: usize,
-    s: Standing,
-    classes: &[u8; 256],
-    begun: Walk,
-    out: &mut [u8],
-) -> Walked
-    requires fact_1 { Walking document.now text.now rows.now n top s begun out.old }
-    requires fact_2 { Classes classes.now }
-    ensures { Walks document.now text.now rows.now n top out.new result }
+#[tactic(auto, using(crate::proofs::Walking::looping))]
+fn walk_on(table: &Table, top: usize, begun: Walk, out: &mut [u8]) -> Result<usize, usize>
+    requires walking { Walking table.now.document.now table.now.text.now table.now.rows.now
+        table.now.n top table.now.standing begun out.old }
+    ensures { Walks table.now.document.now table.now.text.now table.now.rows.now
+        table.now.n top out.new result }
 {
     let mut w = begun;
     while 0 < w.left {
-        match one_turn(document, text, rows, n, top, s, classes, w, out) {
-            Turn::End(x) => {
-                return x;
+        match one_turn(table, top, w, out)? {
+            ControlFlow::Break(put) => {
+                return Ok(put);
             }
-            Turn::On(next) => {
+            ControlFlow::Continue(next) => {
                 w = next;
             }
         }
     }
-    Walked::Put(w.put)
+    Ok(w.put)
 }
 
 // The tree of row `top`, from its first child on.
-fn walk_top<'a>(
-    document: &'a [u8],
-    text: &'a [u8],
-    rows: &[u32],
-    n: usize,
-    top: usize,
-    s: Standing,
-    classes: &[u8; 256],
-    out: &mut [u8],
-    put: usize,
-) -> Walked
-    requires fact_1 { TopOpen document.now text.now rows.now n top s put out.old }
-    requires fact_2 { Classes classes.now }
-    ensures { Walks document.now text.now rows.now n top out.new result }
+#[tactic(auto, using(crate::proofs::Walking::tops))]
+fn walk_top(table: &Table, top: usize, out: &mut [u8], put: usize) -> Result<usize, usize>
+    requires opened { TopOpen table.now.document.now table.now.text.now table.now.rows.now
+        table.now.n top table.now.standing put out.old }
+    ensures { Walks table.now.document.now table.now.text.now table.now.rows.now
+        table.now.n top out.new result }
 {
-    let nodes = inside(items::word(rows, top, 0), 0);
+    let nodes = inside(items::word(table.rows, top, 0), 0);
     let w = Walk {
         row: top,
         group: 0,
         from: top + 1,
         nodes,
         put,
-        left: 6 * n,
+        left: 6 * table.n,
     };
-    walk_on(document, text, rows, n, top, s, classes, w, out)
+    walk_on(table, top, w, out)
 }
 
 // The tree of row `top`, where it is known how the rows stand.
-fn put_from<'a>(
-    document: &'a [u8],
-    text: &'a [u8],
-    rows: &[u32],
-    n: usize,
-    top: usize,
-    s: Standing,
-    classes: &[u8; 256],
-    out: &mut [u8],
-) -> Walked
-    requires { Beginning document.now text.now rows.now n top s classes.now 0 }
-    ensures { Walks document.now text.now rows.now n top out.new result }
+#[tactic(auto, using(crate::proofs::Walking::topping))]
+fn put_from(table: &Table, top: usize, out: &mut [u8]) -> Result<usize, usize>
+    requires { Beginning table.now.document.now table.now.text.now table.now.rows.now
+        table.now.n top table.now.standing 0 }
+    ensures { Walks table.now.document.now table.now.text.now table.now.rows.now
+        table.now.n top out.new result }
 {
-    match put_begin(document, text, rows, n, top, s, classes, 0, out, 0) {
-        Start::TooDeep => Walked::Deep(top),
-        Start::Closed(put) => Walked::Put(put),
-        Start::Opened(put) => walk_top(document, text, rows, n, top, s, classes, out, put),
+    match put_begin(table, top, 0, out, 0)? {
+        Start::Closed(put) => Ok(put),
+        Start::Opened(put) => walk_top(table, top, out, put),
     }
 }
 
-// The tree of row `top`.
+// The bytes put of the tree of row `top`, or the row that is too deep.
+#[tactic(auto, using(crate::proofs::Walking::treeing))]
 pub fn put_tree<'a>(
     document: &'a [u8],
     text: &'a [u8],
@@ -351,11 +289,17 @@ pub fn put_tree<'a>(
     n: usize,
     top: usize,
     out: &mut [u8],
-) -> Walked
+) -> Result<usize, usize>
     requires { (Held document.now text.now rows.now n) × (top < n) }
     ensures { Walks document.now text.now rows.now n top out.new result }
 {
-    let classes = scan::classes();
-    let s = children::rows_stand(document, text, rows, n);
-    put_from(document, text, rows, n, top, s, &classes, out)
+    let table = Table {
+        document,
+        text,
+        rows,
+        n,
+        standing: children::rows_stand(document, text, rows, n),
+        classes: scan::classes(),
+    };
+    put_from(&table, top, out)
 }

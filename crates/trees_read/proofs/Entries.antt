@@ -10,19 +10,19 @@ use native.Mathlib.Omega.{arith}
 use lib.Dec.{ltb}
 use lib.ListN.{length, take, replicate}
 use lib.Seq.{take_at}
+use Rattle.std.specs.Prelude.{Ok, Result}
+use Rattle.faults.specs.declared.Fault.{Fault}
 use Rattle.slices.specs.Bytes.{if}
 use Rattle.slices.proofs.Runs.{and_both}
 use Rattle.answers.specs.Text.{Text, text, wrong, roomy, answer_of, left_of}
-use Rattle.answers.specs.declared.TextAnswer.{TextAnswer}
-use Rattle.answers.specs.declared.TextAnswer.TheVariants.{Done}
 use Rattle.document.specs.Kinds as kinds
 use Rattle.document.specs.Tags.{Shown}
 use Rattle.document.specs.Rows.{Row, Tables, words_from, texts}
 use Rattle.document.specs.Elements.{among}
 use Rattle.document.specs.Reading.{State, begun, reading, accepted, refused}
 use Rattle.document.specs.Whole.{Room, read, meaning, verdict_of, filled, rows_left_lem, text_left, Says}
-use Rattle.document.specs.declared.Verdict.{Verdict}
-use Rattle.document.specs.declared.Verdict.TheVariants.{Accepted}
+use Rattle.document.specs.declared.Counts.{Counts}
+use Rattle.document.specs.Verdict.{Verdict, counts}
 use Rattle.items.specs.Words.{rows_of}
 use Rattle.items.specs.Sound.{kind_at, Soundness, sound, unsound, soundness}
 use Rattle.items.specs.Writing.{checked}
@@ -46,15 +46,15 @@ use Rattle.trees_read.proofs.Left.{left_tree}
 module _ {t : Tree Element} {lent : Room} {rows warnings x : List ℕ} {v : Verdict} (b : ReadsBack t lent) (p : Says (written_tree t) lent rows warnings x v) where
   returned : Returns (written_tree t) rows x t v
   returned = record {
-    verdict = p.verdict ∙ ap verdict_of b.accepts ∙ counts;
+    verdict = p.verdict ∙ ap verdict_of b.accepts ∙ counted;
     same = subst (λ k. tree_at (written_tree t) x rows k 0 ≡ t) b.rows (tree_left x rows x_is rows_are ∙ b.same);
   }
     where
       u : Tables Shown
       u = b.tables
 
-      counts : Accepted (length u.rows) (length (texts u.rows)) (length u.warnings) ≡ Accepted (size t) (referenced (values t)) 0
-      counts = rw (b.rows, b.bytes, b.silent)
+      counted : ◌≡◌ {A = Verdict} (Ok (counts (length u.rows) (length (texts u.rows)) (length u.warnings))) (Ok (counts (size t) (referenced (values t)) 0))
+      counted = rw (b.rows, b.bytes, b.silent)
 
       rows_are : rows ≡ filled lent.rows (words_from 0 u.rows)
       rows_are = rw b.accepts at p.rows_left
@@ -73,7 +73,7 @@ returns_from doc t e h =
 
 -- ---- the bytes that `write_tree` leaves
 
-text_of : (m : ℕ) (o : Text) → Done m ≡ answer_of o → (t : List ℕ) × (o ≡ text t) × (length t ≡ m)
+text_of : (m : ℕ) (o : Text) → Ok m ≡ answer_of o → (t : List ℕ) × (o ≡ text t) × (length t ≡ m)
 text_of m (text t) e = (t, refl, cc)
 text_of m (wrong k p) e = let z : ◌≡◌ {A = ℕ} 0 1 = cc in absurd (omega arith)
 
@@ -106,7 +106,7 @@ record Leaves (document x ws : List ℕ) (n : ℕ) (b : List ℕ) : Type 0 where
   pub low : too_deep (element_at document x ws) 0 (shape_at ws n 0) ≡ none
   pub bytes : b ≡ written_tree (tree_at document x ws n 0)
 
-leaves : (document x ws out : List ℕ) (n room m : ℕ) → WritesTree document x ws n 0 room out (Done m) → Leaves document x ws n (take m out)
+leaves : (document x ws out : List ℕ) (n room m : ℕ) → WritesTree document x ws n 0 room out (Ok m) → Leaves document x ws n (take m out)
 unfolding tree_writing
 leaves document x ws out n room m w =
     let t = text_of m (tree_writing document x ws n 0 room) w.says.answer in
@@ -132,7 +132,7 @@ entries_of_sound h document x ws out n room m w d =
 
 -- ---- what the reader leaves, written
 
-writable : {t : Tree Element} {room : ℕ} {out : List ℕ} {r : TextAnswer} (o : Text) → o ≡ roomy room (text (written_tree t)) → r ≡ answer_of o → out ≡ left_of room o → ((lent : Room) → Fits t lent → ReadsBack t lent) → Writable t room out r
+writable : {t : Tree Element} {room : ℕ} {out : List ℕ} {r : Result ℕ Fault} (o : Text) → o ≡ roomy room (text (written_tree t)) → r ≡ answer_of o → out ≡ left_of room o → ((lent : Room) → Fits t lent → ReadsBack t lent) → Writable t room out r
 writable {t} {room} {out} {r} o e a f h = record {
   done = λ l. a ∙ ap answer_of (e ∙ whole l);
   short = λ l. a ∙ ap answer_of (e ∙ over l);
@@ -187,7 +187,7 @@ module _ (doc : List ℕ) (u : Tables Shown) (e : meaning doc ≡ accepted u) (y
       asked
       (shallow doc u a x z)
 
-  written_back : {room : ℕ} {out : List ℕ} {r : TextAnswer} → ((lent : Room) → Fits (tree_of doc u) lent → ReadsBack (tree_of doc u) lent) → length x ≤ 1048576 → WritesTree doc x ws n 0 room out r → Writable (tree_at doc x ws n 0) room out r
+  written_back : {room : ℕ} {out : List ℕ} {r : Result ℕ Fault} → ((lent : Room) → Fits (tree_of doc u) lent → ReadsBack (tree_of doc u) lent) → length x ≤ 1048576 → WritesTree doc x ws n 0 room out r → Writable (tree_at doc x ws n 0) room out r
   written_back {room} h l w =
       writable (tree_writing doc x ws n 0 room) (tree_written_lem l room) w.says.answer w.says.left
       (subst (λ t. (lent : Room) → Fits t lent → ReadsBack t lent) (sym (left_tree doc u e y z)) h)
@@ -199,11 +199,12 @@ entries_of_reader h doc rows warnings x lent n c w s l room out r p = go (read d
     Goes : List ℕ → List ℕ → ℕ → Type 0
     Goes x rows n = length x ≤ 1048576 → WritesTree doc x rows n 0 room out r → Writable (tree_at doc x rows n 0) room out r
 
-    go : (q : State Shown) → read doc lent ≡ q → Accepted n c w ≡ verdict_of q → rows ≡ rows_left_lem lent q → x ≡ text_left lent q → Writable (tree_at doc x rows n 0) room out r
+    go : (q : State Shown) → read doc lent ≡ q → Ok (counts n c w) ≡ verdict_of q → rows ≡ rows_left_lem lent q → x ≡ text_left lent q → Writable (tree_at doc x rows n 0) room out r
     go begun q e f g = let z : ◌≡◌ {A = ℕ} 0 1 = cc in absurd (omega arith)
     go (reading fs u) q e f g = let z : ◌≡◌ {A = ℕ} 0 1 = cc in absurd (omega arith)
     go (accepted u) q e f g =
-        let m : n ≡ length u.rows = cc in
+        let k : counts n c w ≡ counts (length u.rows) (length (texts u.rows)) (length u.warnings) = cc in
+        let m : n ≡ length u.rows = ap (λ (z : Counts). z.rows) k in
         subst (λ k. Goes x rows k) (sym m)
         (subst (λ v. Goes x v (length u.rows)) (sym f)
         (subst (λ v. Goes v (filled lent.rows (words_from 0 u.rows)) (length u.rows)) (sym g)

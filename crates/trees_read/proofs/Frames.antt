@@ -1,6 +1,6 @@
 -- Steps in an open element: a written start tag, a closing tag, a docstring; and what a definition has seen of its parts.
 -- Assumes nothing.
-use Prim.Native.Nat.{ℕ, suc, ◌+◌, ◌≤◌}
+use Prim.Native.Nat.{ℕ, suc, ◌≤◌}
 use native.Mathlib.Omega.{arith}
 use mathlib.Core.Path.{◌≡◌, refl, ap, sym, subst, ◌∙◌}
 use mathlib.Core.List.{List, [], ◌∷◌, ◌++◌}
@@ -15,7 +15,7 @@ use Rattle.document.specs.Elements.{among, kind_of, may_hold}
 use Rattle.document.specs.Reading as reading
 use Rattle.document.specs.Reading.{Parts, Frame, parts_reason, noted, closed, shut, too_deep, entered, begins, docstring_in, child, parent_of, step}
 use Rattle.items.specs.Content.{present}
-use Rattle.roundtrip.proofs.Tags.{Name, tag_at}
+use Rattle.roundtrip.proofs.Tags.{tag_at}
 use Rattle.roundtrip.proofs.Held.{keeps, Row, marked, table, inside}
 use Rattle.roundtrip.proofs.Elements.{name_from, same_self}
 use Rattle.trees.specs.Trees.{Tree, tree, Forest, bare, more}

@@ -19,7 +19,7 @@ use Rattle.tables.specs.declared.Triple.{Triple}
 use Rattle.document.specs.Kinds as kinds
 use Rattle.document.specs.Elements.{among, held_by_lem, may_hold}
 use Rattle.items.specs.Words.{RowWords, absent, row_of, rows_of, shown_by}
-use Rattle.items.specs.Sound.{Use, name_use, value_use, tp_use, valid_name, valid_value, any_text, kind_at, placed, good_triple, members_of, any_member, keyed, counted, sound, soundness}
+use Rattle.items.specs.Sound.{Use, name_use, value_use, tp_use, valid_name, valid_value, any_text, kind_at, good_triple, members_of, any_member, keyed, counted, sound, soundness}
 use Rattle.items.specs.Content.{present}
 use Rattle.items.proofs.Rows.{RowIs, kind_at_lem, row_word, row_parts, sound_row_lem, before_it, both_true}
 use Rattle.trees.specs.Trees.{Tree, tree, Forest, bare, more, joined, map_tree, map_forest}

@@ -19,7 +19,7 @@ use Rattle.document.specs.Reading.{Parts, Frame, parts_reason, closed, too_deep,
 use Rattle.document.proofs.Runs.{run_accepted}
 use Rattle.items.specs.Content as content
 use Rattle.items.specs.Written.{Pair, tag, closing_tag, concat, element}
-use Rattle.roundtrip.proofs.Tags.{Name, TagName, Keys, tag_at}
+use Rattle.roundtrip.proofs.Tags.{TagName, Keys, tag_at}
 use Rattle.roundtrip.proofs.Held.{keeps, Row, State, marked, table, inside}
 use Rattle.roundtrip.proofs.Elements.{name_from, tag_name}
 use Rattle.trees.specs.Trees.{Tree, tree, Forest, bare, more, size}
@@ -30,7 +30,7 @@ use Rattle.trees_read.proofs.Flat.{content_at, doc_at, row_for, flat, flats, con
 use Rattle.trees_read.proofs.Runs.{after, tag_run, close_run, written, documented_last, docstring_run}
 use Rattle.trees_read.proofs.Shapes.{Known, held_known, node_in_node}
 use Rattle.trees_read.proofs.Entering.{bare_for, framed, no_parts, start_at, Enters, enters, tag_names}
-use Rattle.trees_read.proofs.Frames.{plus_if, element_in, parts_after, parts_good, close_framed, docstring_start, own, start_self, start_open, root_self, root_open}
+use Rattle.trees_read.proofs.Frames.{plus_if, element_in, parts_after, parts_good, close_framed, docstring_start, start_self, start_open, root_self, root_open}
 
 -- ---- an element around its content
 

@@ -16,21 +16,17 @@ use Rattle.tables.specs.Table.{Wiped}
 use Rattle.tables.proofs.Tables.{empty_stands, clear_all}
 use Rattle.answers.specs.Text.{Text, text, wrong, Says, Finishes}
 use Rattle.answers.specs.Text as answers
-use Rattle.answers.specs.declared.TextAnswer.{TextAnswer}
-use Rattle.answers.specs.declared.TextAnswer.TheVariants as variants
+use Rattle.std.proofs.Common.{Option, Some, None, Result, Ok, Err}
+use Rattle.faults.specs.declared.Fault.{Fault}
 use Rattle.utf16.specs.Decode.{in_bytes}
 use Rattle.utf16.specs.Entry.{big_mark, little_mark, ordered, decoding, answer_of, answer, left, told}
 use Rattle.utf16.specs.Outcome.{PutsAll}
 use Rattle.utf16.specs.Promises.{Forms}
-use Rattle.utf16.specs.declared.Answer.{Answer}
-use Rattle.utf16.specs.declared.Answer.TheVariants.{Unmarked, Refused, Decoded}
-use Rattle.utf16.specs.declared.Put.{Put}
-use Rattle.utf16.specs.declared.Put.TheVariants.{Count, Alone}
 use Rattle.utf16.proofs.Formed.{forms}
 
 -- ---- in a byte order
 
-module _ (big : Bool) (raw : List ℕ) {out' : List ℕ} {room : ℕ} {r : TextAnswer} where
+module _ (big : Bool) (raw : List ℕ) {out' : List ℕ} {room : ℕ} {r : Result ℕ Fault} where
   pub ordered-long : 1048576 < length raw → Says (wrong 2 1048576) room out' r → Says (ordered big raw room) room out' r
   unfolding ordered
   ordered-long h s = rw (lt-ltb 1048576 (length raw) h) s
@@ -40,24 +36,24 @@ module _ (big : Bool) (raw : List ℕ) {out' : List ℕ} {room : ℕ} {r : TextA
     unfolding ordered
     ordered-odd e s = rw (le-ltb 1048576 (length raw) h, eq-eqb (length raw % 2) 1 e) s
 
-    module _ (e : length raw % 2 ≡ 1 → ⊥) {out₀ out : List ℕ} {p : Put} (c : PutsAll big raw out₀ out p) (l : length out ≡ room) where
-      pub ordered-lone : {at : ℕ} → p ≡ Alone at → Says (wrong 27 at) (length out) out' r → Says (ordered big raw room) room out' r
+    module _ (e : length raw % 2 ≡ 1 → ⊥) {out₀ out : List ℕ} {p : Result ℕ ℕ} (c : PutsAll big raw out₀ out p) (l : length out ≡ room) where
+      pub ordered-lone : {at : ℕ} → p ≡ Err at → Says (wrong 27 at) (length out) out' r → Says (ordered big raw room) room out' r
       unfolding ordered
       ordered-lone {at} f s =
-          let d : PutsAll big raw out₀ out (Alone at) = rw f at c in
+          let d : PutsAll big raw out₀ out (Err at) = rw f at c in
           rw (le-ltb 1048576 (length raw) h, ne_eqb (length raw % 2) 1 e, d.is) (rw l at s)
 
-      module _ {n : ℕ} (f : p ≡ Count n) where
+      module _ {n : ℕ} (f : p ≡ Ok n) where
         pub ordered-above : 1048576 < n → Says (wrong 2 1048576) (length out) out' r → Says (ordered big raw room) room out' r
         unfolding ordered
         ordered-above k s =
-            let d : PutsAll big raw out₀ out (Count n) = rw f at c in
+            let d : PutsAll big raw out₀ out (Ok n) = rw f at c in
             rw (le-ltb 1048576 (length raw) h, ne_eqb (length raw % 2) 1 e, d.is.1, lt-ltb 1048576 (length (in_bytes d.is.0)) (omega (arith, d.is.2.counts))) (rw l at s)
 
         pub ordered-done : n ≤ 1048576 → Finishes n 18 (length raw) out out' r → Says (ordered big raw room) room out' r
         unfolding ordered
         ordered-done k s =
-            let d : PutsAll big raw out₀ out (Count n) = rw f at c in
+            let d : PutsAll big raw out₀ out (Ok n) = rw f at c in
             let a = s.says (in_bytes d.is.0) (d.is.2.stands [] (empty_stands 1 out₀)) in
             rw (le-ltb 1048576 (length raw) h, ne_eqb (length raw % 2) 1 e, d.is.1, le-ltb 1048576 (length (in_bytes d.is.0)) (omega (arith, d.is.2.counts))) (rw l at a)
 
@@ -65,11 +61,11 @@ pub ruleset orders = (ordered-long, ordered-odd, ordered-lone, ordered-above, or
 
 -- ---- by the mark
 
-module _ {a : TextAnswer} where
-  pub tell-refused : {n p : ℕ} → a ≡ variants.Refused n p → Refused n p ≡ told a
+module _ {a : Result ℕ Fault} where
+  pub tell-refused : {f : Fault} → a ≡ Err f → Err f ≡ told a
   tell-refused e = rw e
 
-  pub tell-done : {n : ℕ} → a ≡ variants.Done n → Decoded n ≡ told a
+  pub tell-done : {n : ℕ} → a ≡ Ok n → Ok (Some n) ≡ told a
   tell-done e = rw e
 
 module _ (raw : List ℕ) {t : Bool} where
@@ -80,16 +76,16 @@ module _ (raw : List ℕ) {t : Bool} where
   little-fits e f = starts_fits little_mark raw (sym e ∙ f)
 
 -- the entry's two promises
-pub record Answers (raw : List ℕ) (room : ℕ) (out' : List ℕ) (r : Answer) : Type 0 where
+pub record Answers (raw : List ℕ) (room : ℕ) (out' : List ℕ) (r : Result (Option ℕ) Fault) : Type 0 where
   pub answers : r ≡ answer raw room
   pub leaves : out' ≡ left raw room
 
-tells : (o : Text) (a : TextAnswer) → a ≡ answers.answer_of o → told a ≡ answer_of o
+tells : (o : Text) (a : Result ℕ Fault) → a ≡ answers.answer_of o → told a ≡ answer_of o
 tells (text t) a e = rw e
 tells (wrong n p) a e = rw e
 
 module _ {raw out' : List ℕ} {room : ℕ} {t : Bool} (e : t ≡ starts big_mark raw) where
-  module _ {a : TextAnswer} {r : Answer} where
+  module _ {a : Result ℕ Fault} {r : Result (Option ℕ) Fault} where
     pub says-big : t ≡ true → Says (ordered true raw room) room out' a → r ≡ told a → Answers raw room out' r
     unfolding decoding answer left
     says-big f s g =
@@ -103,14 +99,14 @@ module _ {raw out' : List ℕ} {room : ℕ} {t : Bool} (e : t ≡ starts big_mar
         let m : starts little_mark raw ≡ true = sym d ∙ h in
         record { answers = rw (b, m) (g ∙ tells (ordered false raw room) a s.answer); leaves = rw (b, m) s.left }
 
-  pub says_none : {u : Bool} {out : List ℕ} → t ≡ false → u ≡ starts little_mark raw → u ≡ false → Wiped 0 out out' → length out ≡ room → Answers raw room out' Unmarked
+  pub says_none : {u : Bool} {out : List ℕ} → t ≡ false → u ≡ starts little_mark raw → u ≡ false → Wiped 0 out out' → length out ≡ room → Answers raw room out' (Ok None)
   unfolding answer left
   says_none {u} {out} f d h z l =
       let b : starts big_mark raw ≡ false = sym e ∙ f in
       let m : starts little_mark raw ≡ false = sym d ∙ h in
       record { answers = rw (b, m); leaves = rw (b, m) (z.is ∙ rw l at (clear_all out)) }
 
-pub said : (raw : List ℕ) (room : ℕ) (out' : List ℕ) (r : Answer) → ((i : ℕ) → Fits w8 (get_or raw i 0)) → Answers raw room out' r → (r ≡ answer raw room) × ((out' ≡ left raw room) × Forms raw room)
+pub said : (raw : List ℕ) (room : ℕ) (out' : List ℕ) (r : Result (Option ℕ) Fault) → ((i : ℕ) → Fits w8 (get_or raw i 0)) → Answers raw room out' r → (r ≡ answer raw room) × ((out' ≡ left raw room) × Forms raw room)
 said raw room out' r h s = (s.answers, (s.leaves, forms raw room h))
 
 pub ruleset marks = (big-fits, little-fits, tell-refused, tell-done, says-big, says-little, says_none, rules)

@@ -15,10 +15,8 @@ use Rattle.answers.proofs.Putting.{puts_none, puts_then, char_one}
 use Rattle.utf16.specs.Decode.{Scalars, scalars, lone, before, rest, in_bytes}
 use Rattle.utf16.specs.Outcome.{IsUnit, IsCharacter, Characters, Decodes, low_byte, Block, IsAscii, IsStep, Steps, PutsAll}
 use Rattle.utf16.specs.declared.Scalar.{Scalar}
-use Rattle.utf16.specs.declared.Scalar.TheVariants.{At, Lone}
 use Rattle.utf16.specs.declared.Step.{Step}
-use Rattle.utf16.specs.declared.Step.TheVariants.{On, Stuck}
-use Rattle.utf16.specs.declared.Put.TheVariants.{Count, Alone}
+use Rattle.std.proofs.Common.{Option, Some, None, Result, Ok, Err}
 use Rattle.utf16.proofs.Units.{rest_none, rest_ascii}
 
 before_before : (a b : List ℕ) (x : Scalars) → before a (before b x) ≡ before (a ++ b) x
@@ -73,11 +71,11 @@ module _ {big : Bool} {raw : List ℕ} where
   }
 
 -- a character by its kind
-is_at : {big : Bool} {raw : List ℕ} {at k next : ℕ} {p : Scalar} → Characters big raw at p → p ≡ At k next → IsCharacter big raw at (At k next)
-is_at {big} {raw} {at} {k} {next} c e = let d : Characters big raw at (At k next) = rw e at c in d.is
+is_at : {big : Bool} {raw : List ℕ} {at : ℕ} {p : Option Scalar} {s : Scalar} → Characters big raw at p → p ≡ Some s → IsCharacter big raw at (Some s)
+is_at {big} {raw} {at} {s = s} c e = let d : Characters big raw at (Some s) = rw e at c in d.is
 
-is_lone : {big : Bool} {raw : List ℕ} {at : ℕ} {p : Scalar} → Characters big raw at p → p ≡ Lone → IsCharacter big raw at Lone
-is_lone {big} {raw} {at} c e = let d : Characters big raw at Lone = rw e at c in d.is
+is_lone : {big : Bool} {raw : List ℕ} {at : ℕ} {p : Option Scalar} → Characters big raw at p → p ≡ None → IsCharacter big raw at None
+is_lone {big} {raw} {at} c e = let d : Characters big raw at None = rw e at c in d.is
 
 -- ---- unit by unit
 
@@ -85,10 +83,10 @@ module _ {big : Bool} {raw out₀ out : List ℕ} {from m at n : ℕ} (g : Decod
   pub decode_same : length out ≡ length out₀
   decode_same = g.same
 
-  pub decode_far : from + 64 ≤ at → Steps big raw from m out₀ out (On at n)
+  pub decode_far : from + 64 ≤ at → Steps big raw from m out₀ out (Ok (record { next = at; count = n }))
   decode_far h = record { is = (g, omega arith) }
 
-  pub decode_ends : length raw ≤ at + 1 → from + 1 < length raw → Steps big raw from m out₀ out (On at n)
+  pub decode_ends : length raw ≤ at + 1 → from + 1 < length raw → Steps big raw from m out₀ out (Ok (record { next = at; count = n }))
   decode_ends h k = record { is = (g, omega arith) }
 
   module _ (h : at + 1 < length raw) where
@@ -98,18 +96,18 @@ module _ {big : Bool} {raw out₀ out : List ℕ} {from m at n : ℕ} (g : Decod
     pub decode_ascii : {u r : ℕ} {out' : List ℕ} → IsUnit big raw at u → u < 128 → length out' ≡ length out → tables.Put 1 (u ∷ []) n out out' r → Decodes big raw from m out₀ out' (at + 2) r
     decode_ascii {u} c k l q = decode_then g (decode_one u (rest_ascii h c k) (omega arith) (omega arith) l (char_one k q))
 
-    module _ {p : Scalar} (c : Characters big raw at p) where
-      pub decode_lone : p ≡ Lone → Steps big raw from m out₀ out (Stuck at)
+    module _ {p : Option Scalar} (c : Characters big raw at p) where
+      pub decode_lone : p ≡ None → Steps big raw from m out₀ out (Err at)
       decode_lone e = record { is = g.left ∙ rw (is_lone c e) }
 
-      module _ {k next : ℕ} (e : p ≡ At k next) where
-        pub decode_char : {r : ℕ} {out' : List ℕ} → length out' ≡ length out → Puts (utf8 k) n out out' r → Decodes big raw from m out₀ out' next r
-        decode_char l q = let d = is_at c e in decode_then g (decode_one k d.0 d.1 d.2 l q)
+      module _ {s : Scalar} (e : p ≡ Some s) where
+        pub decode_char : {r : ℕ} {out' : List ℕ} → length out' ≡ length out → Puts (utf8 s.code) n out out' r → Decodes big raw from m out₀ out' s.next r
+        decode_char l q = let d = is_at c e in decode_then g (decode_one s.code d.0 d.1 d.2 l q)
 
-        pub decode_less : length raw - next < length raw - at
+        pub decode_less : length raw - s.next < length raw - at
         decode_less = let d = is_at c e in omega (arith, d.1, d.2)
 
-        pub decode_small : k < 1114112
+        pub decode_small : s.code < 1114112
         decode_small = (is_at c e).3
 
 pub ruleset puts = (decode_starts, decode_same, decode_far, decode_ends, decode_room, decode_ascii, decode_lone, decode_char, decode_less, decode_small, rules)
@@ -164,31 +162,31 @@ pub ruleset blocks = (low_big, low_little, block_begins, block_more, block_ends,
 
 -- ---- steps
 
-pub step_block : {big : Bool} {raw : List ℕ} {at n r : ℕ} {out out' : List ℕ} → Decodes big raw at n out out' (at + 64) r → Steps big raw at n out out' (On (at + 64) r)
+pub step_block : {big : Bool} {raw : List ℕ} {at n r : ℕ} {out out' : List ℕ} → Decodes big raw at n out out' (at + 64) r → Steps big raw at n out out' (Ok (record { next = at + 64; count = r }))
 step_block d = record { is = (d, omega arith) }
 
 pub is_block : {big : Bool} {raw : List ℕ} {at : ℕ} {t : Bool} → IsAscii big raw at t → t ≡ true → Block big raw at
 is_block a e = a.is e
 
-module _ {big : Bool} {raw : List ℕ} {at : ℕ} {n : ℕ} {out out' : List ℕ} {p : Step} (s : Steps big raw at n out out' p) where
-  is_on : {next r : ℕ} → p ≡ On next r → IsStep big raw at n out out' (On next r)
-  is_on {next} {r} e = let d : Steps big raw at n out out' (On next r) = rw e at s in d.is
+module _ {big : Bool} {raw : List ℕ} {at : ℕ} {n : ℕ} {out out' : List ℕ} {p : Result Step ℕ} (s : Steps big raw at n out out' p) where
+  is_on : {x : Step} → p ≡ Ok x → IsStep big raw at n out out' (Ok x)
+  is_on {x} e = let d : Steps big raw at n out out' (Ok x) = rw e at s in d.is
 
-  is_stuck : {q : ℕ} → p ≡ Stuck q → rest big raw at ≡ lone q
-  is_stuck {q} e = let d : Steps big raw at n out out' (Stuck q) = rw e at s in d.is
+  is_stuck : {q : ℕ} → p ≡ Err q → rest big raw at ≡ lone q
+  is_stuck {q} e = let d : Steps big raw at n out out' (Err q) = rw e at s in d.is
 
   module _ {out₀ : List ℕ} (g : Decodes big raw 2 0 out₀ out at n) where
-    pub step_on : {next r : ℕ} → p ≡ On next r → Decodes big raw 2 0 out₀ out' next r
+    pub step_on : {x : Step} → p ≡ Ok x → Decodes big raw 2 0 out₀ out' x.next x.count
     step_on e = decode_then g (is_on e).0
 
-    pub step_stuck : {q : ℕ} → p ≡ Stuck q → PutsAll big raw out₀ out' (Alone q)
+    pub step_stuck : {q : ℕ} → p ≡ Err q → PutsAll big raw out₀ out' (Err q)
     step_stuck e = record { is = g.left ∙ rw (is_stuck e) }
 
-  pub step_less : {next r : ℕ} → p ≡ On next r → length raw - next < length raw - at
+  pub step_less : {x : Step} → p ≡ Ok x → length raw - x.next < length raw - at
   step_less e = let d = is_on e in omega (arith, d.1, d.0.inside)
 
 module _ {big : Bool} {raw out₀ out : List ℕ} {at n : ℕ} (g : Decodes big raw 2 0 out₀ out at n) where
-  pub all_ends : length raw ≤ at + 1 → PutsAll big raw out₀ out (Count n)
+  pub all_ends : length raw ≤ at + 1 → PutsAll big raw out₀ out (Ok n)
   all_ends h = record { is = (g.done, g.left ∙ rw (rest_none big raw at h, append-nil), g.puts) }
 
   pub all_same : length out ≡ length out₀

@@ -23,7 +23,7 @@ use Rattle.utf16.specs.Units.{unit, units, high, low, pair, scalar_value, utf16,
 use Rattle.utf16.specs.Decode.{Scalars, scalars, lone, before, Waiting, nothing, first, decode, rest, in_bytes, text_of}
 use Rattle.utf16.specs.Entry.{big_mark, marked, fitting, ordered, decoding, answer_of, answer, left}
 use Rattle.utf16.specs.Promises.{is_byte, Same, Complete, WellFormed, Short, Within, Stands, Forms}
-use Rattle.utf16.specs.declared.Answer.TheVariants.{Unmarked, Decoded}
+use Rattle.std.proofs.Common.{Some, None, Ok}
 
 -- ---- the classes of units
 
@@ -218,7 +218,7 @@ pub stands : Stands
 unfolding answer left
 stands raw room n = go (marked raw) (decoding raw room) refl
   where
-    go : (m : Bool) (o : Text) → decoding raw room ≡ o → if m (answer_of o) Unmarked ≡ Decoded n → (t : List ℕ) × (decoding raw room ≡ text t) × (n ≡ length t) × (take n (if m (left_of room o) (replicate room 0)) ≡ t)
+    go : (m : Bool) (o : Text) → decoding raw room ≡ o → if m (answer_of o) (Ok None) ≡ Ok (Some n) → (t : List ℕ) × (decoding raw room ≡ text t) × (n ≡ length t) × (take n (if m (left_of room o) (replicate room 0)) ≡ t)
     go true (text t) e f = let k : n ≡ length t = cc in (t, e, k, rw (k, take-append_seam t (replicate (room - length t) 0)))
     go true (wrong q p) e f = let z : ◌≡◌ {A = ℕ} 0 1 = cc in absurd (omega arith)
     go false o e f = let z : ◌≡◌ {A = ℕ} 0 1 = cc in absurd (omega arith)

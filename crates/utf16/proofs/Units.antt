@@ -13,7 +13,7 @@ use lib.Seq.{drop-cons}
 use Rattle.utf16.specs.Units.{unit, units, high, low, pair}
 use Rattle.utf16.specs.Decode.{scalars, lone, before, rest}
 use Rattle.utf16.specs.Outcome.{IsUnit, Characters}
-use Rattle.utf16.specs.declared.Scalar.TheVariants.{At, Lone}
+use Rattle.std.proofs.Common.{Some, None}
 
 -- ---- the unit at a place
 
@@ -93,27 +93,27 @@ module _ {raw : List ℕ} {at u : ℕ} {big : Bool} (h : at + 1 < length raw) (c
   pub rest_ascii : u < 128 → rest big raw at ≡ before (u ∷ []) (rest big raw (at + 2))
   rest_ascii k = rest_one (high_below u (omega arith)) (low_below u (omega arith))
 
-  pub character_below : u < 0xd800 → Characters big raw at (At u (at + 2))
+  pub character_below : u < 0xd800 → Characters big raw at (Some (record { code = u; next = at + 2 }))
   character_below k = record { is = (rest_one (high_below u k) (low_below u (omega arith)), omega arith, omega arith, omega arith) }
 
-  pub character_above : 0xdfff < u → Characters big raw at (At u (at + 2))
+  pub character_above : 0xdfff < u → Characters big raw at (Some (record { code = u; next = at + 2 }))
   character_above k = record { is = (rest_one (high_above u (omega arith)) (low_above u k), omega arith, omega arith, omega (arith, c.small)) }
 
-  pub character_low : 0xdbff < u → u ≤ 0xdfff → Characters big raw at Lone
+  pub character_low : 0xdbff < u → u ≤ 0xdfff → Characters big raw at None
   character_low k l = record { is = rest_low (high_above u k) (low-is u (omega arith) l) }
 
   module _ (k : 0xd800 ≤ u) (l : u ≤ 0xdbff) where
-    pub character_end : length raw ≤ at + 2 + 1 → Characters big raw at Lone
+    pub character_end : length raw ≤ at + 2 + 1 → Characters big raw at None
     character_end m = record { is = rest_end (high_is u k l) m }
 
     module _ {v : ℕ} (m : at + 2 + 1 < length raw) (d : IsUnit big raw (at + 2) v) where
-      pub character_below_low : v < 0xdc00 → Characters big raw at Lone
+      pub character_below_low : v < 0xdc00 → Characters big raw at None
       character_below_low p = record { is = rest_alone (high_is u k l) m d (low_below v p) }
 
-      pub character_above_low : 0xdfff < v → Characters big raw at Lone
+      pub character_above_low : 0xdfff < v → Characters big raw at None
       character_above_low p = record { is = rest_alone (high_is u k l) m d (low_above v p) }
 
-      pub character_pair : 0xdc00 ≤ v → v ≤ 0xdfff → Characters big raw at (At (0x10000 + (u - 0xd800) * 0x400 + (v - 0xdc00)) (at + 4))
+      pub character_pair : 0xdc00 ≤ v → v ≤ 0xdfff → Characters big raw at (Some (record { code = 0x10000 + (u - 0xd800) * 0x400 + (v - 0xdc00); next = at + 4 }))
       character_pair p q = record { is = (rest_pair (high_is u k l) m d (low-is v p q), omega arith, omega arith, omega arith) }
 
 pub ruleset characters = (unit_big, unit_little, character_below, character_above, character_low, character_end, character_below_low, character_above_low, character_pair, rules)

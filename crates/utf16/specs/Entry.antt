@@ -1,12 +1,11 @@
 -- What the entry `decode` answers and leaves, for the room lent.
 -- Assumes nothing.
-use Rattle.std.specs.Prelude.{ℕ, ◌%◌, List, [], ◌∷◌, Bool, ◌||◌, eqb, ltb, length, replicate}
+use Rattle.std.specs.Prelude.{ℕ, ◌%◌, List, [], ◌∷◌, Bool, ◌||◌, eqb, ltb, length, replicate, Option, Some, None, Result, Ok, Err}
 use Rattle.slices.specs.Bytes.{if, starts}
 use Rattle.answers.specs.Text.{Text, text, wrong, left_of}
-use Rattle.answers.specs.declared.TextAnswer as answers
+use Rattle.faults.specs.Fault.{fault}
+use Rattle.faults.specs.declared.Fault.{Fault}
 use Rattle.utf16.specs.Decode.{rest, text_of}
-use Rattle.utf16.specs.declared.Answer.{Answer}
-use Rattle.utf16.specs.declared.Answer.TheVariants.{Unmarked, Refused, Decoded}
 
 -- the byte order mark, U+FEFF, in big endian and in little endian
 abbrev pub big_mark : List ℕ
@@ -33,19 +32,19 @@ ordered big raw room =
 unfoldable pub decoding : List ℕ → ℕ → Text
 decoding raw room = ordered (starts big_mark raw) raw room
 
--- number and place, or the decoded length
-abbrev pub answer_of : Text → Answer
-answer_of (text t) = Decoded (length t)
-answer_of (wrong n p) = Refused n p
+-- the decoded length, or number and place
+abbrev pub answer_of : Text → Result (Option ℕ) Fault
+answer_of (text t) = Ok (Some (length t))
+answer_of (wrong n p) = Err (fault n p)
 
-unfoldable pub answer : List ℕ → ℕ → Answer
-answer raw room = let a = answer_of (decoding raw room) in if (marked raw) a Unmarked
+unfoldable pub answer : List ℕ → ℕ → Result (Option ℕ) Fault
+answer raw room = let a = answer_of (decoding raw room) in if (marked raw) a (Ok None)
 
 -- the decoded text and zeros, or zeros alone
 unfoldable pub left : List ℕ → ℕ → List ℕ
 left raw room = let t = left_of room (decoding raw room) in if (marked raw) t (replicate room 0)
 
 -- an answer of `answers` as one of this crate
-abbrev pub told : answers.TextAnswer → Answer
-told (answers.TheVariants.Refused n p) = Refused n p
-told (answers.TheVariants.Done n) = Decoded n
+abbrev pub told : Result ℕ Fault → Result (Option ℕ) Fault
+told (Ok n) = Ok (Some n)
+told (Err f) = Err f

@@ -1,16 +1,12 @@
 -- What the functions on units say.
 -- Assumes nothing.
-use Rattle.std.specs.Prelude.{ℕ, ◌+◌, ◌*◌, ◌≤◌, ◌<◌, ◌≡◌, List, [], ◌∷◌, Bool, true, false, length, get_or}
+use Rattle.std.specs.Prelude.{ℕ, ◌+◌, ◌*◌, ◌≤◌, ◌<◌, ◌≡◌, List, [], ◌∷◌, Bool, true, false, length, get_or, Option, Some, None, Result, Ok, Err}
 use Rattle.slices.specs.Bytes.{if}
 use Rattle.answers.specs.Puts.{Puts}
 use Rattle.utf16.specs.Units.{unit}
 use Rattle.utf16.specs.Decode.{scalars, lone, before, rest, in_bytes}
 use Rattle.utf16.specs.declared.Scalar.{Scalar}
-use Rattle.utf16.specs.declared.Scalar.TheVariants.{At, Lone}
 use Rattle.utf16.specs.declared.Step.{Step}
-use Rattle.utf16.specs.declared.Step.TheVariants.{On, Stuck}
-use Rattle.utf16.specs.declared.Put.{Put}
-use Rattle.utf16.specs.declared.Put.TheVariants.{Count, Alone}
 
 -- r is the unit at a place
 pub record IsUnit (big : Bool) (raw : List ℕ) (at r : ℕ) : Type 0 where
@@ -18,11 +14,11 @@ pub record IsUnit (big : Bool) (raw : List ℕ) (at r : ℕ) : Type 0 where
   pub small : r < 65536
 
 -- the scalar value at a place, and the place after it; or a surrogate alone
-abbrev pub IsCharacter : Bool → List ℕ → ℕ → Scalar → Type 0
-IsCharacter big raw at (At c next) = (rest big raw at ≡ before (c ∷ []) (rest big raw next)) × (at + 2 ≤ next) × (next ≤ length raw) × (c < 1114112)
-IsCharacter big raw at Lone = rest big raw at ≡ lone at
+abbrev pub IsCharacter : Bool → List ℕ → ℕ → Option Scalar → Type 0
+IsCharacter big raw at (Some s) = (rest big raw at ≡ before (s.code ∷ []) (rest big raw s.next)) × (at + 2 ≤ s.next) × (s.next ≤ length raw) × (s.code < 1114112)
+IsCharacter big raw at None = rest big raw at ≡ lone at
 
-pub record Characters (big : Bool) (raw : List ℕ) (at : ℕ) (r : Scalar) : Type 0 where
+pub record Characters (big : Bool) (raw : List ℕ) (at : ℕ) (r : Option Scalar) : Type 0 where
   pub is : IsCharacter big raw at r
 
 -- what stands from a place up to another is decoded, put at a count, and counted
@@ -60,17 +56,17 @@ pub record IsAscii (big : Bool) (raw : List ℕ) (at : ℕ) (r : Bool) : Type 0 
   pub is : r ≡ true → Block big raw at
 
 -- some units are decoded and put; or the place of a surrogate alone
-abbrev pub IsStep : Bool → List ℕ → ℕ → ℕ → List ℕ → List ℕ → Step → Type 0
-IsStep big raw from m out out' (On at n) = Decodes big raw from m out out' at n × (from < at)
-IsStep big raw from m out out' (Stuck p) = rest big raw from ≡ lone p
+abbrev pub IsStep : Bool → List ℕ → ℕ → ℕ → List ℕ → List ℕ → Result Step ℕ → Type 0
+IsStep big raw from m out out' (Ok s) = Decodes big raw from m out out' s.next s.count × (from < s.next)
+IsStep big raw from m out out' (Err p) = rest big raw from ≡ lone p
 
-pub record Steps (big : Bool) (raw : List ℕ) (from m : ℕ) (out out' : List ℕ) (r : Step) : Type 0 where
+pub record Steps (big : Bool) (raw : List ℕ) (from m : ℕ) (out out' : List ℕ) (r : Result Step ℕ) : Type 0 where
   pub is : IsStep big raw from m out out' r
 
 -- the decoded text is put, and counted; or the place of a surrogate alone
-abbrev pub IsPut : Bool → List ℕ → List ℕ → List ℕ → Put → Type 0
-IsPut big raw out out' (Count n) = (cs : List ℕ) × (rest big raw 2 ≡ scalars cs) × Puts (in_bytes cs) 0 out out' n
-IsPut big raw out out' (Alone p) = rest big raw 2 ≡ lone p
+abbrev pub IsPut : Bool → List ℕ → List ℕ → List ℕ → Result ℕ ℕ → Type 0
+IsPut big raw out out' (Ok n) = (cs : List ℕ) × (rest big raw 2 ≡ scalars cs) × Puts (in_bytes cs) 0 out out' n
+IsPut big raw out out' (Err p) = rest big raw 2 ≡ lone p
 
-pub record PutsAll (big : Bool) (raw out out' : List ℕ) (r : Put) : Type 0 where
+pub record PutsAll (big : Bool) (raw out out' : List ℕ) (r : Result ℕ ℕ) : Type 0 where
   pub is : IsPut big raw out out' r

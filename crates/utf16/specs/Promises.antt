@@ -1,13 +1,12 @@
 -- What is promised of every decoded text.
 -- Assumes nothing.
-use Rattle.std.specs.Prelude.{ℕ, ◌*◌, ◌≤◌, ◌≡◌, List, Bool, true, ltb, length, take, drop}
+use Rattle.std.specs.Prelude.{ℕ, ◌*◌, ◌≤◌, ◌≡◌, List, Bool, true, ltb, length, take, drop, Some, Ok}
 use Rattle.slices.specs.Bytes.{all, starts}
 use Rattle.utf8.specs.WellFormed.{ill_formed}
 use Rattle.answers.specs.Text.{text}
 use Rattle.utf16.specs.Units.{units, scalar_value, in_units}
 use Rattle.utf16.specs.Decode.{rest, in_bytes, text_of}
 use Rattle.utf16.specs.Entry.{big_mark, decoding, answer, left}
-use Rattle.utf16.specs.declared.Answer.TheVariants.{Decoded}
 
 -- the documents are those of bytes
 abbrev pub is_byte : ℕ → Bool
@@ -45,7 +44,7 @@ Within = (raw t : List ℕ) (room : ℕ) → decoding raw room ≡ text t → (l
 abbrev pub Stands : Type 0
 Stands =
     (raw : List ℕ) (room n : ℕ)
-    → answer raw room ≡ Decoded n
+    → answer raw room ≡ Ok (Some n)
     → (t : List ℕ) × (decoding raw room ≡ text t) × (n ≡ length t) × (take n (left raw room) ≡ t)
 
 -- the entry's own promise, of a document that is lent: what it decodes to is well_formed

@@ -7,33 +7,21 @@ ghost use Rattle.utf16.specs.Entry.{ordered, told, answer, left};
 ghost use Rattle.utf16.specs.Outcome.{IsUnit, Characters, Decodes, Exceeds, Limited, low_byte, Block, IsAscii, Steps, PutsAll};
 ghost use Rattle.utf16.specs.Promises.{Forms};
 
-// What the entry answers: no mark; number and place; or the decoded length.
+use answers::TextAnswer;
+use faults::Fault;
+
+// A scalar value, and the place after it.
 #[derive(Clone, Copy)]
-pub enum Answer {
-    Unmarked,
-    Refused(u32, usize),
-    Decoded(usize),
+struct Scalar {
+    code: u32,
+    next: usize,
 }
 
-// The scalar value at a place, and the place after it; or a surrogate that has no partner.
+// The place and the count after some units.
 #[derive(Clone, Copy)]
-enum Scalar {
-    At(u32, usize),
-    Lone,
-}
-
-// How many bytes were put, or the place of a surrogate that has no partner.
-#[derive(Clone, Copy)]
-enum Put {
-    Count(usize),
-    Alone(usize),
-}
-
-// The place and the count after some units, or the place of a surrogate that has no partner.
-#[derive(Clone, Copy)]
-enum Step {
-    On(usize, usize),
-    Stuck(usize),
+struct Step {
+    next: usize,
+    count: usize,
 }
 
 // The unit of two bytes, the most significant first.
@@ -56,43 +44,35 @@ fn unit(raw: &[u8], at: usize, big: bool) -> u32
     joined(b, a)
 }
 
-// The scalar value that begins with the unit u at a place.
-fn character(raw: &[u8], at: usize, big: bool, u: u32) -> Scalar
-    requires fact_1 { at + 1 < length raw.now }
-    requires fact_2 { IsUnit big raw.now at u }
+// The scalar value that begins with the unit u at a place; none where that is a surrogate that has no partner.
+#[tactic(auto, using(crate::proofs::Units::characters))]
+fn character(raw: &[u8], at: usize, big: bool, u: u32) -> Option<Scalar>
+    requires inside { at + 1 < length raw.now }
+    requires unit { IsUnit big raw.now at u }
     ensures { Characters big raw.now at result }
 {
     let next = at + 2;
-    if u < 0xd800 {
-        return Scalar::At(u, next);
+    if u < 0xd800 || 0xdfff < u {
+        return Some(Scalar { code: u, next });
     }
-    if 0xdfff < u {
-        return Scalar::At(u, next);
-    }
-    if 0xdbff < u {
-        return Scalar::Lone;
-    }
-    if raw.len() <= next + 1 {
-        return Scalar::Lone;
+    if 0xdbff < u || raw.len() <= next + 1 {
+        return None;
     }
     let v = unit(raw, next, big);
-    if v < 0xdc00 {
-        return Scalar::Lone;
+    if v < 0xdc00 || 0xdfff < v {
+        return None;
     }
-    if 0xdfff < v {
-        return Scalar::Lone;
-    }
-    Scalar::At(0x10000 + (u - 0xd800) * 0x400 + (v - 0xdc00), at + 4)
+    Some(Scalar {
+        code: 0x10000 + (u - 0xd800) * 0x400 + (v - 0xdc00),
+        next: at + 4,
+    })
 }
 
 // Whether a byte was above its limit, or this one is.
 fn exceeds(over: bool, b: u8, limit: u8) -> bool
     ensures { Exceeds over b limit result }
 {
-    if limit < b {
-        return true;
-    }
-    over
+    over || limit < b
 }
 
 // Whether of 32 units from a place no first byte is above a limit, and no second byte above another.
@@ -101,17 +81,16 @@ fn within(raw: &[u8], from: usize, first: u8, second: u8) -> bool
     ensures { Limited raw.now from first second result }
 {
     let mut over = false;
-    let mut i = 0;
-    while i < 32 {
+    for i in 0..32 {
         let at = from + i * 2;
         let one = exceeds(over, raw[at], first);
         over = exceeds(one, raw[at + 1], second);
-        i += 1;
     }
     !over
 }
 
 // Whether 32 units stand at a place, all of them below 128.
+#[tactic(auto, using(crate::proofs::Limits::asciis))]
 fn is_ascii(raw: &[u8], at: usize, big: bool) -> bool
     requires { at < length raw.now }
     ensures { IsAscii big raw.now at result }
@@ -130,41 +109,44 @@ fn low_byte(at: usize, big: bool) -> usize
     requires { at < 1048576 }
     ensures { (result ≡ low_byte big at) × (result ≤ at + 1) }
 {
-    if big {
-        return at + 1;
-    }
-    at
+    if big { at + 1 } else { at }
 }
 
 // Puts 32 units that are below 128.
+#[tactic(auto, using(crate::proofs::Decoding::blocks))]
 fn put_block(raw: &[u8], at: usize, big: bool, out: &mut [u8], n: usize) -> usize
-    requires fact_1 { Block big raw.now at }
-    requires fact_2 { at < 1048576 }
-    requires fact_3 { n < 4194304 }
+    requires block { Block big raw.now at }
+    requires near { at < 1048576 }
+    requires room { n < 4194304 }
     ensures { Decodes big raw.now at n out.old out.new (at + 64) result }
 {
     let low = low_byte(at, big);
-    let mut i = 0;
     let mut m = n;
-    while i < 32 {
+    for i in 0..32 {
         m = tables::put_byte(out, m, raw[low + i * 2]);
-        i += 1;
     }
     m
 }
 
-// Puts what 32 units say, or as many as there are.
-fn put_units(raw: &[u8], from: usize, big: bool, out: &mut [u8], count: usize) -> Step
-    requires fact_1 { from + 1 < length raw.now }
-    requires fact_2 { length raw.now ≤ 1048576 }
-    requires fact_3 { count < 4194304 }
+// Puts what 32 units say, or as many as there are; or the place of a surrogate that has no partner.
+#[tactic(auto, using(crate::proofs::Decoding::puts))]
+fn put_units(
+    raw: &[u8],
+    from: usize,
+    big: bool,
+    out: &mut [u8],
+    count: usize,
+) -> Result<Step, usize>
+    requires inside { from + 1 < length raw.now }
+    requires short { length raw.now ≤ 1048576 }
+    requires room { count < 4194304 }
     ensures { Steps big raw.now from count out.old out.new result }
 {
     let mut at = from;
     let mut n = count;
     while at + 1 < raw.len() {
         if from + 64 <= at {
-            return Step::On(at, n);
+            return Ok(Step { next: at, count: n });
         }
         let u = unit(raw, at, big);
         if u < 0x80 {
@@ -172,59 +154,55 @@ fn put_units(raw: &[u8], from: usize, big: bool, out: &mut [u8], count: usize) -
             at += 2;
         } else {
             match character(raw, at, big, u) {
-                Scalar::At(c, next) => {
-                    n = answers::put::put_char(out, n, c);
-                    at = next;
+                Some(scalar) => {
+                    n = answers::put::put_char(out, n, scalar.code);
+                    at = scalar.next;
                 }
-                Scalar::Lone => {
-                    return Step::Stuck(at);
-                }
+                None => return Err(at),
             }
         }
     }
-    Step::On(at, n)
+    Ok(Step { next: at, count: n })
 }
 
-// Puts what the units at a place say: 32 at once where they are below 128 and have room.
-fn put_some(raw: &[u8], at: usize, big: bool, out: &mut [u8], n: usize) -> Step
-    requires fact_1 { at + 1 < length raw.now }
-    requires fact_2 { length raw.now ≤ 1048576 }
-    requires fact_3 { n < 4194304 }
+// Puts what the units at a place say: 32 at once where they are below 128 and have room; or the place of a surrogate that has no partner.
+fn put_some(raw: &[u8], at: usize, big: bool, out: &mut [u8], n: usize) -> Result<Step, usize>
+    requires inside { at + 1 < length raw.now }
+    requires short { length raw.now ≤ 1048576 }
+    requires room { n < 4194304 }
     ensures { Steps big raw.now at n out.old out.new result }
 {
     if n + 32 <= out.len() {
         if is_ascii(raw, at, big) {
-            let m = put_block(raw, at, big, out, n);
-            return Step::On(at + 64, m);
+            let count = put_block(raw, at, big, out, n);
+            return Ok(Step {
+                next: at + 64,
+                count,
+            });
         }
     }
     put_units(raw, at, big, out, n)
 }
 
-// Puts the decoded text where there is room, and counts it in any case.
-fn put_all(raw: &[u8], big: bool, out: &mut [u8]) -> Put
-    requires fact_1 { 2 ≤ length raw.now }
-    requires fact_2 { length raw.now ≤ 1048576 }
+// Puts the decoded text where there is room, and counts it in any case; or the place of a surrogate that has no partner.
+#[tactic(auto, using(crate::proofs::Decoding::steps))]
+fn put_all(raw: &[u8], big: bool, out: &mut [u8]) -> Result<usize, usize>
+    requires marked { 2 ≤ length raw.now }
+    requires short { length raw.now ≤ 1048576 }
     ensures { PutsAll big raw.now out.old out.new result }
 {
     let mut at = 2;
     let mut n = 0;
     while at + 1 < raw.len() {
-        match put_some(raw, at, big, out, n) {
-            Step::On(next, count) => {
-                at = next;
-                n = count;
-            }
-            Step::Stuck(place) => {
-                return Put::Alone(place);
-            }
-        }
+        let step = put_some(raw, at, big, out, n)?;
+        at = step.next;
+        n = step.count;
     }
-    Put::Count(n)
+    Ok(n)
 }
 
 // Decodes what follows the mark, in a byte order.
-fn decode_ordered(raw: &[u8], big: bool, out: &mut [u8]) -> answers::TextAnswer
+fn decode_ordered(raw: &[u8], big: bool, out: &mut [u8]) -> TextAnswer
     requires { 2 ≤ length raw.now }
     ensures { Says (ordered big raw.now (length out.old)) (length out.old)
         out.new result }
@@ -236,8 +214,8 @@ fn decode_ordered(raw: &[u8], big: bool, out: &mut [u8]) -> answers::TextAnswer
         return answers::refuse(out, 26, raw.len());
     }
     match put_all(raw, big, out) {
-        Put::Alone(at) => answers::refuse(out, 27, at),
-        Put::Count(n) => {
+        Err(at) => answers::refuse(out, 27, at),
+        Ok(n) => {
             if 1048576 < n {
                 return answers::refuse(out, 2, 1048576);
             }
@@ -246,20 +224,18 @@ fn decode_ordered(raw: &[u8], big: bool, out: &mut [u8]) -> answers::TextAnswer
     }
 }
 
-// An answer of `answers` as one of this crate.
-fn told(a: answers::TextAnswer) -> Answer
+// What is answered of a document that begins with a mark.
+fn told(a: TextAnswer) -> Result<Option<usize>, Fault>
     ensures { result ≡ told a }
 {
-    match a {
-        answers::TextAnswer::Refused(number, place) => Answer::Refused(number, place),
-        answers::TextAnswer::Done(n) => Answer::Decoded(n),
-    }
+    Ok(Some(a?))
 }
 
 // Decodes a document that begins with FE FF or FF FE. One of more than 1,048,576 bytes is refused with 2, one of an odd number of bytes with
 // 26 at its length, one with a surrogate that has no partner with 27 at its unit, one that decodes to more than 1,048,576 bytes with 2, and
 // one that has no room with 18 at its length. Every byte of the buffer past the decoded text is zero, and all are where there is none.
-pub fn decode(raw: &[u8], out: &mut [u8]) -> Answer
+// None where the document begins with neither mark.
+pub fn decode(raw: &[u8], out: &mut [u8]) -> Result<Option<usize>, Fault>
     ensures answer { result ≡ answer raw.now (length out.old) }
     ensures left { out.new ≡ left raw.now (length out.old) }
     ensures formed { Forms raw.now (length out.old) }
@@ -271,5 +247,5 @@ pub fn decode(raw: &[u8], out: &mut [u8]) -> Answer
         return told(decode_ordered(raw, false, out));
     }
     tables::clear_bytes(out, 0);
-    Answer::Unmarked
+    Ok(None)
 }

@@ -21,13 +21,11 @@ fn largest(s: &[u8], from: usize, n: usize) -> u8
     ensures { AtMost s.now from n result }
 {
     let mut m = 0u8;
-    let mut i = 0;
-    while i < n {
+    for i in 0..n {
         let b = s[from + i];
         if m < b {
             m = b;
         }
-        i += 1;
     }
     m
 }
@@ -37,14 +35,7 @@ fn blocks(s: &[u8], from: usize, n: usize) -> usize
     requires { (from ≤ length s.now) × (0 < n) × (n ≤ 128) }
     ensures { Ascii s.now from result }
 {
-    let mut at = from;
-    while at + n <= s.len() {
-        if 127 < largest(s, at, n) {
-            return at;
-        }
-        at += n;
-    }
-    at
+    slices::blocks(s, from, n, |at| largest(s, at, n) <= 127)
 }
 
 // Past a run of bytes below 128.
@@ -52,93 +43,63 @@ fn ascii_run(s: &[u8], from: usize) -> usize
     requires { from ≤ length s.now }
     ensures { Ascii s.now from result }
 {
-    let mut at = blocks(s, from, 32);
-    while at < s.len() {
-        if 127 < s[at] {
-            return at;
-        }
-        at += 1;
-    }
-    at
+    slices::run_end(s, blocks(s, from, 32), |b| b <= 127)
 }
 
 // Whether a byte of a range stands at a place.
 fn continues(s: &[u8], at: usize, low: u8, high: u8) -> bool
     ensures { result ≡ begins (to low high ∷ []) (drop at s.now) }
 {
-    if at < s.len() {
-        let b = s[at];
-        if b < low {
-            return false;
-        }
-        return b <= high;
-    }
-    false
+    at < s.len() && low <= s[at] && s[at] <= high
 }
 
 // 3 if a byte of a range stands at a place and a continuation byte after it, or 0.
+#[tactic(auto, using(crate::proofs::Follows::takes))]
 fn three(s: &[u8], at: usize, low: u8, high: u8) -> usize
     requires { at ≤ length s.now }
     ensures { result ≡ taken (to low high ∷ continuation ∷ []) (drop at s.now) }
 {
-    if continues(s, at, low, high) {
-        if continues(s, at + 1, 0x80, 0xbf) {
-            return 3;
-        }
+    if continues(s, at, low, high) && continues(s, at + 1, 0x80, 0xbf) {
+        return 3;
     }
     0
 }
 
 // 4 if a byte of a range stands at a place and two continuation bytes after it, or 0.
+#[tactic(auto, using(crate::proofs::Follows::takes))]
 fn four(s: &[u8], at: usize, low: u8, high: u8) -> usize
     requires { at ≤ length s.now }
     ensures { result ≡ taken (to low high ∷ continuation ∷ continuation ∷ []) (drop at s.now) }
 {
-    if continues(s, at, low, high) {
-        if three(s, at + 1, 0x80, 0xbf) == 3 {
-            return 4;
-        }
+    if continues(s, at, low, high) && three(s, at + 1, 0x80, 0xbf) == 3 {
+        return 4;
     }
     0
 }
 
 // The length of the well-formed sequence at a place, or 0.
+#[tactic(auto, using(crate::proofs::Follows::firsts))]
 fn sequence(s: &[u8], at: usize) -> usize
     requires { at < length s.now }
     ensures { result ≡ sequence (drop at s.now) }
 {
-    let b = s[at];
-    if b < 0x80 {
-        return 1;
-    }
-    if b < 0xc2 {
-        return 0;
-    }
-    if b < 0xe0 {
-        if continues(s, at + 1, 0x80, 0xbf) {
-            return 2;
+    match s[at] {
+        0x00..=0x7f => 1,
+        0xc2..=0xdf => {
+            if continues(s, at + 1, 0x80, 0xbf) {
+                2
+            } else {
+                0
+            }
         }
-        return 0;
+        0xe0 => three(s, at + 1, 0xa0, 0xbf),
+        0xed => three(s, at + 1, 0x80, 0x9f),
+        0xe1..=0xef => three(s, at + 1, 0x80, 0xbf),
+        0xf0 => four(s, at + 1, 0x90, 0xbf),
+        0xf1..=0xf3 => four(s, at + 1, 0x80, 0xbf),
+        0xf4 => four(s, at + 1, 0x80, 0x8f),
+        _ => 0,
     }
-    if b < 0xf0 {
-        if b == 0xe0 {
-            return three(s, at + 1, 0xa0, 0xbf);
-        }
-        if b == 0xed {
-            return three(s, at + 1, 0x80, 0x9f);
-        }
-        return three(s, at + 1, 0x80, 0xbf);
-    }
-    if b < 0xf5 {
-        if b == 0xf0 {
-            return four(s, at + 1, 0x90, 0xbf);
-        }
-        if b == 0xf4 {
-            return four(s, at + 1, 0x80, 0x8f);
-        }
-        return four(s, at + 1, 0x80, 0xbf);
-    }
-    0
 }
 
 // How many bytes from the beginning on are below 128.
@@ -149,6 +110,7 @@ pub fn ascii_start(s: &[u8]) -> usize
 }
 
 // The place of the first ill-formed sequence, or the length.
+#[tactic(auto, using(crate::proofs::Finding::finds))]
 pub fn ill_formed(s: &[u8]) -> usize
     ensures { result ≡ ill_formed s.now }
 {
@@ -167,64 +129,24 @@ pub fn ill_formed(s: &[u8]) -> usize
 fn white_space(c: u32) -> bool
     ensures { result ≡ white_space c }
 {
-    if c < 0x9 {
-        return false;
-    }
-    if c <= 0xd {
-        return true;
-    }
-    if c == 0x20 {
-        return true;
-    }
-    if c < 0x85 {
-        return false;
-    }
-    if c == 0x85 {
-        return true;
-    }
-    if c == 0xa0 {
-        return true;
-    }
-    if c < 0x1680 {
-        return false;
-    }
-    wide_space(c)
-}
-
-// Whether a code point past 0xa0 is White_Space.
-fn wide_space(c: u32) -> bool
-    requires { 0xa0 < c }
-    ensures { result ≡ white_space c }
-{
-    if c == 0x1680 {
-        return true;
-    }
-    if c < 0x2000 {
-        return false;
-    }
-    if c <= 0x200a {
-        return true;
-    }
-    if c == 0x2028 {
-        return true;
-    }
-    if c == 0x2029 {
-        return true;
-    }
-    if c == 0x202f {
-        return true;
-    }
-    if c == 0x205f {
-        return true;
-    }
-    if c == 0x3000 {
-        return true;
-    }
-    false
+    matches!(
+        c,
+        0x9..=0xd
+            | 0x20
+            | 0x85
+            | 0xa0
+            | 0x1680
+            | 0x2000..=0x200a
+            | 0x2028
+            | 0x2029
+            | 0x202f
+            | 0x205f
+            | 0x3000
+    )
 }
 
 // The code point of a sequence of two bytes.
-fn point2(a: u8, b: u8) -> u32
+pub fn point2(a: u8, b: u8) -> u32
     requires le_a { 0xc0 ≤ a }
     requires le_b { 0x80 ≤ b }
     ensures { result ≡ code_point (a ∷ b ∷ []) }
@@ -233,7 +155,7 @@ fn point2(a: u8, b: u8) -> u32
 }
 
 // The code point of a sequence of three bytes.
-fn point3(a: u8, b: u8, c: u8) -> u32
+pub fn point3(a: u8, b: u8, c: u8) -> u32
     requires le_a { 0xe0 ≤ a }
     requires le_b { 0x80 ≤ b }
     requires le_c { 0x80 ≤ c }
@@ -242,7 +164,22 @@ fn point3(a: u8, b: u8, c: u8) -> u32
     (a as u32 - 0xe0) * 4096 + (b as u32 - 0x80) * 64 + (c as u32 - 0x80)
 }
 
+// The code point of a sequence of four bytes.
+pub fn point4(a: u8, b: u8, c: u8, d: u8) -> u32
+    requires le_a { 0xf0 ≤ a }
+    requires le_b { 0x80 ≤ b }
+    requires le_c { 0x80 ≤ c }
+    requires le_d { 0x80 ≤ d }
+    ensures { result ≡ code_point (a ∷ b ∷ c ∷ d ∷ []) }
+{
+    (a as u32 - 0xf0) * 262144
+        + (b as u32 - 0x80) * 4096
+        + (c as u32 - 0x80) * 64
+        + (d as u32 - 0x80)
+}
+
 // The length of the White_Space character at a place, or 0.
+#[tactic(auto, using(crate::proofs::Points::points))]
 fn white(s: &[u8], at: usize) -> usize
     requires boundary { Boundary s.now at }
     requires at_in_bounds { at < length s.now }
@@ -270,6 +207,7 @@ fn white(s: &[u8], at: usize) -> usize
 }
 
 // The first place that is not White_Space, or the length.
+#[tactic(auto, using(crate::proofs::Trims::trims))]
 fn trim_start(s: &[u8]) -> usize
     requires { ill_formed s.now ≡ length s.now }
     ensures { Starts s.now result }
@@ -286,26 +224,21 @@ fn trim_start(s: &[u8]) -> usize
 }
 
 // The start of the character that ends at a place.
+#[tactic(auto, using(crate::proofs::Ends::backs))]
 fn back(s: &[u8], end: usize) -> usize
     requires boundary { Boundary s.now end }
     requires end_nonzero { 0 < end }
     ensures { Last s.now end result }
 {
     let mut at = end - 1;
-    while 0 < at {
-        let b = s[at];
-        if b < 0x80 {
-            return at;
-        }
-        if 0xbf < b {
-            return at;
-        }
+    while 0 < at && 0x80 <= s[at] && s[at] <= 0xbf {
         at -= 1;
     }
     at
 }
 
 // The end of the last character that is not White_Space, or 0.
+#[tactic(auto, using(crate::proofs::Ends::ends))]
 fn trim_end(s: &[u8]) -> usize
     requires { ill_formed s.now ≡ length s.now }
     ensures { Ends s.now result }

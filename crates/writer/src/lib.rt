@@ -1,12 +1,12 @@
-// A writer: the buffer that a caller lends, together with its fill count. `put_text` and `put_value`, which hand one on by value and
-// let it go, are each proved by a walk of its MIR, by hand.
+// A writer: the buffer that a caller lends, together with its fill count.
 #![tactic(auto)]
 
 ghost use Rattle.std.specs.Prelude.{◌≡◌, ◌++◌, ◌+◌, ◌*◌, ◌<◌, ◌^◌, length};
-ghost use Rattle.scan.specs.Classes.{Classes};
 ghost use Rattle.answers.specs.Puts.{Puts};
 ghost use Rattle.references.specs.Escape.{escape};
 ghost use Rattle.writer.specs.Added.{Adds};
+
+use scan::ClassTable;
 
 #[derive(Drop)]
 pub struct Writer<'a> {
@@ -14,39 +14,40 @@ pub struct Writer<'a> {
     pub len: usize,
 }
 
-// The borrow goes into the writer, and the count with it.
-pub fn new<'a>(buf: &'a mut [u8], len: usize) -> Writer<'a>
-    ensures { (result.buf ≡ buf.entry) × (result.len ≡ len) }
-{
-    Writer { buf, len }
+impl<'a> Writer<'a> {
+    // The borrow goes into the writer, and the count with it.
+    pub fn new(buf: &'a mut [u8], len: usize) -> Writer<'a>
+        ensures { (result.buf ≡ buf.entry) × (result.len ≡ len) }
+    {
+        Writer { buf, len }
+    }
+
+    // Puts bytes as they are.
+    pub fn put(&mut self, s: &[u8])
+        requires { self.old.len + length s.now < 2 ^ 62 }
+        ensures { Adds s.now self.old self.new }
+    {
+        let n = self.len;
+        self.len = answers::put::put_bytes(&mut *self.buf, n, s);
+    }
+
+    // Puts the escaped bytes of a value.
+    pub fn put_escaped(&mut self, value: &[u8], classes: &ClassTable)
+        requires { self.old.len + 6 * length value.now < 2 ^ 62 }
+        ensures { Adds (escape value.now) self.old self.new }
+    {
+        let n = self.len;
+        self.len = references::put_escaped(value, classes, &mut *self.buf, n);
+    }
 }
 
-// Puts bytes as they are.
-pub fn put<'a>(w: Writer<'a>, s: &[u8]) -> Writer<'a>
-    requires { w.len + length s.now < 2 ^ 62 }
-    ensures { Adds s.now w.entry result }
-{
-    let n = w.len;
-    let len = answers::put::put_bytes(&mut *w.buf, n, s);
-    Writer { buf: w.buf, len }
-}
-
-// Puts the escaped bytes of a value.
-pub fn put_escaped<'a>(w: Writer<'a>, value: &[u8], classes: &[u8; 256]) -> Writer<'a>
-    requires { Classes classes.now × (w.len + 6 * length value.now < 2 ^ 62) }
-    ensures { Adds (escape value.now) w.entry result }
-{
-    let n = w.len;
-    let len = references::put_escaped(value, classes, &mut *w.buf, n);
-    Writer { buf: w.buf, len }
-}
-
-// Puts bytes as they are. This contract and the next say nothing of a writer: whoever calls them needs no walk by hand.
+// Puts bytes as they are. This contract and the next say nothing of a writer.
 pub fn put_text(out: &mut [u8], n: usize, s: &[u8]) -> usize
     requires { n + length s.now < 2 ^ 62 }
     ensures { Puts s.now n out.old out.new result }
 {
-    let w = put(new(out, n), s);
+    let mut w = Writer::new(out, n);
+    w.put(s);
     w.len
 }
 
@@ -56,11 +57,13 @@ pub fn put_value(
     n: usize,
     before: &[u8],
     value: &[u8],
-    classes: &[u8; 256],
+    classes: &ClassTable,
 ) -> usize
-    requires { Classes classes.now × (n + length before.now + 6 * length value.now < 2 ^ 62) }
+    requires { n + length before.now + 6 * length value.now < 2 ^ 62 }
     ensures { Puts (before.now ++ escape value.now) n out.old out.new result }
 {
-    let w = put_escaped(put(new(out, n), before), value, classes);
+    let mut w = Writer::new(out, n);
+    w.put(before);
+    w.put_escaped(value, classes);
     w.len
 }

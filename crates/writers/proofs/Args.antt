@@ -13,7 +13,6 @@ use lib.ListN.{length, drop, get_or}
 use lib.Seq.{get_or-drop}
 use Rattle.slices.specs.Bytes.{if, bytes, empty}
 use Rattle.tables.specs.Triple.{shown}
-use Rattle.scan.specs.Classes.{Classes}
 use Rattle.document.specs.Kinds as kinds
 use Rattle.answers.specs.Puts.{Puts}
 use Rattle.answers.proofs.Putting.{puts_then}
@@ -156,12 +155,9 @@ module _ {d x ws : List ℕ} {i to p : ℕ} {b : Bool} (e : p ≡ i + 1) (o : i 
     }
 
 -- what the calls need
-module _ {d x ws cl : List ℕ} {i to n : ℕ} (h : Scannable d x ws i to cl n) (o : i < to) where
+module _ {d x ws : List ℕ} {i to n : ℕ} (h : Scannable d x ws i to n) (o : i < to) where
   pub arg_held : RowHeld d x ws i
   arg_held = record { document = h.document; text = h.text; few = omega (arith, o, h.few); held = omega (arith, o, h.held) }
-
-  pub arg_classes : Classes cl
-  arg_classes = h.classes
 
   pub arg_room : CountFits n 16777216
   arg_room = record { fits = omega (arith, o, h.room) }
@@ -174,10 +170,10 @@ module _ {d x ws cl : List ℕ} {i to n : ℕ} (h : Scannable d x ws i to cl n) 
     arg_opens = omega (arith, o, h.room, q.most)
 
     module _ {t₂ : List ℕ} {u p : ℕ} (e : p ≡ i + 1) (s : Puts (bytes ">") m t₁ t₂ u) where
-      pub arg_scans : Scannable d x ws p to cl u
-      arg_scans = record { document = h.document; text = h.text; onward = omega (arith, e, o); few = h.few; held = h.held; classes = h.classes; room = omega (arith, o, e, h.room, q.most, s.counts) }
+      pub arg_scans : Scannable d x ws p to u
+      arg_scans = record { document = h.document; text = h.text; onward = omega (arith, e, o); few = h.few; held = h.held; room = omega (arith, o, e, h.room, q.most, s.counts) }
 
       pub arg_closes : {t₃ : List ℕ} {v : ℕ} → AnnotationsPut d x ws p p to u t₂ t₃ v → v + length (bytes "</arg>") < 2 ^ 62
       arg_closes w = omega (arith, o, e, h.room, q.most, s.counts, w.most)
 
-pub ruleset args = (arg_bare, arg_full, arg_held, arg_classes, arg_room, arg_end, arg_opens, arg_scans, arg_closes, rules)
+pub ruleset args = (arg_bare, arg_full, arg_held, arg_room, arg_end, arg_opens, arg_scans, arg_closes, rules)

@@ -1,6 +1,6 @@
 -- Laws of the entry: which row is written, and what is answered.
 -- Assumes nothing.
-use Prim.Native.Nat.{ℕ, zero, suc, ◌+◌, ◌-◌, ◌*◌, ◌≤◌, ◌<◌, ◌^◌}
+use Prim.Native.Nat.{ℕ, zero, suc, ◌+◌, ◌*◌, ◌≤◌, ◌<◌, ◌^◌}
 use native.Mathlib.Omega.{arith}
 use mathlib.Core.Path.{◌≡◌, refl, ap, sym, subst, ◌∙◌}
 use mathlib.Core.List.{List, [], ◌∷◌, map}
@@ -11,14 +11,13 @@ use borrow.Author.Tests.{eq-eqb, ne_eqb, eqb-true, lt-ltb, le-ltb}
 use lib.Dec.{T, eqb}
 use lib.ListN.{length, drop, drop_of_length-le}
 use lib.Seq.{get_or-drop}
+use Rattle.std.specs.Prelude.{Result, Ok, Err}
+use Rattle.faults.specs.declared.Fault.{Fault}
 use Rattle.slices.specs.Bytes.{if, bytes}
 use Rattle.tables.proofs.Tables.{empty_stands}
-use Rattle.scan.specs.Classes.{Classes}
-use Rattle.answers.specs.Text.{text, wrong, Says, Finishes}
-use Rattle.answers.specs.declared.TextAnswer.{TextAnswer}
+use Rattle.answers.specs.Text.{wrong, Says, Finishes}
 use Rattle.document.specs.Elements.{among}
 use Rattle.soundness.specs.Outcome.{Judges}
-use Rattle.soundness.specs.declared.Soundness.{Soundness}
 use Rattle.soundness.proofs.Rows.{judged_sound, judged_unsound}
 use Rattle.document.specs.Kinds as kinds
 use Rattle.items.specs.Words.{Word, rows_of, viewed, rows_shown}
@@ -31,7 +30,7 @@ use Rattle.writers.specs.Writes.{annotation_at, AnnotationPut, Scannable, ArgPut
 use Rattle.writers.specs.Entry.{Admitted, WritesSound}
 use Rattle.writers.proofs.Scans.{last_all}
 use Rattle.writers.proofs.Texts.{puts_as}
-use Rattle.writers.proofs.Members.{member_row, member_classes, member_within}
+use Rattle.writers.proofs.Members.{member_row, member_within}
 
 -- kinds
 module _ {k : ℕ} where
@@ -93,7 +92,7 @@ module _ (t : List Row) (i : ℕ) (r : Row) where
       go false false false true e = absurd (subst T e tt)
       go false false false false e = refl
 
-module _ {d x ws cl : List ℕ} {m i k : ℕ} (h : MemberScannable d x ws m i cl) (w : Word ws i 0 k) where
+module _ {d x ws : List ℕ} {m i k : ℕ} (h : MemberScannable d x ws m i) (w : Word ws i 0 k) where
   kind_is : {n : ℕ} → k ≡ n → (row_at d x ws i).kind ≡ n
   kind_is e = get_or-drop (i * 16) ws 0 0 ∙ sym w.is ∙ e
 
@@ -135,14 +134,13 @@ module _ {d x ws cl : List ℕ} {m i k : ℕ} (h : MemberScannable d x ws m i cl
           puts = puts_as (ap (λ n. written_member n (member_of (rows_shown d x ws m) i (row_at d x ws i))) (ap (λ z. if z (bytes "method") (bytes "signal")) e)) q.puts;
         }
 
-pub item_scans : {d x ws cl : List ℕ} {m i n : ℕ} → n < 4294967296 → MemberScannable d x ws m i cl → Scannable d x ws i m cl n
+pub item_scans : {d x ws : List ℕ} {m i n : ℕ} → n < 4294967296 → MemberScannable d x ws m i → Scannable d x ws i m n
 item_scans s h = record {
   document = h.document;
   text = h.text;
   onward = omega (arith, h.within);
   few = h.held.few;
   held = h.held.held;
-  classes = h.classes;
   room = omega (arith, s, h.held.few);
 }
 
@@ -152,7 +150,7 @@ item_room n s = omega (arith, s)
 pub zero_room : 0 < 4294967296
 zero_room = omega arith
 
-pub ruleset items = (item_annotation, item_arg, item_member, item_scans, item_room, member_row, member_classes, member_within, rules)
+pub ruleset items = (item_annotation, item_arg, item_member, item_scans, item_room, member_row, member_within, rules)
 
 pub writable_true : {k : ℕ} {b : Bool} → Writable k b → b ≡ true → Writable k true
 writable_true y e = record { is = sym e ∙ y.is }
@@ -163,8 +161,8 @@ module _ {d x ws : List ℕ} {n : ℕ} (h : Admitted d x ws n) where
   admitted_rows = record { few = sound_claimed d x ws n h.rows; held = sound_held d x ws n h.rows; parents = λ k l. sound_parent d x ws n h.rows k l }
 
   module _ {i : ℕ} (l : i < n) where
-    pub admitted_scans : {cl : List ℕ} → Classes cl → MemberScannable d x ws n i cl
-    admitted_scans c = record { document = h.document; text = h.text; held = admitted_rows; within = l; classes = c }
+    pub admitted_scans : MemberScannable d x ws n i
+    admitted_scans = record { document = h.document; text = h.text; held = admitted_rows; within = l }
 
     pub admitted_few : i < 262144
     admitted_few = omega (arith, l, admitted_rows.few)
@@ -172,7 +170,7 @@ module _ {d x ws : List ℕ} {n : ℕ} (h : Admitted d x ws n) where
     pub admitted_held : i * 16 + 16 ≤ length ws
     admitted_held = omega (arith, l, admitted_rows.held)
 
-module _ {d x ws t t' : List ℕ} {n i : ℕ} {r : TextAnswer} where
+module _ {d x ws t t' : List ℕ} {n i : ℕ} {r : Result ℕ Fault} where
   pub no_row : n ≤ i → Says (wrong 20 i) (length t) t' r → WritesSound d x ws n i t t' r
   no_row h s = record { says = subst (λ o. Says (item_written i (length t) o) (length t) t' r) (sym (content_past d x ws n i h)) s }
 
@@ -194,7 +192,7 @@ module _ {d x ws t t' : List ℕ} {n i : ℕ} {r : TextAnswer} where
 pub ruleset rows = (zero_room, writable_true, admitted_scans, admitted_few, admitted_held, no_row, no_kind, row_written, rules)
 
 -- the answers
-module _ {d x ws t' : List ℕ} {n i room : ℕ} {r : TextAnswer} where
+module _ {d x ws t' : List ℕ} {n i room : ℕ} {r : Result ℕ Fault} where
   pub long_document : 1048576 < length d → Says (wrong 2 1048576) room t' r → Writes d x ws n i room t' r
   unfolding writing
   long_document h s = record { says = rw (lt-ltb 1048576 (length d) h) s }
@@ -204,16 +202,16 @@ module _ {d x ws t' : List ℕ} {n i room : ℕ} {r : TextAnswer} where
     unfolding writing
     long_text k s = record { says = rw (le-ltb 1048576 (length d) h, lt-ltb 1048576 (length x) k) s }
 
-    module _ (k : length x ≤ 1048576) {z : Soundness} (g : Judges d x ws n z) where
-      pub not_sound : {p : ℕ} → z ≡ Soundness.Unsound p → Says (wrong 19 p) room t' r → Writes d x ws n i room t' r
+    module _ (k : length x ≤ 1048576) {z : Result (Unit {0}) ℕ} (g : Judges d x ws n z) where
+      pub not_sound : {p : ℕ} → z ≡ Err p → Says (wrong 19 p) room t' r → Writes d x ws n i room t' r
       unfolding writing
       not_sound e s = record { says = rw (le-ltb 1048576 (length d) h, le-ltb 1048576 (length x) k, judged_unsound g e) s }
 
-      pub is_sound : {t : List ℕ} → z ≡ Soundness.Sound → length t ≡ room → WritesSound d x ws n i t t' r → Writes d x ws n i room t' r
+      pub is_sound : {u : Unit {0}} {t : List ℕ} → z ≡ Ok u → length t ≡ room → WritesSound d x ws n i t t' r → Writes d x ws n i room t' r
       unfolding writing
       is_sound e l s = record { says = rw (le-ltb 1048576 (length d) h, le-ltb 1048576 (length x) k, judged_sound g e) (rw l at s.says) }
 
-pub admits : {d x ws : List ℕ} {n : ℕ} {z : Soundness} → length d ≤ 1048576 → length x ≤ 1048576 → Judges d x ws n z → z ≡ Soundness.Sound → Admitted d x ws n
+pub admits : {u : Unit {0}} {d x ws : List ℕ} {n : ℕ} {z : Result (Unit {0}) ℕ} → length d ≤ 1048576 → length x ≤ 1048576 → Judges d x ws n z → z ≡ Ok u → Admitted d x ws n
 admits h k g e = record { document = h; text = k; rows = judged_sound g e }
 
 pub ruleset entry = (long_document, long_text, not_sound, is_sound, admits, rules)

@@ -12,7 +12,6 @@ use lib.ListN.{length, drop, get_or, length-map}
 use lib.Seq.{get_or-drop}
 use Rattle.slices.specs.Bytes.{if, bytes, empty}
 use Rattle.tables.specs.Triple.{shown}
-use Rattle.scan.specs.Classes.{Classes}
 use Rattle.answers.specs.Puts.{Puts}
 use Rattle.answers.proofs.Putting.{puts_none, puts_then}
 use Rattle.references.specs.Escape.{escape}
@@ -35,7 +34,7 @@ module _ {d x ws : List ℕ} {m p i n : ℕ} {b : Bool} (c : Child ws 7 p i b) w
   unfolding if_arg
   arg_not f = record { puts = rw (sym c.is ∙ f) puts_none; most = omega arith }
 
-  module _ {cl : List ℕ} {o : Bool} (h : Turn d x ws m p o i cl n) where
+  module _ {o : Bool} (h : Turn d x ws m p o i n) where
     child_parent : b ≡ true → word_at ws i 1 ≡ p
     child_parent f = parent_of (eqb (get_or (drop (i * 16) ws) 0 0) 7) (sym c.is ∙ f)
       where
@@ -47,14 +46,13 @@ module _ {d x ws : List ℕ} {m p i n : ℕ} {b : Bool} (c : Child ws 7 p i b) w
     turn_child f = record { orders = h.orders; after = h.after; parent = child_parent f }
 
     module _ {to : ℕ} (l : Last ws m i to) where
-      pub turn_scans : Scannable d x ws i to cl n
+      pub turn_scans : Scannable d x ws i to n
       turn_scans = record {
         document = h.document;
         text = h.text;
         onward = omega (arith, l.onward);
         few = omega (arith, l.within, h.held.few);
         held = omega (arith, l.within, h.held.held);
-        classes = h.classes;
         room = omega (arith, l.within, h.held.few, h.room);
       }
 
@@ -62,7 +60,7 @@ module _ {d x ws : List ℕ} {m p i n : ℕ} {b : Bool} (c : Child ws 7 p i b) w
       unfolding if_arg
       arg_there f q = record { puts = rw (sym c.is ∙ f) (q.puts m h.held l); most = omega (arith, l.within, h.held.few, q.most) }
 
-module _ {d x ws cl : List ℕ} {m p i n : ℕ} {o : Bool} (h : Turn d x ws m p o i cl n) where
+module _ {d x ws : List ℕ} {m p i n : ℕ} {o : Bool} (h : Turn d x ws m p o i n) where
   pub turn_few : i < 262144
   turn_few = omega (arith, h.within, h.held.few)
 
@@ -108,11 +106,11 @@ pub record Arguing (d x ws : List ℕ) (m p n : ℕ) (t₀ t : List ℕ) (k l : 
   pub within : k ≤ m
   pub same : length t ≡ length t₀
 
-pub argue_begins : {d x ws t cl : List ℕ} {m p n : ℕ} {o : Bool} → ArgsScannable d x ws m p o cl → Arguing d x ws m p n t t p n
+pub argue_begins : {d x ws t : List ℕ} {m p n : ℕ} {o : Bool} → ArgsScannable d x ws m p o → Arguing d x ws m p n t t p n
 argue_begins g = record { done = []; left = refl; puts = puts_none; most = omega arith; onward = omega arith; within = g.onward; same = refl }
 
 module _ {d x ws t₀ t : List ℕ} {m p n k l : ℕ} (g : Arguing d x ws m p n t₀ t k l) where
-  pub argue_ends : {cl : List ℕ} {o : Bool} → ArgsScannable d x ws m p o cl → m ≤ k → KindPut (args_in d x ws m p p) n t₀ t l
+  pub argue_ends : {o : Bool} → ArgsScannable d x ws m p o → m ≤ k → KindPut (args_in d x ws m p p) n t₀ t l
   argue_ends w h =
       let z = no_arg d x ws m p k (omega (arith, h)) in
       record {
@@ -139,7 +137,7 @@ module _ {d x ws t₀ t : List ℕ} {m p n k l : ℕ} (g : Arguing d x ws m p n 
           same = s ∙ g.same;
         }
 
-    pub argue_turn : {cl : List ℕ} {o : Bool} → ArgsScannable d x ws m p o cl → CountFits n 2305843009213693952 → Turn d x ws m p o k cl l
+    pub argue_turn : {o : Bool} → ArgsScannable d x ws m p o → CountFits n 2305843009213693952 → Turn d x ws m p o k l
     argue_turn w s = record {
       document = w.document;
       text = w.text;
@@ -147,7 +145,6 @@ module _ {d x ws t₀ t : List ℕ} {m p n k l : ℕ} (g : Arguing d x ws m p n 
       after = g.onward;
       within = h;
       orders = w.orders;
-      classes = w.classes;
       room = omega (arith, h, g.most, g.onward, w.held.few, s.fits);
     }
 
@@ -170,12 +167,12 @@ module _ {t t' : List ℕ} {kind n r : ℕ} where
   unfolding closing_tag
   end_signal e p = record { puts = rw (ne_eqb kind 3 e) p }
 
-module _ {d x ws cl : List ℕ} {i n : ℕ} (h : RowHeld d x ws i) (c : Classes cl) (s : n < 4294967296) where
-  pub method_name : Puttable d x ws i 2 cl (bytes "<method name=\"") n
-  method_name = record { held = h; word = omega arith; classes = c; room = omega (arith, s) }
+module _ {d x ws : List ℕ} {i n : ℕ} (h : RowHeld d x ws i) (s : n < 4294967296) where
+  pub method_name : Puttable d x ws i 2 (bytes "<method name=\"") n
+  method_name = record { held = h; word = omega arith; room = omega (arith, s) }
 
-  pub signal_name : Puttable d x ws i 2 cl (bytes "<signal name=\"") n
-  signal_name = record { held = h; word = omega arith; classes = c; room = omega (arith, s) }
+  pub signal_name : Puttable d x ws i 2 (bytes "<signal name=\"") n
+  signal_name = record { held = h; word = omega arith; room = omega (arith, s) }
 
 pub end_room : (n : ℕ) → n + 16 < 2 ^ 62 → n + length (bytes "</method>") < 2 ^ 62
 end_room n h = omega (arith, h)
@@ -183,22 +180,21 @@ end_room n h = omega (arith, h)
 pub ruleset tags = (tag_method, tag_signal, end_method, end_signal, method_name, signal_name, end_room, rules)
 
 -- what the calls for the children need, and what they come to
-module _ {d x ws cl : List ℕ} {m i p : ℕ} (h : MemberScannable d x ws m i cl) (e : p ≡ i + 1) where
-  pub member_args : {o : Bool} → Ordered ws m i o → ArgsScannable d x ws m p o cl
+module _ {d x ws : List ℕ} {m i p : ℕ} (h : MemberScannable d x ws m i) (e : p ≡ i + 1) where
+  pub member_args : {o : Bool} → Ordered ws m i o → ArgsScannable d x ws m p o
   member_args {o} c = record {
     document = h.document;
     text = h.text;
     held = h.held;
     onward = omega (arith, e, h.within);
     orders = record { some = omega (arith, e); order = λ f k g. ordered f k (omega (arith, e, g)) };
-    classes = h.classes;
   }
     where
       ordered : o ≡ true → (k : ℕ) → i ≡ k → InOrder ws m k
       ordered f k z = subst (InOrder ws m) z (c.is f)
 
-  pub member_notes : NotesScannable d x ws m p cl
-  member_notes = record { document = h.document; text = h.text; held = h.held; onward = omega (arith, e, h.within); classes = h.classes }
+  pub member_notes : NotesScannable d x ws m p
+  member_notes = record { document = h.document; text = h.text; held = h.held; onward = omega (arith, e, h.within) }
 
   pub children_put : {t t₁ t₂ : List ℕ} {n l r : ℕ} → KindPut (args_in d x ws m p p) n t t₁ l → KindPut (annotations_in d x ws p p m) l t₁ t₂ r → ChildrenPut d x ws m i n t t₂ r
   children_put q w =
@@ -214,15 +210,14 @@ first_inside s = record { fits = omega (arith, s.fits) }
 pub next_inside : {b t t₁ : List ℕ} {n l : ℕ} → CountFits n 3458764513820540928 → KindPut b n t t₁ l → CountFits l 2305843009213693952
 next_inside s q = record { fits = omega (arith, s.fits, q.most) }
 
-module _ {d x ws cl : List ℕ} {m p n : ℕ} (h : NotesScannable d x ws m p cl) where
-  pub notes_scan : CountFits n 2305843009213693952 → Scannable d x ws p m cl n
+module _ {d x ws : List ℕ} {m p n : ℕ} (h : NotesScannable d x ws m p) where
+  pub notes_scan : CountFits n 2305843009213693952 → Scannable d x ws p m n
   notes_scan s = record {
     document = h.document;
     text = h.text;
     onward = h.onward;
     few = h.held.few;
     held = h.held.held;
-    classes = h.classes;
     room = omega (arith, h.held.few, s.fits);
   }
 
@@ -231,10 +226,10 @@ module _ {d x ws cl : List ℕ} {m p n : ℕ} (h : NotesScannable d x ws m p cl)
 
 pub ruleset notes = (notes_scan, notes_inside, rules)
 
-pub member_held : {d x ws cl : List ℕ} {m i : ℕ} → MemberScannable d x ws m i cl → Held ws m
+pub member_held : {d x ws : List ℕ} {m i : ℕ} → MemberScannable d x ws m i → Held ws m
 member_held h = h.held
 
-pub member_within : {d x ws cl : List ℕ} {m i : ℕ} → MemberScannable d x ws m i cl → i < m
+pub member_within : {d x ws : List ℕ} {m i : ℕ} → MemberScannable d x ws m i → i < m
 member_within h = h.within
 
 pub ruleset inner = (member_args, member_notes, children_put, first_inside, next_inside, member_held, member_within, rules)
@@ -331,7 +326,7 @@ module _ (d x ws : List ℕ) (m i kind : ℕ) (h : Held ws m) (o : i < m) where
       ∙ sym (element_full (tag_of kind) (named (name_of d x ws i) ∷ []) (children_of d x ws m i) f)
       ∙ ap (written_member (tag_of kind)) (sym member_is)
 
-module _ {d x ws cl t t₁ : List ℕ} {m i kind n l : ℕ} (h : MemberScannable d x ws m i cl) (q : MemberTagPut d x ws i kind n t t₁ l) {b : Bool} (c : SomeChildren ws (i + 1) m b) where
+module _ {d x ws t t₁ : List ℕ} {m i kind n l : ℕ} (h : MemberScannable d x ws m i) (q : MemberTagPut d x ws i kind n t t₁ l) {b : Bool} (c : SomeChildren ws (i + 1) m b) where
   pub member_bare : {t₂ : List ℕ} {r : ℕ} → b ≡ false → Puts (bytes "\"/>") l t₁ t₂ r → MemberPut d x ws m i kind n t t₂ r
   member_bare f s = record {
     puts = puts_as (member_bare_bytes d x ws m i kind h.held h.within (sym (some_inside d x ws m i kind h.held h.within refl c) ∙ f)) (puts_then q.puts s);
@@ -343,12 +338,9 @@ module _ {d x ws cl t t₁ : List ℕ} {m i kind n l : ℕ} (h : MemberScannable
   }
 
 -- what the calls need
-module _ {d x ws cl : List ℕ} {m i : ℕ} (h : MemberScannable d x ws m i cl) where
+module _ {d x ws : List ℕ} {m i : ℕ} (h : MemberScannable d x ws m i) where
   pub member_row : RowHeld d x ws i
   member_row = record { document = h.document; text = h.text; few = omega (arith, h.within, h.held.few); held = omega (arith, h.within, h.held.held) }
-
-  pub member_classes : Classes cl
-  member_classes = h.classes
 
   pub member_few : m ≤ 262144
   member_few = h.held.few
@@ -370,4 +362,4 @@ module _ {d x ws cl : List ℕ} {m i : ℕ} (h : MemberScannable d x ws m i cl) 
       pub member_closes : {t₃ : List ℕ} {v : ℕ} → ChildrenPut d x ws m i u t₂ t₃ v → v + 16 < 2 ^ 62
       member_closes w = omega (arith, q.most, o, s.counts, w.most)
 
-pub ruleset members = (member_bare, member_full, member_row, member_classes, member_few, member_rows, member_within, member_ends, member_opens, member_small, member_closes, rules)
+pub ruleset members = (member_bare, member_full, member_row, member_few, member_rows, member_within, member_ends, member_opens, member_small, member_closes, rules)

@@ -92,8 +92,8 @@ pub pass_begins : {ws : List ℕ} {p from to : ℕ} → from ≤ to → Passing 
 pass_begins h = record { onward = omega arith; within = h; none = λ m a b. absurd (omega arith) }
 
 module _ {ws : List ℕ} {p from to k : ℕ} (g : Passing ws p from to k) where
-  pub pass_ends : to ≤ k → NextChild ws p from to k
-  pass_ends h = record { onward = g.onward; within = g.within; none = g.none; is = λ l. absurd (omega arith) }
+  pub pass_ends : to ≤ k → NextChild ws p from to to
+  pass_ends h = record { onward = omega (arith, g.onward, g.within); within = omega arith; none = λ m a b. g.none m a (omega (arith, b, h)); is = λ l. absurd (omega arith) }
 
   module _ (h : k < to) {q : ℕ} (c : Word ws k 1 q) where
     pub pass_found : q ≡ p → NextChild ws p from to k

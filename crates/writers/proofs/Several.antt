@@ -16,10 +16,7 @@ use Rattle.slices.specs.Bytes.{if}
 use Rattle.utf8.proofs.Sequences.{below}
 use Rattle.tables.specs.Table.{Rep, Wiped}
 use Rattle.tables.proofs.Tables.{empty_stands, one_room, clear_all, clear_rest}
-use Rattle.scan.specs.Classes.{Classes}
-use Rattle.answers.specs.Text.{text, wrong, Says}
-use Rattle.answers.specs.declared.TextAnswer.{TextAnswer}
-use Rattle.answers.specs.declared.TextAnswer.TheVariants.{Done}
+use Rattle.answers.specs.Text.{wrong, Says}
 use Rattle.document.specs.Kinds as kinds
 use Rattle.document.specs.Elements.{among}
 use Rattle.items.specs.Words.{word_at, Word, rows_shown, is_child}
@@ -32,14 +29,15 @@ use Rattle.items.proofs.Children.{args_append}
 use Rattle.items.proofs.Order.{run_ends}
 use Rattle.soundness.specs.Outcome as outcome
 use Rattle.soundness.specs.Outcome.{Judges}
-use Rattle.soundness.specs.declared.Soundness.{Soundness}
 use Rattle.soundness.proofs.Rows.{judged_sound, judged_unsound}
 use Rattle.writers.specs.Rows.{row_at, rows_in, Held, Last, RunEnd, Reach}
 use Rattle.writers.specs.Writes.{MemberScannable, Writable, ItemPut}
 use Rattle.writers.specs.Entry.{Admitted}
-use Rattle.writers.specs.Several.{is_item, IsItem, At, HasItem, Asks, RowPut, Missing, Fit, VetsItems, Vets, Stand, SeveralPut, Fits, FinishesItems, WritesFit, Clears}
-use Rattle.writers.specs.declared.Vetting.{Vetting}
-use Rattle.writers.specs.declared.Vetting.TheVariants.{Fault, Fine}
+use Rattle.writers.specs.Several.{is_item, IsItem, At, Asks, RowPut, Missing, Fit, VetsItems, Vets, Stand, SeveralPut, Fits, FinishesItems, WritesFit, Clears}
+use Rattle.std.specs.Prelude as prelude
+use Rattle.std.specs.Prelude.{None, Some, Result, Ok, Err}
+use Rattle.faults.specs.Fault.{fault}
+use Rattle.faults.specs.declared.Fault.{Fault}
 use Rattle.writers.proofs.Scans.{last_all}
 use Rattle.writers.proofs.Texts.{shown_one}
 use Rattle.writers.proofs.Args.{shown_parts, own_annotations}
@@ -56,8 +54,8 @@ pub run_begins : {ws : List ℕ} {n i : ℕ} → i < n → Running ws n i (i + 1
 run_begins h = record { after = omega arith; within = omega (arith, h) }
 
 module _ {ws : List ℕ} {n i k : ℕ} (g : Running ws n i k) where
-  pub run_over : n ≤ k → RunEnd ws n i k
-  run_over h = record { onward = g.after; within = g.within; is = λ l. absurd (omega (arith, h, l)) }
+  pub run_over : n ≤ k → RunEnd ws n i n
+  run_over h = record { onward = omega (arith, g.after, g.within); within = omega arith; is = λ l. absurd (omega (arith, l)) }
 
   module _ (h : k < n) where
     pub run_found : {q : ℕ} → Word ws k 1 q → q ≤ i → RunEnd ws n i k
@@ -154,10 +152,7 @@ module _ {ws : List ℕ} {n i : ℕ} where
     unfolding is_item
     item_writable w = record { is = sym (ap (λ z. among z kinds.written) w.is ∙ (both_true (ltb i n) (among (word_at ws i 0) kinds.written) (sym e.is)).1) }
 
-pub item_asked : {ws is : List ℕ} {n k i : ℕ} {b : Bool} → At is k i → IsItem ws n i b → HasItem ws n is k b
-item_asked {ws} {n = n} a c = record { same = c.is ∙ ap (is_item ws n) a.same }
-
-pub ruleset kinds_of = (item_past, item_kind, item_asked, rules)
+pub ruleset kinds_of = (item_past, item_kind, rules)
 
 -- a row has content exactly if it is an item
 module _ (d x ws : List ℕ) (n : ℕ) where
@@ -205,77 +200,85 @@ pub look_begins : {ws is : List ℕ} {n : ℕ} → Looking ws n is 0
 look_begins = record { within = omega arith; before = λ j l. absurd (omega (arith, l)) }
 
 module _ {ws is : List ℕ} {n k : ℕ} (g : Looking ws n is k) where
-  pub look_ends : length is ≤ k → Missing ws n is k
-  look_ends h = record { within = g.within; before = g.before; here = λ l. absurd (omega (arith, h, l)) }
+  pub look_ends : length is ≤ k → Missing ws n is None
+  look_ends h = record { found = λ j l. g.before j (omega (arith, h, l)) }
 
-  module _ {b : Bool} (c : HasItem ws n is k b) where
-    pub look_found : not b ≡ true → Missing ws n is k
-    look_found e = record { within = g.within; before = g.before; here = λ l. sym c.same ∙ not-true b e }
+  module _ {b : Bool} (c : IsItem ws n (get_or is k 0) b) (h : k < length is) where
+    pub look_found : not b ≡ true → Missing ws n is (Some (get_or is k 0))
+    look_found e = record { found = (k, h, refl, g.before, sym c.is ∙ not-true b e) }
 
-    pub look_more : k < length is → not b ≡ false → Looking ws n is (k + 1)
-    look_more h e = record {
+    pub look_more : not b ≡ false → Looking ws n is (k + 1)
+    look_more e = record {
       within = omega (arith, h);
-      before = λ j l. below j k (λ m. g.before j m) (λ m. let z : k ≡ j = omega (arith, l, m) in rw (← z) (sym c.same ∙ not-false b e));
+      before = λ j l. below j k (λ m. g.before j m) (λ m. let z : k ≡ j = omega (arith, l, m) in rw (← z) (sym c.is ∙ not-false b e));
     }
 
 pub ruleset looks = (look_begins, look_ends, look_found, look_more, rules)
 
 -- ---- what is wrong with what is asked for
 
-none_missing : {ws is : List ℕ} {n k : ℕ} → Missing ws n is k → length is ≤ k → (d x : List ℕ) → first_missing (content_at d x ws n) is ≡ none
-none_missing {ws} {is} {n} {k} g h d x = missing_none (content_at d x ws n) is (λ j l. there_is d x ws n (get_or is j 0) ∙ g.before j (omega (arith, l, h)))
+module _ {ws is : List ℕ} {n : ℕ} {r : prelude.Option ℕ} (g : Missing ws n is r) (e : r ≡ None) where
+  all_items : (k : ℕ) → k < length is → is_item ws n (get_or is k 0) ≡ true
+  all_items = let f : Missing ws n is None = rw e at g in f.found
 
-module _ {d x ws is : List ℕ} {n slots k : ℕ} (g : Missing ws n is k) where
-  pub vet_missing : {i : ℕ} → k < length is → At is k i → VetsItems d x ws n is slots (Fault 20 i)
-  vet_missing h a = record {
-    says = λ room.
-        rw (a.same, missing_some (content_at d x ws n) is k h (λ j l. there_is d x ws n (get_or is j 0) ∙ g.before j l) (there_is d x ws n (get_or is k 0) ∙ g.here h));
-    fine = λ e. let z : ◌≡◌ {A = ℕ} 0 1 = cc in absurd (omega arith);
-  }
+  none_missing : (d x : List ℕ) → first_missing (content_at d x ws n) is ≡ none
+  none_missing d x = missing_none (content_at d x ws n) is (λ j l. there_is d x ws n (get_or is j 0) ∙ all_items j l)
 
-  module _ (h : length is ≤ k) where
-    pub vet_few : slots < length is → VetsItems d x ws n is slots (Fault 18 (length is))
+module _ {d x ws is : List ℕ} {n slots : ℕ} {r : prelude.Option ℕ} (g : Missing ws n is r) where
+  pub vet_missing : {i : ℕ} → r ≡ Some i → VetsItems d x ws n is slots (Err (fault 20 i))
+  vet_missing {i} e =
+      let f : Missing ws n is (Some i) = rw e at g in
+      let k = f.found.0 in
+      let there_not : there (content_at d x ws n (get_or is k 0)) ≡ false = there_is d x ws n (get_or is k 0) ∙ rw (← f.found.2) f.found.4 in
+      record {
+        says = λ room.
+            rw (f.found.2, missing_some (content_at d x ws n) is k f.found.1 (λ j l. there_is d x ws n (get_or is j 0) ∙ f.found.3 j l) there_not);
+        fine = λ e. absurd (cc);
+      }
+
+  module _ (e : r ≡ None) where
+    pub vet_few : slots < length is → VetsItems d x ws n is slots (Err (fault 18 (length is)))
     vet_few l = record {
-      says = λ room. rw (none_missing g h d x, lt-ltb slots (length is) l);
-      fine = λ e. let z : ◌≡◌ {A = ℕ} 0 1 = cc in absurd (omega arith);
+      says = λ room. rw (none_missing g e d x, lt-ltb slots (length is) l);
+      fine = λ e. absurd (cc);
     }
 
-    pub vet_fine : length is ≤ slots → VetsItems d x ws n is slots Fine
+    pub vet_fine : length is ≤ slots → VetsItems d x ws n is slots (Ok tt)
     vet_fine l = record {
-      says = λ room. rw (none_missing g h d x, le-ltb slots (length is) l);
-      fine = λ e. record { items = λ j m. g.before j (omega (arith, m, h)); room = l };
+      says = λ room. rw (none_missing g e d x, le-ltb slots (length is) l);
+      fine = λ f. record { items = all_items g e; room = l };
     }
 
 pub ruleset vetting = (vet_missing, vet_few, vet_fine, admitted_rows, rules)
 
 module _ {d x ws is : List ℕ} {n slots : ℕ} where
-  pub vet_document : 1048576 < length d → Vets d x ws n is slots (Fault 2 1048576)
+  pub vet_document : 1048576 < length d → Vets d x ws n is slots (Err (fault 2 1048576))
   unfolding several_writing
   vet_document h = record {
     says = λ room. rw (lt-ltb 1048576 (length d) h);
-    admitted = λ e. let z : ◌≡◌ {A = ℕ} 0 1 = cc in absurd (omega arith);
-    fine = λ e. let z : ◌≡◌ {A = ℕ} 0 1 = cc in absurd (omega arith);
+    admitted = λ e. absurd (cc);
+    fine = λ e. absurd (cc);
   }
 
   module _ (h : length d ≤ 1048576) where
-    pub vet_text : 1048576 < length x → Vets d x ws n is slots (Fault 2 1048576)
+    pub vet_text : 1048576 < length x → Vets d x ws n is slots (Err (fault 2 1048576))
     unfolding several_writing
     vet_text k = record {
       says = λ room. rw (le-ltb 1048576 (length d) h, lt-ltb 1048576 (length x) k);
-      admitted = λ e. let z : ◌≡◌ {A = ℕ} 0 1 = cc in absurd (omega arith);
-      fine = λ e. let z : ◌≡◌ {A = ℕ} 0 1 = cc in absurd (omega arith);
+      admitted = λ e. absurd (cc);
+      fine = λ e. absurd (cc);
     }
 
-    module _ (k : length x ≤ 1048576) {z : Soundness} (g : Judges d x ws n z) where
-      pub vet_unsound : {p : ℕ} → z ≡ Soundness.Unsound p → Vets d x ws n is slots (Fault 19 p)
+    module _ (k : length x ≤ 1048576) {z : Result (Unit {0}) ℕ} (g : Judges d x ws n z) where
+      pub vet_unsound : {p : ℕ} → z ≡ Err p → Vets d x ws n is slots (Err (fault 19 p))
       unfolding several_writing
       vet_unsound e = record {
         says = λ room. rw (le-ltb 1048576 (length d) h, le-ltb 1048576 (length x) k, judged_unsound g e);
-        admitted = λ e. let z : ◌≡◌ {A = ℕ} 0 1 = cc in absurd (omega arith);
-        fine = λ e. let z : ◌≡◌ {A = ℕ} 0 1 = cc in absurd (omega arith);
+        admitted = λ e. absurd (cc);
+        fine = λ e. absurd (cc);
       }
 
-      pub vet_sound : {r : Vetting} → z ≡ Soundness.Sound → VetsItems d x ws n is slots r → Vets d x ws n is slots r
+      pub vet_sound : {u : Unit {0}} {r : Result (Unit {0}) Fault} → z ≡ Ok u → VetsItems d x ws n is slots r → Vets d x ws n is slots r
       unfolding several_writing
       vet_sound e v = record {
         says = λ room. rw (le-ltb 1048576 (length d) h, le-ltb 1048576 (length x) k, judged_sound g e) (v.says room);
@@ -294,8 +297,8 @@ pub row_below : {ws is : List ℕ} {n k i : ℕ} → At is k i → Asks ws n is 
 row_below a c = item_below (row_item a c)
 
 module _ {d x ws : List ℕ} {n i to : ℕ} (a : Admitted d x ws n) (g : Reach ws n i to) where
-  pub row_scans : {cl : List ℕ} → Classes cl → MemberScannable d x ws to i cl
-  row_scans c = record { document = a.document; text = a.text; held = fewer d x ws n i to (admitted_rows a) g; within = g.onward; classes = c }
+  pub row_scans : MemberScannable d x ws to i
+  row_scans = record { document = a.document; text = a.text; held = fewer d x ws n i to (admitted_rows a) g; within = g.onward }
 
   pub row_put : {is t t' : List ℕ} {k m r : ℕ} → At is k i → ItemPut d x ws to i m t t' r → RowPut d x ws n is k m t t' r
   row_put {t = t} {t' = t'} {m = m} {r = r} b q = record {
@@ -434,7 +437,7 @@ pub ruleset adding = (add_begins, add_small, add_ends, add_item, add_slot, add_o
 
 -- ---- what is left
 
-pub refuses : {a p room : ℕ} {ends out' ends' : List ℕ} {r : TextAnswer} → Wiped 0 ends ends' → Says (wrong a p) room out' r → Clears a p room (length ends) out' ends' r
+pub refuses : {a p room : ℕ} {ends out' ends' : List ℕ} {r : Result ℕ Fault} → Wiped 0 ends ends' → Says (wrong a p) room out' r → Clears a p room (length ends) out' ends' r
 refuses {ends = ends} z s = record { says = s; ends_left_lem = z.is ∙ clear_all ends }
 
 pub ruleset refusing = (refuses, rules)
@@ -482,7 +485,7 @@ over_is {n} {room} f e ts s =
     ∙ e
 
 module _ {n count : ℕ} {out ends out' ends' : List ℕ} {b : Bool} (f : Fits n (length out) b) where
-  pub finish_over : {r : TextAnswer} → not b ≡ true → Clears 21 n (length out) (length ends) out' ends' r → FinishesItems count n out ends out' ends' r
+  pub finish_over : {r : Result ℕ Fault} → not b ≡ true → Clears 21 n (length out) (length ends) out' ends' r → FinishesItems count n out ends out' ends' r
   finish_over e c = record {
     left = λ ts s l. record {
       says = rw (over_is f e ts s, ← s.counts) c.says;
@@ -490,7 +493,7 @@ module _ {n count : ℕ} {out ends out' ends' : List ℕ} {b : Bool} (f : Fits n
     };
   }
 
-  pub finish_within : not b ≡ false → Wiped count ends ends' → Wiped n out out' → FinishesItems count n out ends out' ends' (Done n)
+  pub finish_within : not b ≡ false → Wiped count ends ends' → Wiped n out out' → FinishesItems count n out ends out' ends' (Ok n)
   finish_within e w z = record {
     left = λ ts s l.
         let o = either_false (ltb (length out) (length (concat ts))) (ltb 4294967295 (length (concat ts))) (over_is f e ts s) in
@@ -498,14 +501,14 @@ module _ {n count : ℕ} {out ends out' ends' : List ℕ} {b : Bool} (f : Fits n
         let small : n < 4294967296 = omega (arith, m, ltb-false 4294967295 (length (concat ts)) o.1) in
         let room : n ≤ length out = omega (arith, m, ltb-false (length out) (length (concat ts)) o.0) in
         record {
-          says = rw (over_is f e ts s) (record { answer = ap Done m; left = rest_cleared (s.bytes small) room z });
+          says = rw (over_is f e ts s) (record { answer = ap Ok m; left = rest_cleared (s.bytes small) room z });
           ends_left_lem = rw (over_is f e ts s) (rest_cleared (s.words small) l w);
         };
   }
 
 pub ruleset finishing = (finish_over, finish_within, rules)
 
-pub fit_written : {d x ws is out₁ ends₁ out' ends' : List ℕ} {n m room slots : ℕ} {r : TextAnswer} → Fit ws n is slots → SeveralPut d x ws n is out₁ ends₁ m → length out₁ ≡ room → length ends₁ ≡ slots → FinishesItems (length is) m out₁ ends₁ out' ends' r → WritesFit d x ws n is room slots out' ends' r
+pub fit_written : {d x ws is out₁ ends₁ out' ends' : List ℕ} {n m room slots : ℕ} {r : Result ℕ Fault} → Fit ws n is slots → SeveralPut d x ws n is out₁ ends₁ m → length out₁ ≡ room → length ends₁ ≡ slots → FinishesItems (length is) m out₁ ends₁ out' ends' r → WritesFit d x ws n is room slots out' ends' r
 fit_written {d} {x} {ws} {is} {n = n} w s a b f = record { left = rw (a, b) at (f.left (texts_of (content_at d x ws n) is) s.stand (omega (arith, w.room, b))) }
 
 pub fit_held : {d x ws : List ℕ} {n : ℕ} → Admitted d x ws n → n * 16 ≤ length ws
@@ -515,20 +518,20 @@ pub ruleset written_fit = (fit_written, fit_held, rules)
 
 -- ---- the entry
 
-module _ {d x ws is : List ℕ} {n room slots : ℕ} {out ends : List ℕ} {v : Vetting} {r : TextAnswer} (g : Vets d x ws n is slots v) where
-  pub several_refused : {a p : ℕ} → v ≡ Fault a p → Clears a p room slots out ends r → WritesSeveral d x ws n is room slots out ends r
+module _ {d x ws is : List ℕ} {n room slots : ℕ} {out ends : List ℕ} {v : Result (Unit {0}) Fault} {r : Result ℕ Fault} (g : Vets d x ws n is slots v) where
+  pub several_refused : {y : Fault} → v ≡ Err y → Clears y.number y.place room slots out ends r → WritesSeveral d x ws n is room slots out ends r
   unfolding several_ends
-  several_refused {a} {p} e c =
-      let z : several_writing d x ws n is room slots ≡ wrong a p = g.says room ∙ rw e in
+  several_refused {y} e c =
+      let z : several_writing d x ws n is room slots ≡ wrong y.number y.place = g.says room ∙ rw e in
       record { says = rw z c.says; ends_left_lem = rw z c.ends_left_lem }
 
-  pub several_written : v ≡ Fine → WritesFit d x ws n is room slots out ends r → WritesSeveral d x ws n is room slots out ends r
+  pub several_written : v ≡ Ok tt → WritesFit d x ws n is room slots out ends r → WritesSeveral d x ws n is room slots out ends r
   unfolding several_ends
   several_written e w =
       let z : several_writing d x ws n is room slots ≡ fitted room (concat (texts_of (content_at d x ws n) is)) = g.says room ∙ rw e in
       record { says = rw z w.left.says; ends_left_lem = rw z w.left.ends_left_lem }
 
-module _ {d x ws is : List ℕ} {n slots : ℕ} {v : Vetting} (g : Vets d x ws n is slots v) (e : v ≡ Fine) where
+module _ {d x ws is : List ℕ} {n slots : ℕ} {v : Result (Unit {0}) Fault} (g : Vets d x ws n is slots v) (e : v ≡ Ok tt) where
   pub several_admitted : Admitted d x ws n
   several_admitted = g.admitted e
 

@@ -13,7 +13,6 @@ use lib.ListN.{length, take, drop, length-append, length-drop}
 use Rattle.slices.specs.Bytes.{if, bytes}
 use Rattle.tables.specs.Triple.{resolved, part, shown}
 use Rattle.tables.specs.declared.Triple.{Triple}
-use Rattle.scan.specs.Classes.{Classes}
 use Rattle.answers.specs.Puts.{Puts}
 use Rattle.answers.proofs.Putting.{puts_none, puts_then}
 use Rattle.references.specs.Escape.{escape}
@@ -57,8 +56,8 @@ module _ {d x ws : List ℕ} {i k : ℕ} (h : RowHeld d x ws i) where
     most = omega (arith, p.counts, length-append before (escape s), escape_most s, e.short);
   }
 
-pub value_room : {d x ws s cl before : List ℕ} {i k n : ℕ} → ShownAt d x ws i k s → Puttable d x ws i k cl before n → Classes cl × (n + length before + 6 * length s < 2 ^ 62)
-value_room e h = (h.classes, omega (arith, h.room, e.short))
+pub value_room : {d x ws s before : List ℕ} {i k n : ℕ} → ShownAt d x ws i k s → Puttable d x ws i k before n → (n + length before + 6 * length s < 2 ^ 62)
+value_room e h = omega (arith, h.room, e.short)
 
 -- absent shows nothing
 absent_source : (a b c : Bool) → a && b && c ≡ true → a ≡ true
@@ -99,12 +98,12 @@ annotation_put {d} {x} {ws} {i = i} p q s =
       most = omega (arith, p.most, q.most, s.counts);
     }
 
-module _ {d x ws cl : List ℕ} {i n : ℕ} (h : RowHeld d x ws i) (c : Classes cl) (s : n + 16777216 < 2 ^ 62) where
-  pub annotation_name : Puttable d x ws i 2 cl (bytes "<annotation name=\"") n
-  annotation_name = record { held = h; word = omega arith; classes = c; room = omega (arith, s) }
+module _ {d x ws : List ℕ} {i n : ℕ} (h : RowHeld d x ws i) (s : n + 16777216 < 2 ^ 62) where
+  pub annotation_name : Puttable d x ws i 2 (bytes "<annotation name=\"") n
+  annotation_name = record { held = h; word = omega arith; room = omega (arith, s) }
 
-  pub annotation_value : {t t₁ : List ℕ} {m : ℕ} → ShownPut d x ws i 2 (bytes "<annotation name=\"") n t t₁ m → Puttable d x ws i 5 cl (bytes "\" value=\"") m
-  annotation_value p = record { held = h; word = omega arith; classes = c; room = omega (arith, s, p.most) }
+  pub annotation_value : {t t₁ : List ℕ} {m : ℕ} → ShownPut d x ws i 2 (bytes "<annotation name=\"") n t t₁ m → Puttable d x ws i 5 (bytes "\" value=\"") m
+  annotation_value p = record { held = h; word = omega arith; room = omega (arith, s, p.most) }
 
 pub annotation_end : {d x ws t t₁ t₂ : List ℕ} {i n m : ℕ} (l : ℕ) → n + 16777216 < 2 ^ 62 → ShownPut d x ws i 2 (bytes "<annotation name=\"") n t t₁ m → ShownPut d x ws i 5 (bytes "\" value=\"") m t₁ t₂ l → l + length (bytes "\"/>") < 2 ^ 62
 annotation_end l s p q = omega (arith, s, p.most, q.most)
@@ -149,7 +148,7 @@ pub record Annotating (d x ws : List ℕ) (p from to n : ℕ) (t₀ t : List ℕ
   pub within : k ≤ to
   pub same : length t ≡ length t₀
 
-pub note_begins : {d x ws t cl : List ℕ} {p from to n : ℕ} → Scannable d x ws from to cl n → Annotating d x ws p from to n t t from n
+pub note_begins : {d x ws t : List ℕ} {p from to n : ℕ} → Scannable d x ws from to n → Annotating d x ws p from to n t t from n
 note_begins g = record { done = []; left = refl; puts = puts_none; most = omega arith; onward = omega arith; within = g.onward; same = refl }
 
 module _ {d x ws t₀ t : List ℕ} {p from to n k m : ℕ} (g : Annotating d x ws p from to n t₀ t k m) where
@@ -182,7 +181,7 @@ module _ {d x ws t₀ t : List ℕ} {p from to n k m : ℕ} (g : Annotating d x 
           same = s ∙ g.same;
         }
 
-    module _ {cl : List ℕ} (w : Scannable d x ws from to cl n) where
+    module _ (w : Scannable d x ws from to n) where
       pub note_held : RowHeld d x ws k
       note_held = record { document = w.document; text = w.text; few = omega (arith, h, w.few); held = omega (arith, h, w.held) }
 
@@ -215,12 +214,12 @@ module _ {d x ws : List ℕ} {i n : ℕ} where
       type_bytes : (s : List ℕ) → (bytes " type=\"" ++ escape s) ++ bytes "\"" ≡ pairs (record { key = bytes "type"; value = s } ∷ [])
       type_bytes s = ap (λ l. bytes " type=\"" ++ l) (sym (append-nil (escape s ++ 34 ∷ [])))
 
-module _ {d x ws cl : List ℕ} {i n : ℕ} (h : RowHeld d x ws i) (c : Classes cl) (s : CountFits n 8388608) where
-  pub arg_name : Puttable d x ws i 2 cl (bytes " name=\"") n
-  arg_name = record { held = h; word = omega arith; classes = c; room = omega (arith, s.fits) }
+module _ {d x ws : List ℕ} {i n : ℕ} (h : RowHeld d x ws i) (s : CountFits n 8388608) where
+  pub arg_name : Puttable d x ws i 2 (bytes " name=\"") n
+  arg_name = record { held = h; word = omega arith; room = omega (arith, s.fits) }
 
-  pub arg_type : Puttable d x ws i 5 cl (bytes " type=\"") n
-  arg_type = record { held = h; word = omega arith; classes = c; room = omega (arith, s.fits) }
+  pub arg_type : Puttable d x ws i 5 (bytes " type=\"") n
+  arg_type = record { held = h; word = omega arith; room = omega (arith, s.fits) }
 
 pub name_end : {d x ws t t₁ : List ℕ} {i n : ℕ} (m : ℕ) → CountFits n 8388608 → ShownPut d x ws i 2 (bytes " name=\"") n t t₁ m → m + length (bytes "\"") < 2 ^ 62
 name_end m s p = omega (arith, s.fits, p.most)

@@ -1,8 +1,8 @@
 -- What the steps of the entry `write` say.
 -- Assumes nothing.
-use Rattle.std.specs.Prelude.{ℕ, ◌≤◌, ◌≡◌, List, length}
+use Rattle.std.specs.Prelude.{ℕ, ◌≤◌, ◌≡◌, List, length, Result}
+use Rattle.faults.specs.declared.Fault.{Fault}
 use Rattle.answers.specs.Text.{Says}
-use Rattle.answers.specs.declared.TextAnswer.{TextAnswer}
 use Rattle.items.specs.Sound.{sound, soundness}
 use Rattle.items.specs.Content.{content_at}
 use Rattle.items.specs.Writing.{item_written}
@@ -14,5 +14,5 @@ pub record Admitted (d x ws : List ℕ) (n : ℕ) : Type 0 where
   pub rows : soundness d x ws n ≡ sound
 
 -- what is answered and left for row i of sound rows
-pub record WritesSound (d x ws : List ℕ) (n i : ℕ) (t t' : List ℕ) (r : TextAnswer) : Type 0 where
+pub record WritesSound (d x ws : List ℕ) (n i : ℕ) (t t' : List ℕ) (r : Result ℕ Fault) : Type 0 where
   pub says : Says (item_written i (length t) (content_at d x ws n i)) (length t) t' r

@@ -5,7 +5,6 @@ use Rattle.std.specs.Prelude.{ℕ, suc, ◌+◌, ◌-◌, ◌*◌, ◌≤◌, �
 use Rattle.std.proofs.Math.Option.{Option, some}
 use Rattle.slices.specs.Bytes.{if, bytes}
 use Rattle.tables.specs.Triple.{shown}
-use Rattle.scan.specs.Classes.{Classes}
 use Rattle.answers.specs.Puts.{Puts}
 use Rattle.references.specs.Escape.{escape}
 use Rattle.document.specs.Kinds as kinds
@@ -21,10 +20,9 @@ pub record ShownAt (d x ws : List ℕ) (i k : ℕ) (s : List ℕ) : Type 0 where
   pub short : length s ≤ 1048576
 
 -- what putting it needs: the row is held, and there is room for the count
-pub record Puttable (d x ws : List ℕ) (i k : ℕ) (cl before : List ℕ) (n : ℕ) : Type 0 where
+pub record Puttable (d x ws : List ℕ) (i k : ℕ) (before : List ℕ) (n : ℕ) : Type 0 where
   pub held : RowHeld d x ws i
   pub word : k ≤ 11
-  pub classes : Classes cl
   pub room : n + length before + 6291456 < 2 ^ 62
 
 -- the same put, escaped, after other bytes
@@ -50,13 +48,12 @@ pub record IfAnnotationPut (d x ws : List ℕ) (p i n : ℕ) (t t' : List ℕ) (
 
 -- what putting the children of a row needs that stand among the rows from one on up to another: the rows are held, and there
 -- is room for the count
-pub record Scannable (d x ws : List ℕ) (from to : ℕ) (cl : List ℕ) (n : ℕ) : Type 0 where
+pub record Scannable (d x ws : List ℕ) (from to : ℕ) (n : ℕ) : Type 0 where
   pub document : length d ≤ 1048576
   pub text : length x ≤ 1048576
   pub onward : from ≤ to
   pub few : to ≤ 262144
   pub held : to * 16 ≤ length ws
-  pub classes : Classes cl
   pub room : n + (to - from) * 16777216 + 16 < 2 ^ 62
 
 -- the annotations of a row among the rows from one on up to another; p is that row plus one
@@ -110,23 +107,21 @@ pub record IfArgPut (d x ws : List ℕ) (m p i n : ℕ) (t t' : List ℕ) (r : �
   pub most : r ≤ n + 4398046511104
 
 -- what putting the args of row p less one needs: m rows are held
-pub record ArgsScannable (d x ws : List ℕ) (m p : ℕ) (ordered : Bool) (cl : List ℕ) : Type 0 where
+pub record ArgsScannable (d x ws : List ℕ) (m p : ℕ) (ordered : Bool) : Type 0 where
   pub document : length d ≤ 1048576
   pub text : length x ≤ 1048576
   pub held : Held ws m
   pub onward : p ≤ m
   pub orders : Orders ws m p ordered
-  pub classes : Classes cl
 
 -- and what putting one of them needs
-pub record Turn (d x ws : List ℕ) (m p : ℕ) (ordered : Bool) (i : ℕ) (cl : List ℕ) (n : ℕ) : Type 0 where
+pub record Turn (d x ws : List ℕ) (m p : ℕ) (ordered : Bool) (i : ℕ) (n : ℕ) : Type 0 where
   pub document : length d ≤ 1048576
   pub text : length x ≤ 1048576
   pub held : Held ws m
   pub after : p ≤ i
   pub within : i < m
   pub orders : Orders ws m p ordered
-  pub classes : Classes cl
   pub room : n + 4398046511104 + 16 < 2 ^ 62
 
 -- the args of row p less one among the first m rows, from row i on
@@ -134,12 +129,11 @@ unfoldable pub args_in : List ℕ → List ℕ → List ℕ → ℕ → ℕ → 
 args_in d x ws m p i = concat (map written_arg (args (rows_shown d x ws m) p i (rows_in d x ws i (m - i))))
 
 -- what putting the annotations of row p less one needs
-pub record NotesScannable (d x ws : List ℕ) (m p : ℕ) (cl : List ℕ) : Type 0 where
+pub record NotesScannable (d x ws : List ℕ) (m p : ℕ) : Type 0 where
   pub document : length d ≤ 1048576
   pub text : length x ≤ 1048576
   pub held : Held ws m
   pub onward : p ≤ m
-  pub classes : Classes cl
 
 -- children of one kind put
 pub record KindPut (b : List ℕ) (n : ℕ) (t t' : List ℕ) (r : ℕ) : Type 0 where
@@ -157,12 +151,11 @@ pub record MemberEndPut (kind n : ℕ) (t t' : List ℕ) (r : ℕ) : Type 0 wher
   pub puts : Puts (closing_tag (tag_of kind)) n t t' r
 
 -- what putting row i with its children needs
-pub record MemberScannable (d x ws : List ℕ) (m i : ℕ) (cl : List ℕ) : Type 0 where
+pub record MemberScannable (d x ws : List ℕ) (m i : ℕ) : Type 0 where
   pub document : length d ≤ 1048576
   pub text : length x ≤ 1048576
   pub held : Held ws m
   pub within : i < m
-  pub classes : Classes cl
 
 pub record ChildrenPut (d x ws : List ℕ) (m i n : ℕ) (t t' : List ℕ) (r : ℕ) : Type 0 where
   pub puts : Puts (args_in d x ws m (suc i) (suc i) ++ annotations_in d x ws (suc i) (suc i) m) n t t' r

@@ -16,98 +16,78 @@ fn parent_at(rows: &[u32], i: usize) -> usize
 
 // Whether row i is of a kind, and its parent's row plus one is p.
 pub fn is_child(rows: &[u32], i: usize, kind: u32, p: usize) -> bool
-    requires fact_1 { i < 262144 }
-    requires fact_2 { i * 16 + 16 ≤ length rows.now }
+    requires few { i < 262144 }
+    requires held { i * 16 + 16 ≤ length rows.now }
     ensures { Child rows.now kind p i result }
 {
-    if items::word(rows, i, 0) == kind {
-        return parent_at(rows, i) == p;
-    }
-    false
+    items::word(rows, i, 0) == kind && parent_at(rows, i) == p
 }
 
 // Whether a row from one on up to another is of a kind, and its parent's row plus one is p.
+#[tactic(auto, using(crate::proofs::Scans::scans))]
 pub fn has_child(rows: &[u32], from: usize, to: usize, kind: u32, p: usize) -> bool
-    requires fact_1 { from ≤ to }
-    requires fact_2 { to ≤ 262144 }
-    requires fact_3 { to * 16 ≤ length rows.now }
+    requires onward { from ≤ to }
+    requires few { to ≤ 262144 }
+    requires held { to * 16 ≤ length rows.now }
     ensures { SomeChild rows.now kind p from to result }
 {
-    let mut k = from;
-    while k < to {
+    for k in from..to {
         if is_child(rows, k, kind, p) {
             return true;
         }
-        k += 1;
     }
     false
 }
 
 // Whether an arg or an annotation of row p less one is among the rows from row p on up to another.
 pub fn has_children(rows: &[u32], p: usize, to: usize) -> bool
-    requires fact_1 { p ≤ to }
-    requires fact_2 { to ≤ 262144 }
-    requires fact_3 { to * 16 ≤ length rows.now }
+    requires onward { p ≤ to }
+    requires few { to ≤ 262144 }
+    requires held { to * 16 ≤ length rows.now }
     ensures { SomeChildren rows.now p to result }
 {
-    if has_child(rows, p, to, kinds::ARG, p) {
-        return true;
-    }
-    has_child(rows, p, to, kinds::ANNOTATION, p)
+    has_child(rows, p, to, kinds::ARG, p) || has_child(rows, p, to, kinds::ANNOTATION, p)
 }
 
 // The first row from one on up to another whose parent's row plus one is p, or the other.
 pub fn next_child(rows: &[u32], from: usize, to: usize, p: usize) -> usize
-    requires fact_1 { from ≤ to }
-    requires fact_2 { to ≤ 262144 }
-    requires fact_3 { to * 16 ≤ length rows.now }
+    requires onward { from ≤ to }
+    requires few { to ≤ 262144 }
+    requires held { to * 16 ≤ length rows.now }
     ensures { NextChild rows.now p from to result }
 {
-    let mut k = from;
-    while k < to {
+    for k in from..to {
         if parent_at(rows, k) == p {
             return k;
         }
-        k += 1;
     }
-    k
+    to
 }
 
 // Whether a row whose parent's row plus one is q stands in a child of row p less one that is not the last.
 fn is_stray(rows: &[u32], p: usize, last: usize, q: usize) -> bool
-    requires fact_1 { q ≤ 262144 }
-    requires fact_2 { last < 262144 }
-    requires fact_3 { q * 16 ≤ length rows.now }
+    requires few { q ≤ 262144 }
+    requires last { last < 262144 }
+    requires held { q * 16 ≤ length rows.now }
     ensures { Stray rows.now p last q result }
 {
-    if q <= p {
-        return false;
-    }
-    if parent_at(rows, q - 1) == p {
-        return q != last + 1;
-    }
-    false
+    p < q && parent_at(rows, q - 1) == p && q != last + 1
 }
 
 // Whether what stands in a child of row i stands before the next child.
 pub fn is_ordered(rows: &[u32], n: usize, i: usize) -> bool
-    requires fact_1 { Held rows.now n }
-    requires fact_2 { i < n }
+    requires rows { Held rows.now n }
+    requires within { i < n }
     ensures { Ordered rows.now n i result }
 {
     let p = i + 1;
     let mut last = i;
-    let mut k = p;
-    while k < n {
+    for k in p..n {
         let q = parent_at(rows, k);
         if q == p {
             last = k;
-            k += 1;
-        } else {
-            if is_stray(rows, p, last, q) {
-                return false;
-            }
-            k += 1;
+        } else if is_stray(rows, p, last, q) {
+            return false;
         }
     }
     true
@@ -115,42 +95,38 @@ pub fn is_ordered(rows: &[u32], n: usize, i: usize) -> bool
 
 // Where the children of row j end, itself a child of row p less one.
 pub fn last_child(rows: &[u32], n: usize, j: usize, p: usize, ordered: bool) -> usize
-    requires fact_1 { Held rows.now n }
-    requires fact_2 { j < n }
-    requires fact_3 { ChildOf rows.now n p j ordered }
+    requires rows { Held rows.now n }
+    requires within { j < n }
+    requires child { ChildOf rows.now n p j ordered }
     ensures { Last rows.now n j result }
 {
     if ordered {
-        return next_child(rows, j + 1, n, p);
+        next_child(rows, j + 1, n, p)
+    } else {
+        n
     }
-    n
 }
 
 // The first row after row i whose parent is not after row i, or n: where what stands in row i ends, in document order.
 fn run_end(rows: &[u32], n: usize, i: usize) -> usize
-    requires fact_1 { Held rows.now n }
-    requires fact_2 { i < n }
+    requires rows { Held rows.now n }
+    requires within { i < n }
     ensures { RunEnd rows.now n i result }
 {
-    let mut k = i + 1;
-    while k < n {
+    for k in i + 1..n {
         if parent_at(rows, k) <= i {
             return k;
         }
-        k += 1;
     }
-    k
+    n
 }
 
 // A row from which on none stands in row i, nor in what stands in row i: near in document order, else n.
 pub fn reach(rows: &[u32], n: usize, i: usize, ordered: bool) -> usize
-    requires fact_1 { Held rows.now n }
-    requires fact_2 { i < n }
-    requires fact_3 { outcome.Orders rows.now n ordered }
+    requires rows { Held rows.now n }
+    requires within { i < n }
+    requires order { outcome.Orders rows.now n ordered }
     ensures { Reach rows.now n i result }
 {
-    if ordered {
-        return run_end(rows, n, i);
-    }
-    n
+    if ordered { run_end(rows, n, i) } else { n }
 }

@@ -5,8 +5,8 @@ use lib.ListN.{length}
 use Rattle.breaches.proofs.Collecting.{Collecting}
 use Rattle.breaches.proofs.attributes_breach.Given as goal
 
-abbrev pub invariant-loop-a : goal.invariant-loop-a
-invariant-loop-a l = Collecting l.doc l.from l.at l.breach
+abbrev pub invariant-loop-found : goal.invariant-loop-found
+invariant-loop-found l = Collecting l.doc l.from l.at l.breach
 
-abbrev pub decreases-loop-a : goal.decreases-loop-a
-decreases-loop-a l = length l.doc - l.at
+abbrev pub decreases-loop-found : goal.decreases-loop-found
+decreases-loop-found l = length l.doc - l.at

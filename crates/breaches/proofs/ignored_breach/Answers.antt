@@ -3,12 +3,6 @@
 use Rattle.breaches.proofs.Comments.{comments}
 use Rattle.breaches.proofs.ignored_breach.Goals as goal
 
-pub overflow_add-at : goal.overflow_add-at
-overflow_add-at c = search comments
-
-pub starts_at-requires : goal.starts_at-requires
-starts_at-requires c = search comments
-
 pub comment_breach-requires : goal.comment_breach-requires
 comment_breach-requires c = search comments
 

@@ -3,23 +3,5 @@
 use Rattle.breaches.proofs.Faults.{parts}
 use Rattle.breaches.proofs.name_breach.Goals as goal
 
-pub slice_bounds-name_fault-count : goal.slice_bounds-name_fault-count
-slice_bounds-name_fault-count c = search parts
-
-pub slice_bounds-name_fault-start : goal.slice_bounds-name_fault-start
-slice_bounds-name_fault-start c = search parts
-
-pub slice_bounds-name_fault-end : goal.slice_bounds-name_fault-end
-slice_bounds-name_fault-end c = search parts
-
-pub name_fault-fault-requires : goal.name_fault-fault-requires
-name_fault-fault-requires c = search parts
-
-pub overflow_sub-to : goal.overflow_sub-to
-overflow_sub-to c = search parts
-
-pub fault_at-requires : goal.fault_at-requires
-fault_at-requires c = search parts
-
 pub returns : goal.returns
 returns c = search parts

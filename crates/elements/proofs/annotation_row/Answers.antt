@@ -1,31 +1,13 @@
--- `elements::annotation_row` meets its contract.
+-- What `elements::annotation_row` leaves to show.
 -- Assumes nothing.
 use Rattle.elements.proofs.Rows.{elements}
 use Rattle.elements.proofs.annotation_row.Goals as goal
 
-pub lacking-requires : goal.lacking-requires
-lacking-requires c = search elements
+pub returns : goal.returns
+returns c = search elements
 
 pub returns-then-name-eq0 : goal.returns-then-name-eq0
 returns-then-name-eq0 c = search elements
 
-pub lacking-requires-then-value-eq0 : goal.lacking-requires-then-value-eq0
-lacking-requires-then-value-eq0 c = search elements
-
 pub returns-then-value-eq0 : goal.returns-then-value-eq0
 returns-then-value-eq0 c = search elements
-
-pub absent-requires : goal.absent-requires
-absent-requires c = search elements
-
-pub put_row-requires : goal.put_row-requires
-put_row-requires c = search elements
-
-pub shape_of-rows : goal.shape_of-rows
-shape_of-rows c = search elements
-
-pub shape_of-text : goal.shape_of-text
-shape_of-text c = search elements
-
-pub returns : goal.returns
-returns c = search elements

@@ -1,78 +1,21 @@
--- What `interfaces::interface_children` leaves to show. Its loop is in Invariants.antt.
+-- What `interfaces::interface_children` leaves to show.
 -- Assumes nothing.
-use Prim.Native.Nat.{◌-◌}
-use Rattle.document.specs.Kinds as kinds
-use Rattle.document.proofs.Loops.{loops}
+use Rattle.std.proofs.lemmas.Result.{err_from_is_err_and}
+use Rattle.document.proofs.Loops.{loops, loop_fault, loop_close, loop_child, loop_child_fault}
 use Rattle.interfaces.proofs.interface_children.Goals as goal
 
-pub loop-refusal-init : goal.loop-refusal-init
-loop-refusal-init c = search loops
-
-pub step-requires : goal.step-requires
-step-requires c = search loops
-
-pub enum_known-refusal : goal.enum_known-refusal
-enum_known-refusal c = search loops
-
-pub shape_of-rows-in-Fault : goal.shape_of-rows-in-Fault
-shape_of-rows-in-Fault c = search loops
-
-pub shape_of-warnings-in-Fault : goal.shape_of-warnings-in-Fault
-shape_of-warnings-in-Fault c = search loops
-
-pub shape_of-text-in-Fault : goal.shape_of-text-in-Fault
-shape_of-text-in-Fault c = search loops
-
-pub returns-in-Fault : goal.returns-in-Fault
-returns-in-Fault c = search loops
-
-pub enum_known-end : goal.enum_known-end
-enum_known-end c = search loops
-
-pub moved-requires : goal.moved-requires
-moved-requires c = search loops
-
-pub shape_of-rows-in-Close : goal.shape_of-rows-in-Close
-shape_of-rows-in-Close c = search loops
-
-pub shape_of-warnings-in-Close : goal.shape_of-warnings-in-Close
-shape_of-warnings-in-Close c = search loops
-
-pub shape_of-text-in-Close : goal.shape_of-text-in-Close
-shape_of-text-in-Close c = search loops
+pub returns-in_err-closing : goal.returns-in_err-closing
+returns-in_err-closing c =
+    let p = err_from_is_err_and c.from_residual.result c.from_residual.ensures.1 in
+    rw (p.1, p.2) (loop_fault c.loop-closing.invariant.0 c.step.ensures (c.in_err-closing.was {u = tt}))
 
 pub returns-in-Close : goal.returns-in-Close
-returns-in-Close c = search loops
+returns-in-Close c = loop_close c.loop-closing.invariant.0 c.step.ensures (rw c.in-Close.is at (c.in_ok-closing.was {u = tt})) c.moved.ensures
 
-pub enum_known-c : goal.enum_known-c
-enum_known-c c = search loops
+pub returns-in_err-g-in-Start : goal.returns-in_err-g-in-Start
+returns-in_err-g-in-Start c =
+    let p = err_from_is_err_and c.from_residual-in_err-g-in-Start.result c.from_residual-in_err-g-in-Start.ensures.1 in
+    rw (p.1, p.2) (loop_child_fault c.loop-closing.invariant.0 c.step.ensures (rw c.in-Start.is at (c.in_ok-closing.was {u = tt})) c.interface_child.ensures c.moved-h.ensures (c.in_err-g-in-Start.was {u = tt}))
 
-pub moved-h-requires : goal.moved-h-requires
-moved-h-requires c = search loops
-
-pub interface_child-requires : goal.interface_child-requires
-interface_child-requires c = search loops
-
-pub enum_known-refusal-in-Fault-interface_child : goal.enum_known-refusal-in-Fault-interface_child
-enum_known-refusal-in-Fault-interface_child c = search loops
-
-pub shape_of-rows-in-Fault-interface_child : goal.shape_of-rows-in-Fault-interface_child
-shape_of-rows-in-Fault-interface_child c = search (c.loop-refusal.invariant, loops)
-
-pub shape_of-warnings-in-Fault-interface_child : goal.shape_of-warnings-in-Fault-interface_child
-shape_of-warnings-in-Fault-interface_child c = search (c.loop-refusal.invariant, loops)
-
-pub shape_of-text-in-Fault-interface_child : goal.shape_of-text-in-Fault-interface_child
-shape_of-text-in-Fault-interface_child c = search (c.loop-refusal.invariant, loops)
-
-pub returns-in-Fault-interface_child : goal.returns-in-Fault-interface_child
-returns-in-Fault-interface_child c = search (c.loop-refusal.invariant, c.step.ensures, loops)
-
-pub enum_known-k : goal.enum_known-k
-enum_known-k c = search loops
-
-pub loop-refusal-smaller : goal.loop-refusal-smaller
-loop-refusal-smaller c = search loops
-
-pub loop-refusal-preserved : goal.loop-refusal-preserved
-loop-refusal-preserved c = (search loops, search loops, search loops, search loops)
+pub loop-closing-preserved : goal.loop-closing-preserved
+loop-closing-preserved c = (loop_child c.loop-closing.invariant.0 c.step.ensures (rw c.in-Start.is at (c.in_ok-closing.was {u = tt})) c.interface_child.ensures c.moved-h.ensures (c.in_ok-g-in-Start.was {u = tt}), search loops, search loops, search loops)

@@ -9,9 +9,9 @@ use Rattle.document.specs.Outcome.{lent}
 use Rattle.document.proofs.Loops.{Sofar}
 use Rattle.interfaces.proofs.interface_children.Given as goal
 
-abbrev pub invariant-loop-refusal : goal.invariant-loop-refusal
-invariant-loop-refusal l =
+abbrev pub invariant-loop-closing : goal.invariant-loop-closing
+invariant-loop-closing l =
     Sofar l.doc kinds.in_interface true l.at l.len l.i l.initial.g (lent l.initial.rows l.initial.warnings l.initial.text) l.g (lent l.rows l.warnings l.text) × (length l.rows ≡ length l.initial.rows) × (length l.warnings ≡ length l.initial.warnings) × (length l.text ≡ length l.initial.text)
 
-abbrev pub decreases-loop-refusal : goal.decreases-loop-refusal
-decreases-loop-refusal l = length l.doc - l.g.at
+abbrev pub decreases-loop-closing : goal.decreases-loop-closing
+decreases-loop-closing l = length l.doc - l.g.at

@@ -1,59 +1,21 @@
--- What `members::annotation_children` leaves to show. Its loop is in Invariants.antt.
+-- What `members::annotation_children` leaves to show.
 -- Assumes nothing.
-use Prim.Native.Nat.{◌-◌}
-use Rattle.members.proofs.Members.{annotation_loop}
+use Rattle.std.proofs.lemmas.Result.{err_from_is_err_and}
+use Rattle.document.proofs.Loops.{loops, loop_fault, loop_close, loop_child, loop_child_fault, child_bare}
 use Rattle.members.proofs.annotation_children.Goals as goal
 
-pub loop-refusal-init : goal.loop-refusal-init
-loop-refusal-init c = search annotation_loop
-
-pub step-requires : goal.step-requires
-step-requires c = search annotation_loop
-
-pub enum_known-refusal : goal.enum_known-refusal
-enum_known-refusal c = search annotation_loop
-
-pub shape_of-warnings-in-Fault : goal.shape_of-warnings-in-Fault
-shape_of-warnings-in-Fault c = search annotation_loop
-
-pub returns-in-Fault : goal.returns-in-Fault
-returns-in-Fault c = search annotation_loop
-
-pub enum_known-end : goal.enum_known-end
-enum_known-end c = search annotation_loop
-
-pub moved-requires : goal.moved-requires
-moved-requires c = search annotation_loop
-
-pub shape_of-warnings-in-Close : goal.shape_of-warnings-in-Close
-shape_of-warnings-in-Close c = search annotation_loop
+pub returns-in_err-closing : goal.returns-in_err-closing
+returns-in_err-closing c =
+    let p = err_from_is_err_and c.from_residual.result c.from_residual.ensures.1 in
+    rw (p.1, p.2) (loop_fault c.loop-closing.invariant.0 c.step.ensures (c.in_err-closing.was {u = tt}))
 
 pub returns-in-Close : goal.returns-in-Close
-returns-in-Close c = search annotation_loop
+returns-in-Close c = loop_close c.loop-closing.invariant.0 c.step.ensures (rw c.in-Close.is at (c.in_ok-closing.was {u = tt})) c.moved.ensures
 
-pub enum_known-c : goal.enum_known-c
-enum_known-c c = search annotation_loop
+pub returns-in_err-g-in-Start : goal.returns-in_err-g-in-Start
+returns-in_err-g-in-Start c =
+    let p = err_from_is_err_and c.from_residual-in_err-g-in-Start.result c.from_residual-in_err-g-in-Start.ensures.1 in
+    rw (p.1, p.2) (loop_child_fault c.loop-closing.invariant.0 c.step.ensures (rw c.in-Start.is at (c.in_ok-closing.was {u = tt})) (child_bare (rw c.moved-h.ensures c.loop-closing.invariant.0.owner) c.skip_unsupported.ensures) c.moved-h.ensures (c.in_err-g-in-Start.was {u = tt}))
 
-pub moved-h-requires : goal.moved-h-requires
-moved-h-requires c = search annotation_loop
-
-pub skip_unsupported-requires : goal.skip_unsupported-requires
-skip_unsupported-requires c = search annotation_loop
-
-pub enum_known-refusal-in-Fault-skip_unsupported : goal.enum_known-refusal-in-Fault-skip_unsupported
-enum_known-refusal-in-Fault-skip_unsupported c = search annotation_loop
-
-pub shape_of-warnings-in-Fault-skip_unsupported : goal.shape_of-warnings-in-Fault-skip_unsupported
-shape_of-warnings-in-Fault-skip_unsupported c = search annotation_loop
-
-pub returns-in-Fault-skip_unsupported : goal.returns-in-Fault-skip_unsupported
-returns-in-Fault-skip_unsupported c = search annotation_loop
-
-pub enum_known-k : goal.enum_known-k
-enum_known-k c = search annotation_loop
-
-pub loop-refusal-smaller : goal.loop-refusal-smaller
-loop-refusal-smaller c = search annotation_loop
-
-pub loop-refusal-preserved : goal.loop-refusal-preserved
-loop-refusal-preserved c = (search annotation_loop, search annotation_loop)
+pub loop-closing-preserved : goal.loop-closing-preserved
+loop-closing-preserved c = (loop_child c.loop-closing.invariant.0 c.step.ensures (rw c.in-Start.is at (c.in_ok-closing.was {u = tt})) (child_bare (rw c.moved-h.ensures c.loop-closing.invariant.0.owner) c.skip_unsupported.ensures) c.moved-h.ensures (c.in_ok-g-in-Start.was {u = tt}), search loops)

@@ -1,51 +1,17 @@
--- `members::arg` meets its contract.
+-- What `members::arg` leaves to show.
 -- Assumes nothing.
-use Rattle.members.proofs.Members.{elements}
+use mathlib.Core.Path.{refl}
+use Rattle.std.proofs.lemmas.Result.{err_from_is_err_and}
+use Rattle.document.proofs.Openings.{opening_fault, opening_closes, opening_children}
 use Rattle.members.proofs.arg.Goals as goal
 
-pub arg_row-requires : goal.arg_row-requires
-arg_row-requires c = search elements
-
-pub enum_known-refusal : goal.enum_known-refusal
-enum_known-refusal c = search elements
-
-pub enum_known-g : goal.enum_known-g
-enum_known-g c = search elements
-
-pub shape_of-rows-then-c : goal.shape_of-rows-then-c
-shape_of-rows-then-c c = search elements
-
-pub shape_of-text-then-c : goal.shape_of-text-then-c
-shape_of-text-then-c c = search elements
+pub returns-in_err-g : goal.returns-in_err-g
+returns-in_err-g c =
+    let p = err_from_is_err_and c.from_residual.result c.from_residual.ensures.1 in
+    rw (p.1, p.2) (opening_fault c.arg_row.ensures (c.in_err-g.was {u = tt}))
 
 pub returns-then-c : goal.returns-then-c
-returns-then-c c = search elements
+returns-then-c c = opening_closes c.arg_row.ensures (c.in_ok-g.was {u = tt}) refl c.if-c.true
 
-pub value_children-requires : goal.value_children-requires
-value_children-requires c = record {
-  fact_1 = search elements;
-  fact_2 = search elements;
-  fact_3 = search elements;
-  fact_4 = search elements;
-}
-
-pub shape_of-rows-in-Fault : goal.shape_of-rows-in-Fault
-shape_of-rows-in-Fault c = search elements
-
-pub shape_of-text-in-Fault : goal.shape_of-text-in-Fault
-shape_of-text-in-Fault c = search elements
-
-pub returns-in-Fault : goal.returns-in-Fault
-returns-in-Fault c = search elements
-
-pub shape_of-rows-else-c : goal.shape_of-rows-else-c
-shape_of-rows-else-c c = search elements
-
-pub shape_of-warnings : goal.shape_of-warnings
-shape_of-warnings c = search elements
-
-pub shape_of-text-else-c : goal.shape_of-text-else-c
-shape_of-text-else-c c = search elements
-
-pub returns-else-c : goal.returns-else-c
-returns-else-c c = search elements
+pub returns : goal.returns
+returns c = opening_children c.arg_row.ensures (c.in_ok-g.was {u = tt}) refl c.if-c.false refl c.value_children.ensures

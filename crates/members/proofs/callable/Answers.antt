@@ -1,51 +1,17 @@
--- `members::callable` meets its contract.
+-- What `members::callable` leaves to show.
 -- Assumes nothing.
-use Rattle.members.proofs.Members.{callables}
+use Rattle.std.proofs.lemmas.Result.{err_from_is_err_and}
+use Rattle.document.proofs.Openings.{opening_fault}
+use Rattle.members.proofs.Members.{callable_closes, callable_children}
 use Rattle.members.proofs.callable.Goals as goal
 
-pub callable_row-requires : goal.callable_row-requires
-callable_row-requires c = search callables
-
-pub enum_known-refusal : goal.enum_known-refusal
-enum_known-refusal c = search callables
-
-pub enum_known-g : goal.enum_known-g
-enum_known-g c = search callables
-
-pub shape_of-rows-then-c : goal.shape_of-rows-then-c
-shape_of-rows-then-c c = search callables
-
-pub shape_of-text-then-c : goal.shape_of-text-then-c
-shape_of-text-then-c c = search callables
+pub returns-in_err-g : goal.returns-in_err-g
+returns-in_err-g c =
+    let p = err_from_is_err_and c.from_residual.result c.from_residual.ensures.1 in
+    rw (p.1, p.2) (opening_fault c.callable_row.ensures (c.in_err-g.was {u = tt}))
 
 pub returns-then-c : goal.returns-then-c
-returns-then-c c = search callables
+returns-then-c c = callable_closes c.requires.of_kind c.callable_row.ensures (c.in_ok-g.was {u = tt}) c.if-c.true
 
-pub callable_children-requires : goal.callable_children-requires
-callable_children-requires c = record {
-  fact_1 = search callables;
-  fact_2 = search callables;
-  fact_3 = search callables;
-  fact_4 = search callables;
-}
-
-pub shape_of-rows-in-Fault : goal.shape_of-rows-in-Fault
-shape_of-rows-in-Fault c = search callables
-
-pub shape_of-text-in-Fault : goal.shape_of-text-in-Fault
-shape_of-text-in-Fault c = search callables
-
-pub returns-in-Fault : goal.returns-in-Fault
-returns-in-Fault c = search callables
-
-pub shape_of-rows-else-c : goal.shape_of-rows-else-c
-shape_of-rows-else-c c = search callables
-
-pub shape_of-warnings : goal.shape_of-warnings
-shape_of-warnings c = search callables
-
-pub shape_of-text-else-c : goal.shape_of-text-else-c
-shape_of-text-else-c c = search callables
-
-pub returns-else-c : goal.returns-else-c
-returns-else-c c = search (c.requires.fact_3, callables)
+pub returns : goal.returns
+returns c = callable_children c.requires.of_kind c.callable_row.ensures (c.in_ok-g.was {u = tt}) c.if-c.false c.callable_children.ensures

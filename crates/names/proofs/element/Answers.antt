@@ -1,22 +1,10 @@
--- `names::element` meets its contract.
+-- `names::element` meets its contract: the run of the bytes of an element, where the first is no digit.
 -- Assumes nothing.
+use Rattle.std.proofs.Common.{rules}
+use Rattle.slices.specs.Run.{Run}
+use Rattle.names.specs.Names.{element_byte}
 use Rattle.names.proofs.Names.{leads}
 use Rattle.names.proofs.element.Goals as goal
 
-pub returns-then-s-from : goal.returns-then-s-from
-returns-then-s-from c = search leads
-
-pub bounds-s-from : goal.bounds-s-from
-bounds-s-from c = search leads
-
-pub is_digit-requires : goal.is_digit-requires
-is_digit-requires c = search leads
-
-pub returns-then-is_digit : goal.returns-then-is_digit
-returns-then-is_digit c = search leads
-
-pub run_end-requires : goal.run_end-requires
-run_end-requires c = search leads
-
 pub returns : goal.returns
-returns c = search leads
+returns c = let run : Run element_byte c.args.s.now c.args.from c.run_end.result = c.run_end.ensures element_byte (λ b r h e. search rules) in search leads

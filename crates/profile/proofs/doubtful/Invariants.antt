@@ -1,11 +1,7 @@
 -- `profile::doubtful` meets its contract. The invariant: no such byte was passed, or it was told.
 -- Assumes nothing.
-use Prim.Native.Nat.{◌-◌}
 use Rattle.profile.specs.Steps.{Clear}
 use Rattle.profile.proofs.doubtful.Given as goal
 
 abbrev pub invariant-loop-i : goal.invariant-loop-i
 invariant-loop-i l = Clear l.s l.from l.i l.hit
-
-abbrev pub decreases-loop-i : goal.decreases-loop-i
-decreases-loop-i l = 32 - l.i

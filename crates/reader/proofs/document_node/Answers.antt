@@ -1,52 +1,16 @@
--- `reader::document_node` meets its contract.
+-- What `reader::document_node` leaves to show.
 -- Assumes nothing.
-use Rattle.reader.proofs.Rooted.{firsts}
+use Rattle.std.proofs.lemmas.Result.{err_from_is_err_and}
+use Rattle.reader.proofs.Rooted.{first_fault, first_end, first_close}
 use Rattle.reader.proofs.document_node.Goals as goal
 
-pub token-requires : goal.token-requires
-token-requires c = search firsts
-
-pub enum_known-x : goal.enum_known-x
-enum_known-x c = search firsts
-
-pub enum_known-place : goal.enum_known-place
-enum_known-place c = search firsts
-
-pub bare-requires : goal.bare-requires
-bare-requires c = search firsts
-
-pub enum_known-c : goal.enum_known-c
-enum_known-c c = search firsts
-
-pub overflow_add-c : goal.overflow_add-c
-overflow_add-c c = search firsts
-
-pub bare-requires-in-Close : goal.bare-requires-in-Close
-bare-requires-in-Close c = search firsts
-
-pub enum_known-c-in-Start-1 : goal.enum_known-c-in-Start-1
-enum_known-c-in-Start-1 c = search firsts
-
-pub root_node-requires : goal.root_node-requires
-root_node-requires c = search firsts
-
-pub returns-in-Fault : goal.returns-in-Fault
-returns-in-Fault c = search firsts
+pub returns-in_err-place : goal.returns-in_err-place
+returns-in_err-place c =
+    let p = err_from_is_err_and c.from_residual.result c.from_residual.ensures.1 in
+    rw (p.1, p.2) (first_fault c.token.ensures (c.in_err-place.was {u = tt}))
 
 pub returns-in-End : goal.returns-in-End
-returns-in-End c = search firsts
+returns-in-End c = first_end c.token.ensures (rw c.in-End.is at (c.in_ok-place.was {u = tt})) c.bare.ensures
 
 pub returns-in-Close : goal.returns-in-Close
-returns-in-Close c = search firsts
-
-pub shape_of-rows : goal.shape_of-rows
-shape_of-rows c = search firsts
-
-pub shape_of-warnings : goal.shape_of-warnings
-shape_of-warnings c = search firsts
-
-pub shape_of-text : goal.shape_of-text
-shape_of-text c = search firsts
-
-pub returns-in-Start : goal.returns-in-Start
-returns-in-Start c = search firsts
+returns-in-Close c = first_close c.token.ensures (rw c.in-Close.is at (c.in_ok-place.was {u = tt})) c.bare-in-Close.ensures

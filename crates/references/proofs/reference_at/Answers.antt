@@ -1,40 +1,14 @@
 -- `references::reference_at` meets its contract.
 -- Assumes nothing.
-use Rattle.references.proofs.Pieces.{pieces}
+use native.Mathlib.Omega.{arith}
+use Rattle.std.proofs.lemmas.Result.{err_from_is_err_and}
+use Rattle.references.proofs.Pieces.{piece_bad, piece_char}
 use Rattle.references.proofs.reference_at.Goals as goal
 
-pub overflow_add-from : goal.overflow_add-from
-overflow_add-from c = search pieces
+pub returns-in_err-c : goal.returns-in_err-c
+returns-in_err-c c =
+    let p = err_from_is_err_and c.from_residual.result c.from_residual.ensures.1 in
+    rw (p.1, p.2) (piece_bad c.args.v.now c.args.at c.requires.1 c.find-end.ensures (omega arith) c.reference_of.ensures c.in_err-c.was)
 
-pub find-end-requires : goal.find-end-requires
-find-end-requires c = search pieces
-
-pub returns-then-v-end : goal.returns-then-v-end
-returns-then-v-end c = search pieces
-
-pub slice_bounds-reference_of-count : goal.slice_bounds-reference_of-count
-slice_bounds-reference_of-count c = search pieces
-
-pub slice_bounds-reference_of-start : goal.slice_bounds-reference_of-start
-slice_bounds-reference_of-start c = search pieces
-
-pub slice_bounds-reference_of-end : goal.slice_bounds-reference_of-end
-slice_bounds-reference_of-end c = search pieces
-
-pub reference_of-requires : goal.reference_of-requires
-reference_of-requires c = search pieces
-
-pub enum_known-c : goal.enum_known-c
-enum_known-c c = search pieces
-
-pub overflow_add-result : goal.overflow_add-result
-overflow_add-result c = search pieces
-
-pub enum_known-n : goal.enum_known-n
-enum_known-n c = search pieces
-
-pub returns-in-Character : goal.returns-in-Character
-returns-in-Character c = search pieces
-
-pub returns-in-Bad : goal.returns-in-Bad
-returns-in-Bad c = search pieces
+pub returns : goal.returns
+returns c = piece_char c.args.v.now c.args.at c.requires.1 c.find-end.ensures (omega arith) c.reference_of.ensures c.in_ok-c.was

@@ -1,22 +1,14 @@
 -- `scan::name_at` meets its contract.
 -- Assumes nothing.
-use Rattle.scan.proofs.Prefixes.{named}
+use Rattle.scan.proofs.Prefixes.{named, name_ends, name_stops}
+use Rattle.scan.proofs.name_at.Goals.{else-end-s-via-then-end-s+else-s-end-eq58, else-end-s-via-else-end-s}
 use Rattle.scan.proofs.name_at.Goals as goal
-
-pub nc_name_end-end-requires : goal.nc_name_end-end-requires
-nc_name_end-end-requires c = search named
-
-pub returns-then-s-end : goal.returns-then-s-end
-returns-then-s-end c = search named
-
-pub bounds-s-end : goal.bounds-s-end
-bounds-s-end c = search named
-
-pub prefixed-requires : goal.prefixed-requires
-prefixed-requires c = search named
 
 pub returns-then-s-end-eq58 : goal.returns-then-s-end-eq58
 returns-then-s-end-eq58 c = search named
 
 pub returns : goal.returns
-returns c = search named
+returns c = elim c.else-end-s.branch [
+  | else-end-s-via-then-end-s+else-s-end-eq58 w ↦ name_stops c.nc_name_end-end.ensures w.if-s-end-eq58.false
+  | else-end-s-via-else-end-s w ↦ name_ends c.nc_name_end-end.ensures w.if-end-s.false
+]

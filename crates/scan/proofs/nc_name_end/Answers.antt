@@ -1,29 +1,8 @@
--- What `scan::nc_name_end` leaves to show. Its loop is in Invariants.antt.
+-- `scan::nc_name_end` meets its contract: the run of the bytes of the class.
 -- Assumes nothing.
-use Prim.Native.Nat.{◌-◌}
-use Rattle.slices.proofs.Runs.{runs}
+use Rattle.std.proofs.Common.{rules}
+use Rattle.scan.specs.Classes.{nc_name_byte}
 use Rattle.scan.proofs.nc_name_end.Goals as goal
 
-pub loop-at-init : goal.loop-at-init
-loop-at-init c = search runs
-
-pub bounds-s-at : goal.bounds-s-at
-bounds-s-at c = search runs
-
-pub is_nc_name-requires : goal.is_nc_name-requires
-is_nc_name-requires c = search runs
-
-pub overflow_add-at : goal.overflow_add-at
-overflow_add-at c = search runs
-
-pub loop-at-smaller : goal.loop-at-smaller
-loop-at-smaller c = search runs
-
-pub loop-at-preserved : goal.loop-at-preserved
-loop-at-preserved c = search runs
-
-pub returns-else-is_nc_name : goal.returns-else-is_nc_name
-returns-else-is_nc_name c = search runs
-
 pub returns : goal.returns
-returns c = search runs
+returns c = c.run_end.ensures nc_name_byte (λ b r h e. search rules)

@@ -5,8 +5,8 @@ use lib.ListN.{length}
 use Rattle.scan.proofs.Prefixes.{Prefixed}
 use Rattle.scan.proofs.prefixed.Given as goal
 
-abbrev pub invariant-loop-at : goal.invariant-loop-at
-invariant-loop-at l = Prefixed l.s l.first l.last l.at
+abbrev pub invariant-loop-end : goal.invariant-loop-end
+invariant-loop-end l = Prefixed l.s l.first l.last l.end
 
-abbrev pub decreases-loop-at : goal.decreases-loop-at
-decreases-loop-at l = length l.s - l.at
+abbrev pub decreases-loop-end : goal.decreases-loop-end
+decreases-loop-end l = length l.s - l.end

@@ -4,8 +4,8 @@ use Rattle.std.proofs.Common.{◌-◌}
 use Rattle.sheets.proofs.Filing.{Going}
 use Rattle.sheet.proofs.add_names.Given as goal
 
-abbrev pub invariant-loop-from : goal.invariant-loop-from
-invariant-loop-from g l = Going l.list l.initial.counts l.counts l.at l.names
+abbrev pub invariant-loop-place : goal.invariant-loop-place
+invariant-loop-place g l = Going l.list l.initial.counts l.counts l.at l.names
 
-abbrev pub decreases-loop-from : goal.decreases-loop-from
-decreases-loop-from g l = 512 - l.names
+abbrev pub decreases-loop-place : goal.decreases-loop-place
+decreases-loop-place g l = 512 - l.names

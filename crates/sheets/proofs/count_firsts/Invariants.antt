@@ -1,10 +1,10 @@
 -- `sheets::count_firsts` meets its contract. The invariant: what is left to count makes of the words what was asked.
 -- Assumes nothing.
+use Rattle.std.specs.Iterator.Adapters.{take_count, take_source}
+use Rattle.std.specs.Slice.Iter.{chunks_rest, chunks_size}
 use Rattle.sheets.proofs.Counting.{Counting}
 use Rattle.sheets.proofs.count_firsts.Given as goal
 
-abbrev pub invariant-loop-at : goal.invariant-loop-at
-invariant-loop-at l = Counting l.base l.width l.n l.words l.initial.counts l.counts l.left l.at
-
-abbrev pub decreases-loop-at : goal.decreases-loop-at
-decreases-loop-at l = l.left
+abbrev pub invariant-loop-record : goal.invariant-loop-record
+invariant-loop-record l =
+    Counting l.base l.width l.n l.words l.initial.counts l.counts (take_count l.record-iterator) (chunks_size (take_source l.record-iterator)) (chunks_rest (take_source l.record-iterator))

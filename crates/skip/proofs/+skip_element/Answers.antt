@@ -1,17 +1,22 @@
 -- What `skip::skip_element` leaves to show. Its loop and its measure are in Invariants.antt.
 -- Assumes nothing.
-use Rattle.skip.proofs.Passing.{pass_inner, pass_inner_fault, passes, deep}
-use Rattle.std.proofs.Common.{rules}
+use Rattle.std.proofs.lemmas.Result.{err_from_is_err_and}
+use Rattle.skip.proofs.Passing.{pass_close, pass_self, pass_deep, pass_inner, pass_inner_fault}
 use Rattle.skip.proofs.+skip_element.Goals as goal
 
-pub loop-refusal-preserved-then-t : goal.loop-refusal-preserved-then-t
-loop-refusal-preserved-then-t t c = search passes
+pub returns-in-Close : goal.returns-in-Close
+returns-in-Close t c = pass_close c.loop-closing.invariant c.step.ensures (rw c.in-Close.is at (c.in_ok-closing.was {u = tt}))
+
+pub loop-closing-preserved-then-t : goal.loop-closing-preserved-then-t
+loop-closing-preserved-then-t t c = pass_self c.loop-closing.invariant c.step.ensures (rw c.in-Start.is at (c.in_ok-closing.was {u = tt})) c.if-t.true
 
 pub returns-then-depth-eq1024 : goal.returns-then-depth-eq1024
-returns-then-depth-eq1024 t c = search deep
+returns-then-depth-eq1024 t c = pass_deep c.loop-closing.invariant c.step.ensures (rw c.in-Start.is at (c.in_ok-closing.was {u = tt})) c.if-t.false c.if-depth-eq1024.true c.bare.ensures
 
-pub returns-in-Fault-skip_element : goal.returns-in-Fault-skip_element
-returns-in-Fault-skip_element t c = search (c.in-Start.ensures, c.loop-refusal.invariant, c.skip_element.ensures, c.requires, pass_inner_fault, rules)
+pub returns-in_err-inner-in-Start : goal.returns-in_err-inner-in-Start
+returns-in_err-inner-in-Start t c =
+    let p = err_from_is_err_and c.from_residual-in_err-inner-in-Start.result c.from_residual-in_err-inner-in-Start.ensures.1 in
+    rw (p.1, p.2) (pass_inner_fault c.loop-closing.invariant c.step.ensures (rw c.in-Start.is at (c.in_ok-closing.was {u = tt})) c.if-t.false c.if-depth-eq1024.false c.requires.deep c.skip_element.ensures (c.in_err-inner-in-Start.was {u = tt}))
 
-pub loop-refusal-preserved : goal.loop-refusal-preserved
-loop-refusal-preserved t c = search (c.in-Start.ensures, c.loop-refusal.invariant, c.skip_element.ensures, c.requires, pass_inner, rules)
+pub loop-closing-preserved : goal.loop-closing-preserved
+loop-closing-preserved t c = pass_inner c.loop-closing.invariant c.step.ensures (rw c.in-Start.is at (c.in_ok-closing.was {u = tt})) c.if-t.false c.if-depth-eq1024.false c.requires.deep c.skip_element.ensures (c.in_ok-inner-in-Start.was {u = tt})

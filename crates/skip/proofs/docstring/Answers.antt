@@ -1,37 +1,19 @@
--- `skip::docstring` meets its contract.
+-- What `skip::docstring` leaves to show.
 -- Assumes nothing.
-use Rattle.skip.proofs.Captured.{documents}
+use Rattle.std.proofs.lemmas.Result.{err_from_is_err_and}
+use Rattle.skip.proofs.Captured.{documents, captured_fault, captured_formed, captured_closed}
 use Rattle.skip.proofs.docstring.Goals as goal
 
 pub returns-then-c : goal.returns-then-c
 returns-then-c c = search documents
 
-pub skip_element-requires : goal.skip_element-requires
-skip_element-requires c = search documents
+pub capture-requires-clause-formed : goal.capture-requires-clause-formed
+capture-requires-clause-formed c = captured_formed c.requires.ready c.if-c.false c.skip_element.ensures (c.in_ok-closing.was {u = tt})
 
-pub enum_known-refusal : goal.enum_known-refusal
-enum_known-refusal c = search documents
+pub returns-in_err-closing : goal.returns-in_err-closing
+returns-in_err-closing c =
+    let p = err_from_is_err_and c.from_residual.result c.from_residual.ensures.1 in
+    rw (p.1, p.2) (captured_fault c.requires.ready c.if-c.false c.skip_element.ensures (c.in_err-closing.was {u = tt}))
 
-pub enum_known-lt : goal.enum_known-lt
-enum_known-lt c = search documents
-
-pub capture-requires : goal.capture-requires
-capture-requires c = record {
-  fact_1 = search documents;
-  fact_2 = search documents;
-  fact_3 = search documents;
-  fact_4 = search documents;
-  fact_5 = search documents;
-}
-
-pub moved-requires : goal.moved-requires
-moved-requires c = search documents
-
-pub returns-in-Fault : goal.returns-in-Fault
-returns-in-Fault c = search documents
-
-pub shape_of-rows : goal.shape_of-rows
-shape_of-rows c = search documents
-
-pub returns-in-Closed : goal.returns-in-Closed
-returns-in-Closed c = search documents
+pub returns : goal.returns
+returns c = captured_closed c.requires.ready c.if-c.false c.skip_element.ensures (c.in_ok-closing.was {u = tt}) c.requires.owner c.capture.ensures c.moved.ensures

@@ -1,11 +1,11 @@
--- `slices::blocks` meets its contract: no byte up to here is b.
+-- `slices::blocks` meets its contract: each place up to here lies in a block that passes.
 -- Assumes nothing.
 use Rattle.std.proofs.Common.{◌-◌, length}
-use Rattle.slices.specs.Run.{Without}
+use Rattle.slices.specs.Run.{Blocks}
 use Rattle.slices.proofs.blocks.Given as goal
 
 abbrev pub invariant-loop-at : goal.invariant-loop-at
-invariant-loop-at l = Without l.s l.b l.from l.at
+invariant-loop-at g l = Blocks (goal.F-post g l.test) l.s l.from l.n l.at
 
 abbrev pub decreases-loop-at : goal.decreases-loop-at
-decreases-loop-at l = length l.s - l.at
+decreases-loop-at g l = length l.s - l.at

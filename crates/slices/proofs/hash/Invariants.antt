@@ -1,11 +1,7 @@
--- `slices::hash` meets its contract.
+-- `slices::hash` meets its contract: what is left to hash from here makes the hash of all.
 -- Assumes nothing.
 use Rattle.slices.proofs.Hashing.{Hashing}
-use Rattle.std.proofs.Common.{◌-◌, length}
 use Rattle.slices.proofs.hash.Given as goal
 
-abbrev pub invariant-loop-i : goal.invariant-loop-i
-invariant-loop-i l = Hashing l.s l.i l.h
-
-abbrev pub decreases-loop-i : goal.decreases-loop-i
-decreases-loop-i l = length l.s - l.i
+abbrev pub invariant-loop-b : goal.invariant-loop-b
+invariant-loop-b l = Hashing l.s l.b-index l.h

@@ -1,12 +1,7 @@
 -- `tables::copy_words` meets its contract. The invariant: the stores that are left make of the present table what the contract asks.
 -- Assumes nothing.
-use Prim.Native.Nat.{◌-◌}
-use lib.ListN.{length}
 use Rattle.tables.proofs.Tables.{Copying}
 use Rattle.tables.proofs.copy_words.Given as goal
 
 abbrev pub invariant-loop-i : goal.invariant-loop-i
 invariant-loop-i l = Copying l.base l.words l.initial.table l.table l.i
-
-abbrev pub decreases-loop-i : goal.decreases-loop-i
-decreases-loop-i l = length l.words - l.i

@@ -1,73 +1,16 @@
--- `tags::step` meets its contract.
+-- What `tags::step` leaves to show.
 -- Assumes nothing.
-use Rattle.tags.proofs.Stepping.{stepping}
+use Rattle.std.proofs.lemmas.Result.{err_from_is_err_and}
+use Rattle.tags.proofs.Stepping.{step_fault, step_end, step_start}
 use Rattle.tags.proofs.step.Goals as goal
 
-pub token-requires : goal.token-requires
-token-requires c = search stepping
-
-pub enum_known-x : goal.enum_known-x
-enum_known-x c = search stepping
-
-pub enum_known-place : goal.enum_known-place
-enum_known-place c = search stepping
-
-pub new-requires : goal.new-requires
-new-requires c = search stepping
-
-pub showing-requires : goal.showing-requires
-showing-requires c = search stepping
-
-pub enum_known-c : goal.enum_known-c
-enum_known-c c = search stepping
-
-pub overflow_add-open : goal.overflow_add-open
-overflow_add-open c = search stepping
-
-pub overflow_add-close : goal.overflow_add-close
-overflow_add-close c = search stepping
-
-pub slice_bounds-equal-count : goal.slice_bounds-equal-count
-slice_bounds-equal-count c = search stepping
-
-pub slice_bounds-equal-start : goal.slice_bounds-equal-start
-slice_bounds-equal-start c = search stepping
-
-pub slice_bounds-equal-end : goal.slice_bounds-equal-end
-slice_bounds-equal-end c = search stepping
-
-pub slice_bounds-equal-count-in-Close : goal.slice_bounds-equal-count-in-Close
-slice_bounds-equal-count-in-Close c = search stepping
-
-pub slice_bounds-equal-start-in-Close : goal.slice_bounds-equal-start-in-Close
-slice_bounds-equal-start-in-Close c = search stepping
-
-pub slice_bounds-equal-end-in-Close : goal.slice_bounds-equal-end-in-Close
-slice_bounds-equal-end-in-Close c = search stepping
-
-pub equal-requires : goal.equal-requires
-equal-requires c = search stepping
-
-pub returns-then-equal : goal.returns-then-equal
-returns-then-equal c = search stepping
-
-pub new-first-requires : goal.new-first-requires
-new-first-requires c = search stepping
-
-pub new-second-requires : goal.new-second-requires
-new-second-requires c = search stepping
-
-pub enum_known-c-in-Start-1 : goal.enum_known-c-in-Start-1
-enum_known-c-in-Start-1 c = search stepping
-
-pub returns-in-Start : goal.returns-in-Start
-returns-in-Start c = search stepping
-
-pub returns-in-Fault : goal.returns-in-Fault
-returns-in-Fault c = search stepping
+pub returns-in_err-place : goal.returns-in_err-place
+returns-in_err-place c =
+    let p = err_from_is_err_and c.from_residual.result c.from_residual.ensures.1 in
+    rw (p.1, p.2) (step_fault c.args.at c.args.len c.token.ensures (c.in_err-place.was {u = tt}))
 
 pub returns-in-End : goal.returns-in-End
-returns-in-End c = search stepping
+returns-in-End c = step_end c.args.at c.args.len c.token.ensures c.requires.1 (rw c.in-End.is at (c.in_ok-place.was {u = tt})) c.new.ensures c.showing.ensures
 
-pub returns-else-equal : goal.returns-else-equal
-returns-else-equal c = search stepping
+pub returns-in-Start : goal.returns-in-Start
+returns-in-Start c = step_start c.args.at c.args.len c.token.ensures (rw c.in-Start.is at (c.in_ok-place.was {u = tt}))

@@ -1,28 +1,14 @@
--- `tags::token` meets its contract.
+-- What `tags::token` leaves to show.
 -- Assumes nothing.
-use Rattle.tags.proofs.Nexts.{nexts}
+use native.Mathlib.Omega.{arith}
+use Rattle.std.proofs.lemmas.Result.{err_from_is_err_and}
+use Rattle.tags.proofs.Nexts.{token_fault, token_tag}
 use Rattle.tags.proofs.token.Goals as goal
 
-pub ignorable-requires : goal.ignorable-requires
-ignorable-requires c = search nexts
+pub returns-in_err-at : goal.returns-in_err-at
+returns-in_err-at c =
+    let p = err_from_is_err_and c.from_residual.result c.from_residual.ensures.1 in
+    rw p.1 (token_fault c.ignorable.ensures c.in_err-at.was p.2)
 
-pub enum_known-number : goal.enum_known-number
-enum_known-number c = search nexts
-
-pub bare-requires : goal.bare-requires
-bare-requires c = search nexts
-
-pub enum_known-at : goal.enum_known-at
-enum_known-at c = search nexts
-
-pub returns-then-doc-at : goal.returns-then-doc-at
-returns-then-doc-at c = search nexts
-
-pub tag-requires : goal.tag-requires
-tag-requires c = search nexts
-
-pub returns-in-Fault : goal.returns-in-Fault
-returns-in-Fault c = search nexts
-
-pub returns-else-doc-at : goal.returns-else-doc-at
-returns-else-doc-at c = search nexts
+pub returns : goal.returns
+returns c = token_tag c.ignorable.ensures c.in_ok-at.was (omega arith) c.tag.ensures

@@ -1,49 +1,19 @@
 -- `telepathy::rest` meets its contract.
 -- Assumes nothing.
-use Rattle.telepathy.proofs.Judgement.{rests}
+use Rattle.std.proofs.lemmas.Result.{err_from_is_err_and}
+use Rattle.telepathy.proofs.Judgement.{rest_fault, rest_done, rests}
 use Rattle.telepathy.proofs.rest.Goals as goal
-
-pub content-requires : goal.content-requires
-content-requires c = record {
-  fact_1 = search rests;
-  fact_2 = search rests;
-  fact_3 = search rests;
-  fact_4 = search rests;
-  fact_5 = search rests;
-}
-
-pub enum_known-refusal : goal.enum_known-refusal
-enum_known-refusal c = search rests
-
-pub enum_known-h : goal.enum_known-h
-enum_known-h c = search rests
 
 pub judge-requires : goal.judge-requires
 judge-requires c = record {
-  fact_1 = search rests;
-  fact_2 = search rests;
+  judging = search rests;
+  of_kind = search rests;
 }
 
-pub shape_of-rows-in-Fault : goal.shape_of-rows-in-Fault
-shape_of-rows-in-Fault c = search rests
+pub returns-in_err-inner : goal.returns-in_err-inner
+returns-in_err-inner c =
+    let p = err_from_is_err_and c.from_residual.result c.from_residual.ensures.1 in
+    rw (p.1, p.2) (rest_fault c.content.ensures (c.in_err-inner.was {u = tt}))
 
-pub shape_of-warnings-in-Fault : goal.shape_of-warnings-in-Fault
-shape_of-warnings-in-Fault c = search rests
-
-pub shape_of-text-in-Fault : goal.shape_of-text-in-Fault
-shape_of-text-in-Fault c = search rests
-
-pub returns-in-Fault : goal.returns-in-Fault
-returns-in-Fault c = search rests
-
-pub shape_of-rows-in-Done : goal.shape_of-rows-in-Done
-shape_of-rows-in-Done c = search rests
-
-pub shape_of-warnings-in-Done : goal.shape_of-warnings-in-Done
-shape_of-warnings-in-Done c = search rests
-
-pub shape_of-text-in-Done : goal.shape_of-text-in-Done
-shape_of-text-in-Done c = search rests
-
-pub returns-in-Done : goal.returns-in-Done
-returns-in-Done c = search rests
+pub returns : goal.returns
+returns c = rest_done c.content.ensures (c.in_ok-inner.was {u = tt}) c.judge.ensures

@@ -1,11 +1,7 @@
 -- `utf16::put_block` meets its contract.
 -- Assumes nothing.
-use Prim.Native.Nat.{◌-◌}
 use Rattle.utf16.proofs.Decoding.{Blocks}
 use Rattle.utf16.proofs.put_block.Given as goal
 
 abbrev pub invariant-loop-i : goal.invariant-loop-i
 invariant-loop-i l = Blocks l.big l.raw l.at l.n l.initial.out l.out l.i l.m
-
-abbrev pub decreases-loop-i : goal.decreases-loop-i
-decreases-loop-i l = 32 - l.i

@@ -1,11 +1,7 @@
 -- `utf16::within` meets its contract.
 -- Assumes nothing.
-use Prim.Native.Nat.{◌-◌}
 use Rattle.utf16.proofs.Limits.{Limiting}
 use Rattle.utf16.proofs.within.Given as goal
 
 abbrev pub invariant-loop-i : goal.invariant-loop-i
 invariant-loop-i l = Limiting l.raw l.from l.first l.second l.over l.i
-
-abbrev pub decreases-loop-i : goal.decreases-loop-i
-decreases-loop-i l = 32 - l.i

@@ -1,11 +1,7 @@
 -- `writers::put_annotations` meets its contract: what is put and what is left are the annotations asked for.
 -- Assumes nothing.
-use Prim.Native.Nat.{◌-◌}
 use Rattle.writers.proofs.Texts.{Annotating}
 use Rattle.writers.proofs.put_annotations.Given as goal
 
 abbrev pub invariant-loop-k : goal.invariant-loop-k
-invariant-loop-k l = Annotating l.document l.text l.rows l.p l.from l.to l.n l.initial.out l.out l.k l.m
-
-abbrev pub decreases-loop-k : goal.decreases-loop-k
-decreases-loop-k l = l.to - l.k
+invariant-loop-k l = Annotating l.source.document.now l.source.text.now l.source.rows.now l.p l.from l.to l.n l.initial.out l.out l.k l.m

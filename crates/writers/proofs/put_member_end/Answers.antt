@@ -3,20 +3,8 @@
 use Rattle.writers.proofs.Members.{tags}
 use Rattle.writers.proofs.put_member_end.Goals as goal
 
-pub put_text-requires : goal.put_text-requires
-put_text-requires c = search tags
-
-pub shape_of-out-then-kind-eq-METHOD : goal.shape_of-out-then-kind-eq-METHOD
-shape_of-out-then-kind-eq-METHOD c = search tags
-
 pub returns-then-kind-eq-METHOD : goal.returns-then-kind-eq-METHOD
 returns-then-kind-eq-METHOD c = search tags
 
-pub put_text-requires-2 : goal.put_text-requires-2
-put_text-requires-2 c = search tags
-
-pub shape_of-out : goal.shape_of-out
-shape_of-out c = search tags
-
-pub returns : goal.returns
-returns c = search tags
+pub returns-else-kind-eq-METHOD : goal.returns-else-kind-eq-METHOD
+returns-else-kind-eq-METHOD c = search tags

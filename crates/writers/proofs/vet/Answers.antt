@@ -2,29 +2,22 @@
 -- Assumes nothing.
 use borrow.Author.Rules.{rules}
 use Rattle.writers.proofs.Entry.{admits}
-use Rattle.writers.proofs.Several.{vets}
+use Rattle.writers.proofs.Several.{vet_document, vet_text, vets}
 use Rattle.writers.proofs.vet.Goals as goal
+use Rattle.writers.proofs.vet.Goals.{then-document-gt1048576-via-then-document-gt1048576, then-document-gt1048576-via-else-document-gt1048576+then-text-gt1048576}
 
 pub returns-then-document-gt1048576 : goal.returns-then-document-gt1048576
-returns-then-document-gt1048576 c = search vets
-
-pub returns-then-text-gt1048576 : goal.returns-then-text-gt1048576
-returns-then-text-gt1048576 c = search vets
-
-pub check-requires : goal.check-requires
-check-requires c = search vets
-
-pub enum_known-place : goal.enum_known-place
-enum_known-place c = search vets
-
-pub enum_told-1 : goal.enum_told-1
-enum_told-1 c = search vets
+returns-then-document-gt1048576 c =
+    elim c.then-document-gt1048576.branch [
+      | then-document-gt1048576-via-then-document-gt1048576 w ↦ vet_document w.if-document-gt1048576.true
+      | then-document-gt1048576-via-else-document-gt1048576+then-text-gt1048576 w ↦ vet_text w.if-document-gt1048576.false w.if-text-gt1048576.true
+    ]
 
 pub vet_items-requires : goal.vet_items-requires
-vet_items-requires c = admits (search rules) (search rules) c.check.ensures (search rules)
+vet_items-requires c = admits (search rules) (search rules) c.check.ensures c.in-Ok.is
 
-pub returns-in-Unsound : goal.returns-in-Unsound
-returns-in-Unsound c = search vets
+pub returns-in-Err : goal.returns-in-Err
+returns-in-Err c = search vets
 
-pub returns-in-Sound : goal.returns-in-Sound
-returns-in-Sound c = search vets
+pub returns-in-Ok : goal.returns-in-Ok
+returns-in-Ok c = search vets

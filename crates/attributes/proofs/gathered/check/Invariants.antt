@@ -1,11 +1,7 @@
 -- `attributes::gathered::check` meets its contract. The invariant: the attributes before this one are good.
 -- Assumes nothing.
-use Rattle.std.proofs.Common.{◌-◌}
 use Rattle.attributes.proofs.Checking.{Checking}
 use Rattle.attributes.proofs.gathered.check.Given as goal
 
 abbrev pub invariant-loop-i : goal.invariant-loop-i
 invariant-loop-i l = Checking l.doc l.attrs l.n l.i
-
-abbrev pub decreases-loop-i : goal.decreases-loop-i
-decreases-loop-i l = l.n - l.i

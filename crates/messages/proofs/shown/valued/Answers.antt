@@ -1,28 +1,10 @@
 -- `messages::shown::valued` meets its contract.
 -- Assumes nothing.
-use Rattle.messages.proofs.Framed.{framing}
+use Rattle.messages.proofs.Framed.{framing, valued_bad}
 use Rattle.messages.proofs.shown.valued.Goals as goal
 
-pub is_shown-requires : goal.is_shown-requires
-is_shown-requires c = search framing
+pub returns-in-Some : goal.returns-in-Some
+returns-in-Some c = search framing
 
-pub excerpt-requires : goal.excerpt-requires
-excerpt-requires c = search framing
-
-pub unescaped-requires : goal.unescaped-requires
-unescaped-requires c = search framing
-
-pub shape_of-out-then-is_shown : goal.shape_of-out-then-is_shown
-shape_of-out-then-is_shown c = search framing
-
-pub returns-then-is_shown : goal.returns-then-is_shown
-returns-then-is_shown c = search framing
-
-pub refuse-requires : goal.refuse-requires
-refuse-requires c = search framing
-
-pub shape_of-out : goal.shape_of-out
-shape_of-out c = search framing
-
-pub returns : goal.returns
-returns c = search framing
+pub returns-in-None : goal.returns-in-None
+returns-in-None c = valued_bad _ _ _ _ c.in-None.ensures.none c.refuse.ensures

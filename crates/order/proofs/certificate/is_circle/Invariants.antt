@@ -1,12 +1,8 @@
 -- `order::certificate::is_circle` meets its contract.
 -- Assumes nothing.
 use Rattle.order.proofs.Checking.{Leads}
-use Rattle.items.specs.Words.{rows_shown}
-use Prim.Native.Nat.{◌-◌}
+use Rattle.order.specs.Table.{shown_rows}
 use Rattle.order.proofs.certificate.is_circle.Given as goal
 
-abbrev pub invariant-loop-k : goal.invariant-loop-k
-invariant-loop-k l = Leads (rows_shown l.document l.text l.rows l.n) l.n l.p l.r
-
-abbrev pub decreases-loop-k : goal.decreases-loop-k
-decreases-loop-k l = l.n - l.k
+abbrev pub invariant-loop : goal.invariant-loop
+invariant-loop l = Leads (shown_rows l.by_name.table.now) l.by_name.table.now.n l.p l.r

@@ -1,11 +1,8 @@
 -- `order::counts::count_definitions` meets its contract.
 -- Assumes nothing.
 use Rattle.order.proofs.Counting.{Defining}
-use Prim.Native.Nat.{◌-◌}
+use Rattle.order.specs.Table.{over}
 use Rattle.order.proofs.counts.count_definitions.Given as goal
 
 abbrev pub invariant-loop-k : goal.invariant-loop-k
-invariant-loop-k l = Defining l.document l.text l.rows l.n l.k l.count
-
-abbrev pub decreases-loop-k : goal.decreases-loop-k
-decreases-loop-k l = l.n - l.k
+invariant-loop-k l = over Defining l.table l.k l.count

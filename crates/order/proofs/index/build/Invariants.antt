@@ -1,10 +1,11 @@
 -- `order::index::build` meets its contract.
 -- Assumes nothing.
 use Rattle.order.proofs.Indexing.{Building}
+use Rattle.order.specs.Table.{over}
 use Rattle.order.proofs.index.build.Given as goal
 
 abbrev pub invariant-loop-k : goal.invariant-loop-k
-invariant-loop-k l = Building l.document l.text l.rows l.n l.k l.initial.heads l.initial.work l.heads l.work
+invariant-loop-k l = over Building l.table l.k l.initial.heads l.initial.work l.heads l.work
 
 abbrev pub decreases-loop-k : goal.decreases-loop-k
 decreases-loop-k l = l.k

@@ -3,10 +3,11 @@
 use Rattle.order.proofs.Indexing.{Following}
 use Prim.Native.Nat.{◌-◌}
 use lib.ListN.{length}
+use Rattle.order.specs.Table.{over}
 use Rattle.order.proofs.index.first_named.Given as goal
 
 abbrev pub invariant-loop-k : goal.invariant-loop-k
-invariant-loop-k l = Following l.document l.text l.rows l.n (length l.heads) l.name l.k l.word
+invariant-loop-k l = over Following l.by_name.table.now (length l.by_name.heads.now) l.name l.k l.word
 
 abbrev pub decreases-loop-k : goal.decreases-loop-k
-decreases-loop-k l = l.n - l.k
+decreases-loop-k l = l.by_name.table.now.n - l.k

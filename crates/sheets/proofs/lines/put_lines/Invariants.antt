@@ -1,11 +1,7 @@
 -- `sheets::lines::put_lines` meets its contract. The invariant: the lines of the numbers before `k` are put.
 -- Assumes nothing.
-use Rattle.std.proofs.Common.{◌-◌}
 use Rattle.sheets.proofs.Lining.{Lining}
 use Rattle.sheets.proofs.lines.put_lines.Given as goal
 
 abbrev pub invariant-loop-k : goal.invariant-loop-k
 invariant-loop-k l = Lining l.letter l.counts l.base l.n l.initial.out l.out l.k l.m
-
-abbrev pub decreases-loop-k : goal.decreases-loop-k
-decreases-loop-k l = 32 - l.k

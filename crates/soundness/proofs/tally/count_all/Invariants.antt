@@ -1,13 +1,7 @@
--- `soundness::tally::count_all` meets its contract.
+-- `soundness::tally::count_all` meets its contract: the tallies are of the rows so far.
 -- Assumes nothing.
-use Prim.Native.Nat.{◌-◌, ◌≤◌}
-use mathlib.Core.Path.{◌≡◌}
-use lib.ListN.{length}
 use Rattle.soundness.specs.Outcome.{Tallied}
 use Rattle.soundness.proofs.tally.count_all.Given as goal
 
 abbrev pub invariant-loop-k : goal.invariant-loop-k
-invariant-loop-k l = Tallied l.document l.text l.rows l.n l.k l.tallies × (l.k ≤ l.n) × (length l.tallies ≡ length l.initial.tallies)
-
-abbrev pub decreases-loop-k : goal.decreases-loop-k
-decreases-loop-k l = l.n - l.k
+invariant-loop-k l = Tallied l.table.document.bytes.now l.table.text.bytes.now l.table.rows.now l.table.n l.k l.tallies

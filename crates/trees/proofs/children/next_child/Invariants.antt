@@ -1,11 +1,7 @@
 -- `trees::children::next_child` meets its contract: no row up to here is a child.
 -- Assumes nothing.
-use Prim.Native.Nat.{◌-◌}
 use Rattle.trees.proofs.Standing.{Looking}
 use Rattle.trees.proofs.children.next_child.Given as goal
 
 abbrev pub invariant-loop-k : goal.invariant-loop-k
-invariant-loop-k l = Looking l.rows l.n l.i l.group l.from l.s l.k
-
-abbrev pub decreases-loop-k : goal.decreases-loop-k
-decreases-loop-k l = l.n - l.k
+invariant-loop-k l = Looking l.table.rows.now l.table.n l.i l.group l.from l.table.standing l.k

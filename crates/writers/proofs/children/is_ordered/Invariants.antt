@@ -1,11 +1,7 @@
 -- `writers::children::is_ordered` meets its contract: up to here the rows are in order.
 -- Assumes nothing.
-use Prim.Native.Nat.{◌-◌}
 use Rattle.writers.proofs.Scans.{Ordering}
 use Rattle.writers.proofs.children.is_ordered.Given as goal
 
 abbrev pub invariant-loop-k : goal.invariant-loop-k
 invariant-loop-k l = Ordering l.rows l.n l.i l.last l.k
-
-abbrev pub decreases-loop-k : goal.decreases-loop-k
-decreases-loop-k l = l.n - l.k

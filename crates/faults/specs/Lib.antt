@@ -1,0 +1,3 @@
+-- Faults: a number and a place.
+-- Assumes nothing.
+pub mod Fault

@@ -1,0 +1,24 @@
+-- What begins at a `<` and is ignored, by where a scan came to.
+-- Assumes nothing.
+use mathlib.Core.Path.{◌≡◌, refl}
+use Prim.Native.Nat.{ℕ}
+use Rattle.std.proofs.Common.{Result, Ok, Err}
+use Rattle.faults.specs.declared.Fault.{Fault}
+use Rattle.scan.specs.Ignorable.{ignored}
+use Rattle.scan.specs.declared.Markup.{Markup}
+use Rattle.scan.specs.declared.Markup.TheVariants.{Tag, Ignored}
+
+-- it ends where the scan came to
+pub ignored_place : (x : Result ℕ Fault) (q : ℕ) → ignored x ≡ Ok (Ignored q) → x ≡ Ok q
+ignored_place (Ok p) q e = cc
+ignored_place (Err f) q e = cc
+
+-- it is no tag
+pub ignored_no_tag : {A : Type 0} (x : Result ℕ Fault) → ignored x ≡ Ok Tag → A
+ignored_no_tag (Ok p) e = cc
+ignored_no_tag (Err f) e = cc
+
+-- what holds of both ways of a scan holds of what is ignored
+pub ignored_either : (P : Result Markup Fault → Type 0) (x : Result ℕ Fault) → ((p : ℕ) → x ≡ Ok p → P (Ok (Ignored p))) → ((f : Fault) → x ≡ Err f → P (Err f)) → P (ignored x)
+ignored_either P (Ok p) h i = h p refl
+ignored_either P (Err f) h i = i f refl

@@ -1,3 +1,0 @@
--- What the walks over a writer share.
--- Assumes nothing.
-pub mod Called
