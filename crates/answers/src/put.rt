@@ -1,4 +1,4 @@
-// Bytes put at a count into a lent text that may be full.
+// Bytes put at a count into a lent text that may be full. The count runs on past the room, so it is no part of the text.
 ghost use Rattle.std.specs.Prelude.{[], ◌∷◌, ◌+◌, ◌<◌, ◌^◌, length};
 ghost use Rattle.utf8.specs.Encoding.{utf8};
 ghost use Rattle.answers.specs.Puts.{Puts};
@@ -28,7 +28,8 @@ fn put_two(out: &mut [u8], n: usize, a: u8, b: u8) -> usize
 // The UTF-8 of a character.
 #[tactic(auto, using(crate::proofs::Putting::puts))]
 pub fn put_char(out: &mut [u8], n: usize, c: u32) -> usize
-    requires { (c < 1114112) × (n + 4 < 2 ^ 62) }
+    requires character { c < 1114112 }
+    requires room { n + 4 < 2 ^ 62 }
     ensures { Puts (utf8 c) n out.old out.new result }
 {
     if c < 0x80 {

@@ -6,10 +6,9 @@ use mathlib.Core.List.{List, [], ◌∷◌, ◌++◌, map, map-append, append_as
 use mathlib.Core.Option.{Option, some}
 use mathlib.Core.Bool.{Bool, true, false, not}
 use borrow.Author.Rules.{rules}
-use borrow.Author.Tests.{le-leb, ne_eqb}
+use borrow.Author.Tests.{le-leb}
 use native.Mathlib.Numerals.{add-one}
 use native.Mathlib.Omega.{arith}
-use lib.Dec.{eqb}
 use lib.ListN.{length, take, drop, get_or, drop_of_length-le}
 use lib.Seq.{drop-cons, length-take-le, get_or-take, take-suc}
 use Rattle.std.specs.Prelude.{Result, Ok, Err}
@@ -22,6 +21,8 @@ use Rattle.document.specs.Tags.{Attr, Shown, Checked, good, fault, also, member,
 use Rattle.attributes.specs.One.{part, attr_of, Fit}
 use Rattle.attributes.specs.Lookup.{blank, part_is, name_is, wanted, first_by, value_of, value_in, Picks, keyed_at}
 use Rattle.attributes.specs.Outcome.{Checkable, among, attrs_of, References, listed, there, Weighs, Judges, Checks}
+use Rattle.document.specs.Outcome.{is_none, is_absent}
+use Rattle.document.specs.declared.Form.{Form}
 use Rattle.document.specs.declared.Value.{Value}
 use Rattle.attributes.specs.declared.Attribute.{Attribute}
 use Rattle.faults.specs.declared.Fault.{Fault}
@@ -71,9 +72,9 @@ there_if false a r h = refl
 
 -- a value that is gathered is there
 pub fit_there : {doc : List ℕ} {from to : ℕ} (a : Attribute) → Fit doc from to a → there (value_of (some a)) ≡ true
-fit_there {doc} a f = rw f.kind (go (all plain (attr_of doc a).raw))
+fit_there {doc} a f = rw f.form (go (all plain (attr_of doc a).raw))
   where
-    go : (t : Bool) → not (eqb (if t 1 2) 0) ≡ true
+    go : (t : Bool) → not (is_none (if t Form.Plain Form.Changed)) ≡ true
     go true = refl
     go false = refl
 
@@ -93,19 +94,19 @@ module _ {doc : List ℕ} {a : Attribute} (f : Fit doc 0 (length doc) a) where
   weigh_room s = (f.value, s)
 
   module _ (before : Value) where
-    pub weigh_duplicate : (before.kind ≡ 0 → ⊥) → Weighs doc a before (Err (record { number = 8; place = a.name }))
-    weigh_duplicate h = record { is = λ c. rw (ne_eqb before.kind 0 h) }
+    pub weigh_duplicate : is_absent before ≡ false → Weighs doc a before (Err (record { number = 8; place = a.name }))
+    weigh_duplicate h = record { is = λ c. rw h }
 
-    module _ (e : before.kind ≡ 0) where
+    module _ (e : is_absent before ≡ true) where
       new : there before ≡ false
       new = rw e
 
-      pub weigh_plain : a.kind ≡ 1 → Weighs doc a before (Ok tt)
-      weigh_plain k = record { is = ((attr_of doc a).raw, new, unescape_plain _ (go (all plain (attr_of doc a).raw) (sym f.kind ∙ k))) }
+      pub weigh_plain : a.form ≡ Form.Plain → Weighs doc a before (Ok tt)
+      weigh_plain k = record { is = ((attr_of doc a).raw, new, unescape_plain _ (go (all plain (attr_of doc a).raw) (sym f.form ∙ k))) }
         where
-          go : (t : Bool) → ◌≡◌ {A = ℕ} (if t 1 2) 1 → t ≡ true
+          go : (t : Bool) → ◌≡◌ {A = Form} (if t Form.Plain Form.Changed) Form.Plain → t ≡ true
           go true e = refl
-          go false e = absurd (omega arith)
+          go false e = cc
 
       pub weigh_reference : {v : Result (Unit {0}) Fault} → References doc a.value a.value_len v → Weighs doc a before v
       weigh_reference {v} c = go v c

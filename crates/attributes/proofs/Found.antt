@@ -19,8 +19,9 @@ use Rattle.slices.proofs.Ends.{run_span, run_rest, run_empty, run_some}
 use Rattle.scan.specs.Classes.{white, name_byte}
 use Rattle.scan.specs.Ignorable.{quote}
 use Rattle.references.specs.Unescape.{special}
+use Rattle.document.specs.declared.Form.{Form}
 use Rattle.document.specs.Tags.{Found as Finding, attribute, equals, open_quote, is_tp_type_lem}
-use Rattle.attributes.specs.One.{part, kind_from, Fit, Quotes, Named, Finds}
+use Rattle.attributes.specs.One.{part, form_from, Fit, Quotes, Named, Finds}
 use Rattle.attributes.specs.declared.Attribute.{Attribute}
 use Rattle.attributes.specs.declared.ValueEnd.{ValueEnd}
 use Rattle.attributes.specs.declared.Located.{Located}
@@ -42,30 +43,30 @@ module _ {b : ℕ} where
   pub special_below : (b ≡ 38 → ⊥) → (b ≡ 9 → ⊥) → (b ≡ 10 → ⊥) → eqb b 13 ≡ special b
   special_below e f g = rw (ne_eqb b 38 e, ne_eqb b 9 f, ne_eqb b 10 g)
 
--- a loop over a value that began at from and stands at at: the kind of what is left, after this kind, is what was asked
-pub record Quoting (q : ℕ) (doc : List ℕ) (from at kind : ℕ) : Type 0 where
+-- a loop over a value that began at from and stands at at: the form of what is left, after this form, is what was asked
+pub record Quoting (q : ℕ) (doc : List ℕ) (from at : ℕ) (form : Form) : Type 0 where
   pub run : Running (other q) doc from at
-  pub left : kind_from 1 (span (other q) (drop from doc)) ≡ kind_from kind (span (other q) (drop at doc))
+  pub left : form_from Form.Plain (span (other q) (drop from doc)) ≡ form_from form (span (other q) (drop at doc))
 
-pub quote_begins : {q : ℕ} {doc : List ℕ} {from : ℕ} → from ≤ length doc → Quoting q doc from from 1
+pub quote_begins : {q : ℕ} {doc : List ℕ} {from : ℕ} → from ≤ length doc → Quoting q doc from from Form.Plain
 quote_begins h = record { run = run_begins h; left = refl }
 
-either : (k : ℕ) (t : Bool) → if t k k ≡ k
+either : (k : Form) (t : Bool) → if t k k ≡ k
 either k true = refl
 either k false = refl
 
-module _ {q : ℕ} {doc : List ℕ} {from at kind : ℕ} (g : Quoting q doc from at kind) where
-  pub quote_closes : at < length doc → get_or doc at 0 ≡ q → Quotes q doc from (record { end = at; kind = kind })
+module _ {q : ℕ} {doc : List ℕ} {from at : ℕ} {form : Form} (g : Quoting q doc from at form) where
+  pub quote_closes : at < length doc → get_or doc at 0 ≡ q → Quotes q doc from (record { end = at; form = form })
   quote_closes h e = record {
     run = run_stops g.run h (other_false _ _ e);
-    kind = sym (g.left ∙ rw (drop-cons doc at 0 h, other_false _ _ e));
+    form = sym (g.left ∙ rw (drop-cons doc at 0 h, other_false _ _ e));
   }
 
-  pub quote_ends : length doc ≤ at → Quotes q doc from (record { end = at; kind = kind })
-  quote_ends h = record { run = run_ends g.run h; kind = sym (g.left ∙ rw (drop_of_length-le doc h)) }
+  pub quote_ends : length doc ≤ at → Quotes q doc from (record { end = at; form = form })
+  quote_ends h = record { run = run_ends g.run h; form = sym (g.left ∙ rw (drop_of_length-le doc h)) }
 
   -- a byte above both quotes is plain
-  pub quote_high : at < length doc → 39 < get_or doc at 0 → q ≤ 39 → Quoting q doc from (at + 1) kind
+  pub quote_high : at < length doc → 39 < get_or doc at 0 → q ≤ 39 → Quoting q doc from (at + 1) form
   quote_high h l k =
       let o : get_or doc at 0 ≡ q → ⊥ = λ e. absurd (omega arith) in
       let p : special (get_or doc at 0) ≡ false = sym (special_above {b = get_or doc at 0} (omega arith)) in
@@ -75,13 +76,13 @@ module _ {q : ℕ} {doc : List ℕ} {from at kind : ℕ} (g : Quoting q doc from
       }
 
   module _ (h : at < length doc) (o : get_or doc at 0 ≡ q → ⊥) {t : Bool} (e : t ≡ special (get_or doc at 0)) where
-    pub quote_special : t ≡ true → Quoting q doc from (at + 1) 2
+    pub quote_special : t ≡ true → Quoting q doc from (at + 1) Form.Changed
     quote_special f = record {
       run = run_more g.run h (other_true _ _ o);
-      left = g.left ∙ rw (drop-cons doc at 0 h, other_true _ _ o, sym e ∙ f, either 2);
+      left = g.left ∙ rw (drop-cons doc at 0 h, other_true _ _ o, sym e ∙ f, either Form.Changed);
     }
 
-    pub quote_plain : t ≡ false → Quoting q doc from (at + 1) kind
+    pub quote_plain : t ≡ false → Quoting q doc from (at + 1) form
     quote_plain f = record {
       run = run_more g.run h (other_true _ _ o);
       left = g.left ∙ rw (drop-cons doc at 0 h, other_true _ _ o, sym e ∙ f, add-one);
@@ -96,7 +97,7 @@ fit_wide h l f = record {
   name = omega (arith, f.name);
   value = omega (arith, f.value);
   short = omega (arith, f.short);
-  kind = f.kind;
+  form = f.form;
   tp = f.tp;
 }
 
@@ -134,7 +135,7 @@ module _ {doc : List ℕ} {name n : ℕ} {tp : Bool} {at : ℕ} (g : Named doc n
         is = rw (drop-cons doc at 0 h, sym e ∙ f, to_close, drop_of_length-le doc l);
       }
 
-      pub value_found : v.end < length doc → Finds (open_quote name (part doc name n)) doc at (Some (record { attribute = record { name = name; name_len = n; value = at + 1; value_len = v.end - (at + 1); kind = v.kind; tp = tp; twin = true }; end = v.end + 1 }))
+      pub value_found : v.end < length doc → Finds (open_quote name (part doc name n)) doc at (Some (record { attribute = record { name = name; name_len = n; value = at + 1; value_len = v.end - (at + 1); form = v.form; tp = tp; twin = true }; end = v.end + 1 }))
       value_found l =
           let r : span (other (get_or doc at 0)) (drop (suc at) doc) ≡ part doc (suc at) (v.end - suc at) = rw add-one at (run_span c.run) in
           let p : suc at + length (span (other (get_or doc at 0)) (drop (suc at) doc)) ≡ v.end = sym (rw add-one at c.run.ends) in
@@ -146,7 +147,7 @@ module _ {doc : List ℕ} {name n : ℕ} {tp : Bool} {at : ℕ} (g : Named doc n
                 name = omega (arith, g.before, c.run.onward);
                 value = omega (arith, c.run.onward);
                 short = omega (arith, c.run.onward);
-                kind = c.kind ∙ rw (run_span c.run);
+                form = c.form ∙ rw (run_span c.run);
                 tp = g.type;
               },
               refl,

@@ -147,7 +147,7 @@ module _ {m : ℕ} {doc : List ℕ} {from : ℕ} {xs : List Attribute} {n at : �
           }
         where
           same : Fit doc at x.end x.attribute → Fit doc at x.end (mark x.attribute t)
-          same f = record { name = f.name; value = f.value; short = f.short; kind = f.kind; tp = f.tp }
+          same f = record { name = f.name; value = f.value; short = f.short; form = f.form; tp = f.tp }
 
           fit : (j : ℕ) → Dec (j < n) → j < n + 1 → Fit doc from x.end (get_or (set xs n (mark x.attribute t)) j blank)
           fit j (yes l) b =

@@ -11,9 +11,10 @@ use lib.Seq.{length-take-le, get_or-take}
 use Rattle.slices.specs.Bytes.{if, bytes}
 use Rattle.answers.specs.Text.{Text, text, wrong}
 use Rattle.references.specs.Unescape.{unescape}
+use Rattle.document.specs.declared.Form.{Form}
 use Rattle.document.specs.Tags.{Attr, Shown, Checked, good, fault, also, member, check, lookup, is_tp_type_lem, tp_type}
 use Rattle.document.specs.Outcome.{Held, ValueIs, ValueFits, ValuesFit, ValuesAre}
-use Rattle.attributes.specs.One.{attr_of, kind_from, Fit}
+use Rattle.attributes.specs.One.{attr_of, form_from, Fit}
 use Rattle.attributes.specs.Lookup.{blank, name_is, keyed, is_tp_lem, first_by, value_of, value_in, values_in}
 use Rattle.attributes.specs.Outcome.{Fitted, attrs_of}
 use Rattle.attributes.specs.declared.Attribute.{Attribute}
@@ -66,7 +67,7 @@ module _ (q : Attribute → Bool) (doc : List ℕ) (from to : ℕ) (b : to ≤ l
     at = sym (ap (λ (a : Attr). a.valued) e);
     len = sym (ap (λ (a : Attr). length a.raw) e ∙ length-take-le y.value_len (drop y.value doc) (rw length-drop (omega (arith, f.value))));
     raw = sym (ap (λ (a : Attr). a.raw) e);
-    kind = f.kind ∙ ap (λ (a : Attr). kind_from 1 a.raw) (sym e);
+    form = f.form ∙ ap (λ (a : Attr). form_from Form.Plain a.raw) (sym e);
     shows = u;
   }
 

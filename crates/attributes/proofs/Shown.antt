@@ -13,7 +13,6 @@ use Rattle.references.specs.Unescape.{Piece, shows, bad, piece, before, joined, 
 use Rattle.references.specs.Outcome as outcome
 use Rattle.references.specs.declared.ValueFault.{ValueFault}
 use Rattle.attributes.specs.Outcome.{References}
-use Rattle.faults.specs.declared.Fault.{Fault}
 
 -- a fault's place
 wrong_before : (s : List ℕ) (t : Text) (n p m : ℕ) → before s t ≡ wrong n p → (t ≡ wrong n p → p < m) → p < m

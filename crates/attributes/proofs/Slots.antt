@@ -19,6 +19,8 @@ use Rattle.slices.proofs.Ends.{run_span, run_rest}
 use Rattle.answers.specs.Text.{text}
 use Rattle.references.specs.Unescape.{plain, unescape}
 use Rattle.references.proofs.Shapes.{unescape_plain}
+use Rattle.document.specs.declared.Form.{Form}
+use Rattle.document.specs.Outcome.{is_absent}
 use Rattle.document.specs.Tags.{Attr, Shown, attribute, is_tp_type_lem, check}
 use Rattle.document.specs.declared.Value.{Value}
 use Rattle.attributes.specs.One.{part, attr_of, Fit, Finds}
@@ -140,7 +142,7 @@ module _ {doc : List ℕ} {at : ℕ} {s : Start} (g : Starts doc at s) (b : s.cl
       name_len = (g.some b).len;
       value = s.value;
       value_len = end - s.value;
-      kind = 1;
+      form = Form.Plain;
       tp = is_tp_type_lem (part doc (g.some b).name (g.some b).len);
       twin = true;
     }
@@ -163,7 +165,7 @@ module _ {doc : List ℕ} {at : ℕ} {s : Start} (g : Starts doc at s) (b : s.cl
               name = omega (arith, o.before, slot_onward);
               value = omega (arith, slot_onward);
               short = omega (arith, o.onward, slot_onward);
-              kind = q.kind ∙ rw r;
+              form = q.form ∙ rw r;
               tp = refl;
             },
             refl,
@@ -172,11 +174,11 @@ module _ {doc : List ℕ} {at : ℕ} {s : Start} (g : Starts doc at s) (b : s.cl
         }
 
     one_shown : unescape (attr_of doc one).raw ≡ text (attr_of doc one).raw
-    one_shown = unescape_plain _ (go (all plain (attr_of doc one).raw) (sym one_found.onward.2.kind))
+    one_shown = unescape_plain _ (go (all plain (attr_of doc one).raw) (sym one_found.onward.2.form))
       where
-        go : (t : Bool) → ◌≡◌ {A = ℕ} (if t 1 2) 1 → t ≡ true
+        go : (t : Bool) → ◌≡◌ {A = Form} (if t Form.Plain Form.Changed) Form.Plain → t ≡ true
         go true e = refl
-        go false e = absurd (omega arith)
+        go false e = cc
 
 -- ---- the loop
 
@@ -243,7 +245,7 @@ module _ {doc : List ℕ} {from : ℕ} {slots : List Value} {at : ℕ} (g : Slot
           );
         })
 
-    module _ (b : s.class < 8) {end : ℕ} (d : Plain s.quote doc s.value end) (h : end < length doc) (e : (get_or slots s.class no_value).kind ≡ 0) where
+    module _ (b : s.class < 8) {end : ℕ} (d : Plain s.quote doc s.value end) (h : end < length doc) (e : is_absent (get_or slots s.class no_value) ≡ true) where
       abbrev new : Attribute
       new = one c b d h
 

@@ -13,11 +13,11 @@ use lib.ListN.{length, drop, get_or, length-drop, drop_of_length-le, take-append
 use lib.Seq.{drop-cons, drop-drop, length-take-le}
 use Rattle.slices.specs.Bytes.{bytes, span, all}
 use Rattle.slices.specs.Run.{Run}
-use Rattle.slices.specs.Word.{Below}
 use Rattle.slices.proofs.Runs.{both, span_stops, run_begins, run_more, run_stops}
 use Rattle.scan.specs.Classes.{white, name_byte}
 use Rattle.scan.specs.Ignorable.{quote}
 use Rattle.references.specs.Unescape.{special}
+use Rattle.document.specs.declared.Form.{Form}
 use Rattle.document.specs.Tags.{absent, attribute, open_quote}
 use Rattle.attributes.specs.One.{part}
 use Rattle.attributes.specs.Slots.{class_of, Quick, Starts, Four, Key, Knows, High, Plain}
@@ -213,35 +213,27 @@ pub ruleset starts = (starts_quick, rules)
 
 -- ---- the end of a value that is shown as it stands
 
-pub high_none : {doc : List ℕ} {at : ℕ} → at < length doc → High doc at 0
-high_none h = record { within = omega arith; above = λ i b. absurd (omega arith); room = λ b. omega arith }
-
-pub high_below : {doc : List ℕ} {at k : ℕ} → at + 8 ≤ length doc → Below doc at 40 k → High doc at k
-high_below h b = record { within = omega (arith, b.within); above = b.above; room = λ l. omega arith }
-
-pub ruleset highs = (high_none, high_below, rules)
-
 -- past bytes that are above quotes and special bytes
-quote_steps : {q : ℕ} {doc : List ℕ} {from at : ℕ} → Quoting q doc from at 1 → q ≤ 39 → (k : ℕ) → at + k ≤ length doc → ((i : ℕ) → i < k → 40 ≤ get_or doc (at + i) 0) → Quoting q doc from (at + k) 1
-quote_steps {q} {doc} {from} {at} g l zero h f = let e : at ≡ at + 0 = omega arith in subst (λ (p : ℕ). Quoting q doc from p 1) e g
+quote_steps : {q : ℕ} {doc : List ℕ} {from at : ℕ} → Quoting q doc from at Form.Plain → q ≤ 39 → (k : ℕ) → at + k ≤ length doc → ((i : ℕ) → i < k → 40 ≤ get_or doc (at + i) 0) → Quoting q doc from (at + k) Form.Plain
+quote_steps {q} {doc} {from} {at} g l zero h f = let e : at ≡ at + 0 = omega arith in subst (λ (p : ℕ). Quoting q doc from p Form.Plain) e g
 quote_steps {q} {doc} {from} {at} g l (suc k) h f =
     let e : at + k + 1 ≡ at + suc k = omega arith in
-    subst (λ (p : ℕ). Quoting q doc from p 1) e (quote_high (quote_steps g l k (omega arith) (λ i b. f i (omega arith))) (omega arith) (omega (arith, f k (omega arith))) l)
+    subst (λ (p : ℕ). Quoting q doc from p Form.Plain) e (quote_high (quote_steps g l k (omega arith) (λ i b. f i (omega arith))) (omega arith) (omega (arith, f k (omega arith))) l)
 
-module _ {q : ℕ} {doc : List ℕ} {from at k : ℕ} (g : Quoting q doc from at 1) (l : q ≤ 39) (h : High doc at k) where
-  pub plain_skips : Quoting q doc from (at + k) 1
+module _ {q : ℕ} {doc : List ℕ} {from at k : ℕ} (g : Quoting q doc from at Form.Plain) (l : q ≤ 39) (h : High doc at k) where
+  pub plain_skips : Quoting q doc from (at + k) Form.Plain
   plain_skips = quote_steps g l k h.within h.above
 
   pub plain_closes : at + k < length doc → get_or doc (at + k) 0 ≡ q → Plain q doc from (at + k)
   plain_closes b e = record { within = omega arith; value = λ z. quote_closes plain_skips b e }
 
-  pub plain_more : at + k < length doc → (get_or doc (at + k) 0 ≡ q → ⊥) → {t : Bool} → t ≡ special (get_or doc (at + k) 0) → t ≡ false → Quoting q doc from (at + k + 1) 1
+  pub plain_more : at + k < length doc → (get_or doc (at + k) 0 ≡ q → ⊥) → {t : Bool} → t ≡ special (get_or doc (at + k) 0) → t ≡ false → Quoting q doc from (at + k + 1) Form.Plain
   plain_more b o e f = quote_plain plain_skips b o e f
 
 pub plain_room : {doc : List ℕ} {at k : ℕ} → High doc at k → k < 8 → at + k < length doc
 plain_room h b = h.room b
 
-pub plain-ends : {q : ℕ} {doc : List ℕ} {from at : ℕ} → Quoting q doc from at 1 → length doc ≤ at → Plain q doc from at
+pub plain-ends : {q : ℕ} {doc : List ℕ} {from at : ℕ} → Quoting q doc from at Form.Plain → length doc ≤ at → Plain q doc from at
 plain-ends g h = record { within = g.run.inside; value = λ l. absurd (omega arith) }
 
 pub plain_none : {q : ℕ} {doc : List ℕ} {from : ℕ} → Plain q doc from (length doc)

@@ -3,6 +3,7 @@
 use Rattle.std.specs.Prelude.{ℕ, ◌+◌, ◌≡◌, List, [], ◌∷◌, Bool, true, false, ◌&&◌, leb, length, take}
 use Rattle.std.proofs.Math.Option.{Option, none, some}
 use Rattle.slices.specs.Bytes.{if, bytes, same}
+use Rattle.document.specs.declared.Form.{Form}
 use Rattle.document.specs.declared.Value.{Value}
 use Rattle.document.specs.declared.Values.{Values}
 use Rattle.attributes.specs.One.{part}
@@ -10,7 +11,7 @@ use Rattle.attributes.specs.declared.Attribute.{Attribute}
 
 -- the struct that stands for no attribute
 abbrev pub blank : Attribute
-blank = record { name = 0; name_len = 0; value = 0; value_len = 0; kind = 0; tp = false; twin = true }
+blank = record { name = 0; name_len = 0; value = 0; value_len = 0; form = Form.Absent; tp = false; twin = true }
 
 -- so many bytes from a place on lie within the document, and are of a kind
 unfoldable pub part_is : (List ℕ → Bool) → List ℕ → ℕ → ℕ → Bool
@@ -49,10 +50,10 @@ unfoldable pub first_by : (Attribute → Bool) → List Attribute → Option Att
 first_by p [] = none
 first_by p (a ∷ xs) = let r = first_by p xs in if (p a) (some a) r
 
--- the value, kind 0 where there is none
+-- the value, absent where there is none
 abbrev pub value_of : Option Attribute → Value
-value_of none = record { at = 0; len = 0; kind = 0 }
-value_of (some a) = record { at = a.value; len = a.value_len; kind = a.kind }
+value_of none = record { at = 0; len = 0; form = Form.Absent }
+value_of (some a) = record { at = a.value; len = a.value_len; form = a.form }
 
 -- the value of the first attribute that is asked for
 unfoldable pub value_in : (Attribute → Bool) → List Attribute → Value

@@ -4,7 +4,9 @@ use Rattle.std.specs.Prelude.{ℕ, ◌+◌, ◌≤◌, ◌<◌, ◌≡◌, List,
 use Rattle.slices.specs.Bytes.{if, other, span, all}
 use Rattle.slices.specs.Run.{Run}
 use Rattle.references.specs.Unescape.{plain}
+use Rattle.document.specs.declared.Form.{Form}
 use Rattle.document.specs.Tags.{Attr, Found, absent, found, is_tp_type_lem}
+use Rattle.document.specs.declared.Form.{Form}
 use Rattle.attributes.specs.declared.Attribute.{Attribute}
 use Rattle.attributes.specs.declared.ValueEnd.{ValueEnd}
 use Rattle.attributes.specs.declared.Located.{Located}
@@ -22,22 +24,22 @@ attr_of doc a = record {
   raw = part doc a.value a.value_len;
 }
 
--- 1 where all bytes are shown as they stand, else 2; k for 1 where bytes came before
-abbrev pub kind_from : ℕ → List ℕ → ℕ
-kind_from k v = if (all plain v) k 2
+-- as they stand where all bytes are plain, else changed; k in place of the first where bytes came before
+abbrev pub form_from : Form → List ℕ → Form
+form_from k v = if (all plain v) k Form.Changed
 
--- the struct's places end before the second place, its value is no longer than what is between the two, and its kind and its flag are right
+-- the struct's places end before the second place, its value is no longer than what is between the two, and its form and its flag are right
 pub record Fit (doc : List ℕ) (from to : ℕ) (a : Attribute) : Type 0 where
   pub name : a.name + a.name_len ≤ to
   pub value : a.value + a.value_len ≤ to
   pub short : from + a.value_len ≤ to
-  pub kind : a.kind ≡ kind_from 1 (part doc a.value a.value_len)
+  pub form : a.form ≡ form_from Form.Plain (part doc a.value a.value_len)
   pub tp : a.tp ≡ is_tp_type_lem (part doc a.name a.name_len)
 
 -- the end of a value that begins at a place, up to a quote
 pub record Quotes (q : ℕ) (doc : List ℕ) (from : ℕ) (r : ValueEnd) : Type 0 where
   pub run : Run (other q) doc from r.end
-  pub kind : r.kind ≡ kind_from 1 (span (other q) (drop from doc))
+  pub form : r.form ≡ form_from Form.Plain (span (other q) (drop from doc))
 
 -- a name stands before a place of a document within the limit, and is a tp type's or not
 pub record Named (doc : List ℕ) (name n : ℕ) (tp : Bool) (at : ℕ) : Type 0 where

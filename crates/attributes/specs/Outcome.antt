@@ -1,6 +1,6 @@
 -- What gathering and checking the attributes of a tag say.
 -- Assumes nothing.
-use Rattle.std.specs.Prelude.{ℕ, ◌+◌, ◌≤◌, ◌<◌, ◌≡◌, List, [], ◌∷◌, map, Bool, true, false, not, eqb, length, take, drop, get_or, Result, Ok, Err}
+use Rattle.std.specs.Prelude.{ℕ, ◌+◌, ◌≤◌, ◌<◌, ◌≡◌, List, [], ◌∷◌, map, Bool, true, false, not, length, take, drop, get_or, Result, Ok, Err}
 use Rattle.slices.specs.Bytes.{if, span, past, same}
 use Rattle.scan.specs.Classes.{white}
 use Rattle.answers.specs.Text.{text, wrong}
@@ -8,7 +8,7 @@ use Rattle.references.specs.Unescape.{unescape}
 use Rattle.document.specs.Tags.{Attr, Shown, Checked, good, fault, also, check, gather}
 use Rattle.document.specs.Tokens as tokens
 use Rattle.document.specs.Tokens.{last, tag_end, with_attrs}
-use Rattle.document.specs.Outcome.{ValuesAre, ValuesFit}
+use Rattle.document.specs.Outcome.{ValuesAre, ValuesFit, is_absent}
 use Rattle.document.specs.declared.Value.{Value}
 use Rattle.attributes.specs.One.{part, attr_of, Fit}
 use Rattle.attributes.specs.Lookup.{blank, values_in}
@@ -59,7 +59,7 @@ IsJudged x seen (Err f) = (c : Checked) → if seen (fault 8 x.at) (also x (unes
 
 -- a value that is there
 abbrev pub there : Value → Bool
-there v = not (eqb v.kind 0)
+there v = not (is_absent v)
 
 pub record Weighs (doc : List ℕ) (a : Attribute) (before : Value) (r : Result (Unit {0}) Fault) : Type 0 where
   pub is : IsJudged (attr_of doc a) (there before) r

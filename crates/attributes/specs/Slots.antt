@@ -3,6 +3,7 @@
 use Rattle.std.specs.Prelude.{ℕ, ◌+◌, ◌*◌, ◌≤◌, ◌<◌, ◌≡◌, List, true, length, drop, get_or}
 use Rattle.slices.specs.Bytes.{if, bytes, other, span, past, all, same}
 use Rattle.scan.specs.Classes.{name_byte}
+use Rattle.document.specs.declared.Form.{Form}
 use Rattle.document.specs.Tags.{Found, absent, close_quote, attribute, is_tp_type_lem}
 use Rattle.attributes.specs.One.{part, Quotes}
 use Rattle.attributes.specs.declared.Start.{Start}
@@ -69,4 +70,4 @@ pub record High (doc : List ℕ) (at k : ℕ) : Type 0 where
 -- the end of a value that is shown as it stands; nothing is said of the document's end
 pub record Plain (q : ℕ) (doc : List ℕ) (from r : ℕ) : Type 0 where
   pub within : r ≤ length doc
-  pub value : r < length doc → Quotes q doc from (record { end = r; kind = 1 })
+  pub value : r < length doc → Quotes q doc from (record { end = r; form = Form.Plain })

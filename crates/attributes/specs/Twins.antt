@@ -21,7 +21,7 @@ mark a t = record {
   name_len = a.name_len;
   value = a.value;
   value_len = a.value_len;
-  kind = a.kind;
+  form = a.form;
   tp = a.tp;
   twin = t;
 }

@@ -6,19 +6,14 @@ ghost use Rattle.attributes.specs.Slots.{High, Plain};
 
 use crate::starts::start_at;
 use crate::{TagValues, is_special, some};
-use document::{Value, Values};
+use document::{Form, Value, Values};
 use faults::Fault;
 use scan::ClassTable;
 
-const NO_VALUE: Value = Value {
-    at: 0,
-    len: 0,
-    kind: 0,
-};
-
 // How many bytes from a place on are above quotes and special bytes: of the next 8, as far as there are so many.
 fn high(doc: &[u8], at: usize) -> usize
-    requires { (at < length doc.now) × (length doc.now ≤ 1048576) }
+    requires inside { at < length doc.now }
+    requires small { length doc.now ≤ 1048576 }
     ensures { High doc.now «at» result }
 {
     if doc.len() < at + 8 {
@@ -27,13 +22,17 @@ fn high(doc: &[u8], at: usize) -> usize
     slices::first_below(doc, at, 40)
 }
 
-// The end of a value that is shown as it stands, or the length where there is a special byte or no quote closes it.
+// The end of a value that is shown as it stands, or the length where there is a special byte or no quote closes it: the caller goes on by
+// comparing it with the length.
 #[tactic(auto, using(crate::proofs::Starting::plains))]
 fn plain_end(doc: &[u8], from: usize, quote: u8) -> usize
-    requires { (from ≤ length doc.now) × (length doc.now ≤ 1048576) × («quote» ≤ 39) }
+    requires inside { from ≤ length doc.now }
+    requires small { length doc.now ≤ 1048576 }
+    requires quote { «quote» ≤ 39 }
     ensures { Plain «quote» doc.now from result }
 {
     let mut at = from;
+    // Not a `for`: the next place is what `high` counted.
     while at < doc.len() {
         let k = high(doc, at);
         at += k;
@@ -52,17 +51,21 @@ fn plain_end(doc: &[u8], from: usize, quote: u8) -> usize
 }
 
 // The attributes from a place on.
+#[tactic(auto, using(crate::proofs::Slots::slotting))]
 pub fn gather(
     doc: &[u8],
     classes: &ClassTable,
     keys: &[u8],
     from: usize,
 ) -> Result<TagValues, Fault>
-    requires { (from ≤ length doc.now) × (length doc.now ≤ 1048576) × KeyTable keys.now }
+    requires inside { from ≤ length doc.now }
+    requires small { length doc.now ≤ 1048576 }
+    requires key_table { KeyTable keys.now }
     ensures { Gathers doc.now from result }
 {
-    let mut slots = [NO_VALUE; 8];
+    let mut slots = [Value::ABSENT; 8];
     let mut at = from;
+    // Not a `for`: where the next attribute begins is what was found.
     loop {
         let s = start_at(doc, classes, at);
         let class = s.class;
@@ -84,13 +87,13 @@ pub fn gather(
             return some::gather(doc, classes, keys, from);
         }
         let before = slots[class];
-        if before.kind != 0 {
+        if !before.is_absent() {
             return some::gather(doc, classes, keys, from);
         }
         slots[class] = Value {
             at: value as u32,
             len: (end - value) as u32,
-            kind: 1,
+            form: Form::Plain,
         };
         at = end + 1;
     }

@@ -6,7 +6,7 @@ ghost use Rattle.attributes.specs.Outcome.{among, Checkable, Weighs, Judges, Che
 
 use crate::asked::is_wanted;
 use crate::{Attribute, TagValues, references_of};
-use document::{Value, Values};
+use document::{Form, Value, Values};
 use faults::Fault;
 
 // The value of the first of the first n with the key, or the first tp type where that is asked; kind 0 where there is none.
@@ -28,20 +28,17 @@ fn first_named(
             return Value {
                 at: a.value,
                 len: a.value_len,
-                kind: a.kind,
+                form: a.form,
             };
         }
     }
-    Value {
-        at: 0,
-        len: 0,
-        kind: 0,
-    }
+    Value::ABSENT
 }
 
 // The values that mean something, of the first n.
 fn values(doc: &[u8], attrs: &[Attribute], n: usize, keys: &[u8]) -> Values
-    requires { (n ≤ length attrs.now) × KeyTable keys.now }
+    requires held { n ≤ length attrs.now }
+    requires key_table { KeyTable keys.now }
     ensures { PicksAll doc.now attrs.now n result }
 {
     Values {
@@ -58,19 +55,20 @@ fn values(doc: &[u8], attrs: &[Attribute], n: usize, keys: &[u8]) -> Values
 // One attribute, and the value of the first before it that has its name: duplicate, then reference.
 #[tactic(auto, using(crate::proofs::Checking::weighs))]
 fn weigh(doc: &[u8], a: Attribute, before: Value) -> Result<(), Fault>
-    requires { Fit doc.now 0 (length doc.now) a × (length doc.now ≤ 1048576) }
+    requires fits { Fit doc.now 0 (length doc.now) a }
+    requires small { length doc.now ≤ 1048576 }
     ensures { Weighs doc.now a before result }
 {
-    if before.kind != 0 {
+    if !before.is_absent() {
         return Err(Fault {
             number: 8,
             place: a.name as usize,
         });
     }
-    if a.kind == 1 {
-        return Ok(());
+    match a.form {
+        Form::Plain => Ok(()),
+        _ => references_of(doc, a.value as usize, a.value_len as usize),
     }
-    references_of(doc, a.value as usize, a.value_len as usize)
 }
 
 // How many of the i before it an attribute's name is looked for among: none where no one has it.
@@ -85,7 +83,8 @@ fn until(twin: bool, i: usize) -> usize
 
 // One attribute after those before it.
 fn judge(doc: &[u8], attrs: &[Attribute], i: usize) -> Result<(), Fault>
-    requires { (i < length attrs.now) × Checkable doc.now attrs.now (suc i) }
+    requires held { i < length attrs.now }
+    requires checkable { Checkable doc.now attrs.now (suc i) }
     ensures { Judges doc.now attrs.now i result }
 {
     let a = attrs[i];
@@ -96,7 +95,8 @@ fn judge(doc: &[u8], attrs: &[Attribute], i: usize) -> Result<(), Fault>
 
 // The first n, one by one.
 fn check(doc: &[u8], attrs: &[Attribute], n: usize) -> Result<(), Fault>
-    requires { (n ≤ length attrs.now) × Checkable doc.now attrs.now n }
+    requires held { n ≤ length attrs.now }
+    requires checkable { Checkable doc.now attrs.now n }
     ensures { Checks doc.now attrs.now n result }
 {
     for i in 0..n {
@@ -113,7 +113,9 @@ pub fn finish(
     keys: &[u8],
     at: usize,
 ) -> Result<TagValues, Fault>
-    requires { (n ≤ length attrs.now) × Checkable doc.now attrs.now n × KeyTable keys.now }
+    requires held { n ≤ length attrs.now }
+    requires checkable { Checkable doc.now attrs.now n }
+    requires key_table { KeyTable keys.now }
     ensures { Finishes doc.now attrs.now n «at» result }
 {
     check(doc, attrs, n)?;

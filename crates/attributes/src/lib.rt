@@ -8,7 +8,7 @@ ghost use Rattle.document.specs.Tags.{attribute, equals, open_quote, is_tp_type_
 ghost use Rattle.attributes.specs.One.{Quotes, Named, Finds};
 ghost use Rattle.attributes.specs.Outcome.{References, Gathers};
 
-use document::Values;
+use document::{Form, Values};
 use faults::Fault;
 use scan::{ClassTable, Name};
 
@@ -19,16 +19,30 @@ mod many;
 mod some;
 mod starts;
 
-// An attribute: places and lengths of its name and its raw value; kind 1 the value is shown as it stands, 2 changed; whether it is a tp type; `twin` false says that no attribute before it has its name, true says nothing.
+// An attribute: places and lengths of its name and its raw value; the form of the value; whether it is a tp type; `twin` false says that no
+// attribute before it has its name, true says nothing. Neither `tp` nor `twin` has a value that goes by it.
 #[derive(Clone, Copy)]
 pub struct Attribute {
     pub name: u32,
     pub name_len: u32,
     pub value: u32,
     pub value_len: u32,
-    pub kind: u32,
+    pub form: Form,
     pub tp: bool,
     pub twin: bool,
+}
+
+impl Attribute {
+    // No attribute: what stands in an array where none was put.
+    const BLANK: Attribute = Attribute {
+        name: 0,
+        name_len: 0,
+        value: 0,
+        value_len: 0,
+        form: Form::Absent,
+        tp: false,
+        twin: true,
+    };
 }
 
 // An attribute, and the place after it.
@@ -42,7 +56,7 @@ pub struct Located {
 #[derive(Clone, Copy)]
 pub struct ValueEnd {
     pub end: usize,
-    pub kind: u32,
+    pub form: Form,
 }
 
 // A name's class, the place of the value, and the quote before it.
@@ -76,28 +90,30 @@ fn is_special(b: u8) -> bool
 
 // The end of a value, or the length where no quote closes it.
 fn quoted(doc: &[u8], from: usize, quote: u8) -> ValueEnd
-    requires { (from ≤ length doc.now) × («quote» ≤ 39) }
+    requires inside { from ≤ length doc.now }
+    requires quote { «quote» ≤ 39 }
     ensures { Quotes «quote» doc.now from result }
 {
     let mut at = from;
-    let mut kind: u32 = 1;
+    let mut form = Form::Plain;
+    // Not a search for the quote alone: the form is found on the way to it.
     while at < doc.len() {
         let b = doc[at];
         if 39 < b {
             at += 1;
         } else {
             if b == quote {
-                return ValueEnd { end: at, kind };
+                return ValueEnd { end: at, form };
             }
             if is_special(b) {
-                kind = 2;
+                form = Form::Changed;
                 at += 1;
             } else {
                 at += 1;
             }
         }
     }
-    ValueEnd { end: at, kind }
+    ValueEnd { end: at, form }
 }
 
 // At the opening quote of the value, after a name and `=`.
@@ -121,7 +137,7 @@ fn quoted_value(doc: &[u8], name: usize, n: usize, tp: bool, at: usize) -> Optio
             name_len: n as u32,
             value: value as u32,
             value_len: (end - value) as u32,
-            kind: v.kind,
+            form: v.form,
             tp,
             twin: true,
         };
@@ -158,7 +174,8 @@ fn equals_at(
 // Whether the name that begins at a place is a tp type's: a prefix that is not empty, the first colon, then exactly `type`.
 #[tactic(auto, using(crate::proofs::Keys::prefixes))]
 fn is_tp_type(doc: &[u8], at: usize, name: Name) -> bool
-    requires { Scanned doc.now «at» name × (length doc.now ≤ 1048576) }
+    requires scanned { Scanned doc.now «at» name }
+    requires small { length doc.now ≤ 1048576 }
     ensures { result ≡ is_tp_type_lem (take (name.end - «at») (drop «at» doc.now)) }
 {
     match name.colons {
@@ -173,7 +190,8 @@ fn is_tp_type(doc: &[u8], at: usize, name: Name) -> bool
 // At the white space before a name.
 #[tactic(auto, using(crate::proofs::Found::finds))]
 pub fn attribute_at(doc: &[u8], classes: &ClassTable, from: usize) -> Option<Located>
-    requires { (from ≤ length doc.now) × (length doc.now ≤ 1048576) }
+    requires inside { from ≤ length doc.now }
+    requires small { length doc.now ≤ 1048576 }
     ensures { Finds attribute doc.now from result }
 {
     let start = scan::space_end(doc, classes, from);
@@ -193,7 +211,8 @@ pub fn attribute_at(doc: &[u8], classes: &ClassTable, from: usize) -> Option<Loc
 // Whether the references of a raw value are good.
 #[tactic(auto, using(crate::proofs::Shown::shown))]
 fn references_of(doc: &[u8], at: usize, n: usize) -> Result<(), Fault>
-    requires { (at + n ≤ length doc.now) × (length doc.now ≤ 1048576) }
+    requires named { at + n ≤ length doc.now }
+    requires small { length doc.now ≤ 1048576 }
     ensures { References doc.now at n result }
 {
     match references::check(&doc[at..at + n]) {
@@ -210,7 +229,8 @@ fn references_of(doc: &[u8], at: usize, n: usize) -> Result<(), Fault>
 
 // The attributes from a place on, and their values: 17 at one too many; then, one by one, duplicate before reference.
 pub fn attributes(doc: &[u8], classes: &ClassTable, from: usize) -> Result<TagValues, Fault>
-    requires { (from ≤ length doc.now) × (length doc.now ≤ 1048576) }
+    requires inside { from ≤ length doc.now }
+    requires small { length doc.now ≤ 1048576 }
     ensures { Gathers doc.now from result }
 {
     few::gather(doc, classes, b"nametypevalueaccessdirectionsuffix", from)

@@ -2,7 +2,7 @@
 ghost use Rattle.std.specs.Prelude.{◌≡◌, ◌+◌, ◌≤◌, length};
 ghost use Rattle.attributes.specs.Lookup.{KeyTable};
 ghost use Rattle.attributes.specs.Twins.{EntryIs, mark};
-ghost use Rattle.attributes.specs.Outcome.{Checkable, Finishes, Gathers};
+ghost use Rattle.attributes.specs.Outcome.{Gathers};
 
 use crate::{Attribute, TagValues, attribute_at, gathered};
 use faults::Fault;
@@ -11,7 +11,8 @@ use scan::ClassTable;
 // The entry of a name, n bytes from a place on.
 #[tactic(auto, using(crate::proofs::Marking::entries))]
 fn entry(doc: &[u8], at: u32, n: u32) -> usize
-    requires { («at» + n ≤ length doc.now) × (length doc.now ≤ 1048576) }
+    requires named { «at» + n ≤ length doc.now }
+    requires small { length doc.now ≤ 1048576 }
     ensures { EntryIs doc.now «at» n result }
 {
     let from = at as usize;
@@ -26,20 +27,6 @@ fn marked(a: Attribute, twin: bool) -> Attribute
     Attribute { twin, ..a }
 }
 
-// The first n of an array, which end at a place: lent as a slice.
-fn finish(
-    doc: &[u8],
-    attrs: [Attribute; 256],
-    n: usize,
-    keys: &[u8],
-    at: usize,
-) -> Result<TagValues, Fault>
-    requires { (n ≤ 256) × Checkable doc.now attrs n × KeyTable keys.now }
-    ensures { Finishes doc.now attrs n «at» result }
-{
-    gathered::finish(doc, &attrs, n, keys, at)
-}
-
 // The attributes from a place on: 17 where there is one more than the limit.
 pub fn gather(
     doc: &[u8],
@@ -47,26 +34,20 @@ pub fn gather(
     keys: &[u8],
     from: usize,
 ) -> Result<TagValues, Fault>
-    requires { (from ≤ length doc.now) × (length doc.now ≤ 1048576) × KeyTable keys.now }
+    requires inside { from ≤ length doc.now }
+    requires small { length doc.now ≤ 1048576 }
+    requires key_table { KeyTable keys.now }
     ensures { Gathers doc.now from result }
 {
-    let blank = Attribute {
-        name: 0,
-        name_len: 0,
-        value: 0,
-        value_len: 0,
-        kind: 0,
-        tp: false,
-        twin: true,
-    };
-    let mut attrs = [blank; 256];
+    let mut attrs = [Attribute::BLANK; 256];
     let mut seen = [false; 4096];
     let mut n = 0;
     let mut at = from;
+    // Not a `for`: where the next attribute begins is what was found.
     loop {
         match attribute_at(doc, classes, at) {
             None => {
-                return finish(doc, attrs, n, keys, at);
+                return gathered::finish(doc, &attrs, n, keys, at);
             }
             Some(found) => {
                 let a = found.attribute;

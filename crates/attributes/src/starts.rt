@@ -30,7 +30,8 @@ fn four(s: &[u8], at: usize) -> u32
 // The rest of `direction`, `value` or `access`, whose first four bytes are the number.
 #[tactic(auto, using(crate::proofs::Starting::knows))]
 fn longer(doc: &[u8], at: usize, w: u32) -> Known
-    requires { (at + 9 ≤ length doc.now) × Four doc.now «at» w }
+    requires inside { at + 9 ≤ length doc.now }
+    requires four { Four doc.now «at» w }
     ensures { Knows doc.now «at» result }
 {
     if w == 0x65726964 {
@@ -76,7 +77,8 @@ fn known(doc: &[u8], at: usize) -> Known
 // The usual form: a space, a known name, `=` and `"`.
 #[tactic(auto, using(crate::proofs::Starting::quickly))]
 fn quick(doc: &[u8], at: usize) -> Start
-    requires { (at ≤ length doc.now) × (length doc.now ≤ 1048576) }
+    requires inside { at ≤ length doc.now }
+    requires small { length doc.now ≤ 1048576 }
     ensures { Quick doc.now «at» result }
 {
     if doc.len() < at + 16 {
@@ -137,7 +139,8 @@ fn class_of(name: &[u8], tp: bool) -> usize
 
 // The class of the name that begins at a place.
 fn class_at(doc: &[u8], at: usize, name: Name) -> usize
-    requires { Scanned doc.now «at» name × (length doc.now ≤ 1048576) }
+    requires scanned { Scanned doc.now «at» name }
+    requires small { length doc.now ≤ 1048576 }
     ensures { result ≡ class_of (part doc.now «at» (name.end - «at»)) }
 {
     let end = name.end;
@@ -148,7 +151,8 @@ fn class_at(doc: &[u8], at: usize, name: Name) -> usize
 // Any form.
 #[tactic(auto, using(crate::proofs::Starting::opens))]
 fn opened(doc: &[u8], classes: &ClassTable, from: usize) -> Start
-    requires { (from ≤ length doc.now) × (length doc.now ≤ 1048576) }
+    requires inside { from ≤ length doc.now }
+    requires small { length doc.now ≤ 1048576 }
     ensures { Starts doc.now from result }
 {
     let name = scan::space_end(doc, classes, from);
@@ -184,7 +188,8 @@ fn opened(doc: &[u8], classes: &ClassTable, from: usize) -> Start
 
 // At the white space before a name.
 pub fn start_at(doc: &[u8], classes: &ClassTable, at: usize) -> Start
-    requires { (at ≤ length doc.now) × (length doc.now ≤ 1048576) }
+    requires inside { at ≤ length doc.now }
+    requires small { length doc.now ≤ 1048576 }
     ensures { Starts doc.now «at» result }
 {
     let s = quick(doc, at);

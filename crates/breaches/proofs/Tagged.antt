@@ -142,34 +142,5 @@ closing_shuts l at g q e = named (empty (span name_byte l)) (past white (past na
     named false (b ∷ m) e = shut (eqb b 62) e
 
 module _ {doc : List ℕ} {lt : ℕ} {r : Result token.Token Refusal} (a : TagAt doc lt (closing (drop (lt + 2) doc) lt) r) {o : ℕ} where
-  pub close_fault : {x : Refusal} → r ≡ Err x → Closes doc lt o
-  close_fault {x} e = record {
-    is = λ t q k.
-        let d = (rw e at a).is in
-        let y : last (fault d.0 d.1) ≡ more t q = sym d.2 ∙ k in
-        let z : ◌≡◌ {A = ℕ} 0 1 = cc in
-        absurd (omega arith);
-  }
-
-  pub close_end_lem : {p : ℕ} → r ≡ Ok (token.Token.End p) → Closes doc lt o
-  close_end_lem {p} e = record {
-    is = λ t q k.
-        let y : last (end p) ≡ more t q = sym (rw e at a).is ∙ k in
-        let z : ◌≡◌ {A = ℕ} 0 1 = cc in
-        absurd (omega arith);
-  }
-
   pub close_start : {c : StartTag} → r ≡ Ok (token.Token.Start c) → Closes doc lt o
   close_start {c} e = record { is = λ t q k. let d = (rw e at a).is in absurd (closing_shuts (drop (lt + 2) doc) lt d.0 c.end d.2) }
-
-  pub close_told : {c : ClosingTag} → r ≡ Ok (token.Token.Close c) → o ≡ c.end → Closes doc lt o
-  close_told {c} e f = record {
-    is = λ t q k.
-        let n = take c.len (drop c.at doc) in
-        let y : more (close c.lt n c.end) c.end ≡ more t q = sym (rw e at a).is ∙ k in
-        let x : close c.lt n c.end ≡ t = cc in
-        let z : c.end ≡ q = cc in
-        (c.lt, n, sym x ∙ rw z, f ∙ z);
-  }
-
-pub ruleset closings = (close_fault, close_end_lem, close_start, close_told, rules)

@@ -70,7 +70,9 @@ fn name_breach(doc: &[u8], from: usize, to: usize) -> Option<usize>
 
 // In the raw value from a place to another.
 fn value_breach(doc: &[u8], from: usize, to: usize) -> Option<usize>
-    requires { (from ≤ to) × (to ≤ length doc.now) × (length doc.now ≤ 1048576) }
+    requires ordered { from ≤ to }
+    requires inside { to ≤ length doc.now }
+    requires short { length doc.now ≤ 1048576 }
     ensures { result ≡ least (places_of raw (take (to - from) (drop from doc.now)) from) }
 {
     let fault = profile::value_fault(&doc[from..to]);
@@ -79,7 +81,9 @@ fn value_breach(doc: &[u8], from: usize, to: usize) -> Option<usize>
 
 // In the comment whose `<` stands at a place and which ends at another.
 fn comment_breach(doc: &[u8], at: usize, end: usize) -> Option<usize>
-    requires { («at» + 7 ≤ «end») × («end» ≤ length doc.now) × (length doc.now ≤ 1048576) }
+    requires long { «at» + 7 ≤ «end» }
+    requires inside { «end» ≤ length doc.now }
+    requires short { length doc.now ≤ 1048576 }
     ensures { result ≡ least
         (places_of hyphens (take («end» - 3 - («at» + 4)) (drop («at» + 4) doc.now)) («at» + 4)) }
 {
@@ -91,7 +95,9 @@ fn comment_breach(doc: &[u8], at: usize, end: usize) -> Option<usize>
 
 // In what is ignored from a `<` to a place: only a comment has breaches.
 fn ignored_breach(doc: &[u8], at: usize, end: usize) -> Option<usize>
-    requires { («at» < length doc.now) × Marks doc.now «at» (Ok (Markup.Ignored «end»)) × (length doc.now ≤ 1048576) }
+    requires inside { «at» < length doc.now }
+    requires ignored { Marks doc.now «at» (Ok (Markup.Ignored «end»)) }
+    requires short { length doc.now ≤ 1048576 }
     ensures { result ≡ ignored_breach doc.now «at» }
 {
     if slices::starts_at(doc, at + 1, b"!--") {
@@ -102,11 +108,13 @@ fn ignored_breach(doc: &[u8], at: usize, end: usize) -> Option<usize>
 
 // Past what is ignorable, to the next tag's `<`.
 fn to_tag(doc: &[u8], from: usize) -> Way
-    requires { (from ≤ length doc.now) × (length doc.now ≤ 1048576) }
+    requires in_bounds { from ≤ length doc.now }
+    requires short { length doc.now ≤ 1048576 }
     ensures { Passes doc.now from result }
 {
     let mut breach = None;
     let mut at = slices::find(doc, from, 60);
+    // The next place is what the call found, so no range has it.
     while at < doc.len() {
         match scan::markup_at(doc, at) {
             Ok(Markup::Ignored(next)) => {
@@ -141,11 +149,13 @@ fn attribute_breach(doc: &[u8], a: Attribute) -> Option<usize>
 
 // In the attributes from a place on, and where they end.
 fn attributes_breach(doc: &[u8], classes: &ClassTable, from: usize) -> Way
-    requires { Sound doc.now × (from ≤ length doc.now) }
+    requires sound { Sound doc.now }
+    requires in_bounds { from ≤ length doc.now }
     ensures { Collects doc.now from result }
 {
     let mut breach = None;
     let mut at = from;
+    // The next place is what the call found, so no range has it.
     loop {
         match attributes::attribute_at(doc, classes, at) {
             None => {
@@ -161,7 +171,8 @@ fn attributes_breach(doc: &[u8], classes: &ClassTable, from: usize) -> Way
 
 // In the start tag whose `<` stands at a place.
 fn start_breach(doc: &[u8], classes: &ClassTable, lt: usize) -> Opened
-    requires { Sound doc.now × TagStart doc.now lt }
+    requires sound { Sound doc.now }
+    requires tag { TagStart doc.now lt }
     ensures { Starts doc.now lt result }
 {
     let at = lt + 1;
@@ -187,7 +198,8 @@ fn start_breach(doc: &[u8], classes: &ClassTable, lt: usize) -> Opened
 
 // The place after the closing tag whose `<` stands at a place.
 fn close_end(doc: &[u8], classes: &ClassTable, lt: usize) -> usize
-    requires { TagStart doc.now lt × (lt + 2 ≤ length doc.now) }
+    requires tag { TagStart doc.now lt }
+    requires inside { lt + 2 ≤ length doc.now }
     ensures { Closes doc.now lt result }
 {
     match tags::closing_tag(doc, classes, lt) {
@@ -242,6 +254,7 @@ fn to_root_end(doc: &[u8], classes: &ClassTable) -> Walk
         depth: 0,
         breach: None,
     };
+    // The next place is what the step found, so no range has it.
     loop {
         w = step(doc, classes, w);
         if w.depth == 0 {

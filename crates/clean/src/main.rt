@@ -8,7 +8,7 @@ use output::failure::Failure;
 use std::io;
 use tables::Triple;
 
-// An excerpt as a message's triple.
+// An excerpt as a message's triple. No `From`, since whether it is shown is told beside it.
 fn wide(x: Excerpt, is_shown: bool) -> Wide {
     Wide::from(Triple {
         source: u32::from(is_shown),
@@ -17,7 +17,7 @@ fn wide(x: Excerpt, is_shown: bool) -> Wide {
     })
 }
 
-// A refusal with what its message shows.
+// A refusal with what its message shows. No `From`, since only this program needs it: the crate of messages knows no refusal of a document.
 fn told_of(x: Refusal) -> Told {
     let shown = document::shown_by(x.number);
     Told {
@@ -93,7 +93,7 @@ fn put_clean(rt: &HostRuntime, file: &[u8], space: &mut [u8]) -> io::Result<()> 
 // Cleans what the buffer can hold of standard input; more than the program takes is over-long. The space is for what is written: 6 bytes for each
 // of a document, which is the most that escaping makes of one, and the tags of 1,024 rows.
 fn clean(rt: &HostRuntime, file: &mut [u8]) -> Result<(), Failure> {
-    let end = output::input::read_all(&mut rt.stdin(), file).map_err(Failure::Reading)?;
+    let end = output::input::read_all(&mut rt.stdin(), file)?;
     let mut space: [u8; 524288] = output::filled(0);
     if 65536 < end {
         tell(rt, b"", document::bare(2, 65536), &mut space);

@@ -47,6 +47,7 @@ fn put_column(rows: &[u32], count: usize, k: usize, from: usize, to: usize, out:
     }
 }
 
+// Not one with `put_column`, which takes the word above from its source, and this from what it put.
 // Puts word k of each row of a block: the word above it plus the column's word.
 #[tactic(auto, using(crate::proofs::Putting::putting))]
 fn put_words(columns: &[u32], count: usize, k: usize, from: usize, to: usize, out: &mut [u32])
@@ -140,6 +141,7 @@ fn put_all<W: Way>(source: &[u32], count: usize, out: &mut [u32])
     ensures { Rep 16 out.new count (W.words count source.now) }
 {
     let mut from = 0;
+    // The next row is what the call found, which may be the last.
     while from < count {
         let to = block_end(from, count);
         put_block::<W>(source, count, from, to, out);

@@ -1,4 +1,4 @@
--- Values of attributes: the kind and the raw bytes of one that is there, and the text that it shows.
+-- Values of attributes: the form and the raw bytes of one that is there, and the text that it shows.
 -- Assumes nothing.
 use Prim.Native.Nat.{ℕ, ◌+◌, ◌-◌}
 use mathlib.Core.Path.{◌≡◌, refl, ◌∙◌}
@@ -14,18 +14,20 @@ use Rattle.answers.specs.Puts.{Puts}
 use Rattle.references.specs.Outcome.{Shows}
 use Rattle.document.specs.Tags.{Shown}
 use Rattle.document.specs.Outcome.{Held, Lies, Raw}
+use Rattle.document.specs.declared.Form.{Form}
+use Rattle.document.specs.declared.Form.TheVariants.{Plain, Changed}
 use Rattle.document.specs.declared.Value.{Value}
 
-by_kind : (b : Bool) (k : ℕ) → k ≡ if b 1 2 → (k ≡ 1 → b ≡ true) × (k ≡ 2 → b ≡ false)
-by_kind true k e = ((λ h. refl), λ h. absurd (omega arith))
-by_kind false k e = ((λ h. absurd (omega arith)), λ h. refl)
+by_form : (b : Bool) (k : Form) → k ≡ if b Plain Changed → (k ≡ Plain → b ≡ true) × (k ≡ Changed → b ≡ false)
+by_form true k e = ((λ h. refl), λ h. cc)
+by_form false k e = ((λ h. cc), λ h. refl)
 
 module _ {doc : List ℕ} {v : Value} {s : Shown} (h : Held doc v s) where
-  pub held_plain : v.kind ≡ 1 → all plain s.attr.raw ≡ true
-  held_plain = (by_kind (all plain s.attr.raw) v.kind h.kind).0
+  pub held_plain : v.form ≡ Plain → all plain s.attr.raw ≡ true
+  held_plain = (by_form (all plain s.attr.raw) v.form h.form).0
 
-  pub held_changed : v.kind ≡ 2 → all plain s.attr.raw ≡ false
-  held_changed = (by_kind (all plain s.attr.raw) v.kind h.kind).1
+  pub held_changed : v.form ≡ Changed → all plain s.attr.raw ≡ false
+  held_changed = (by_form (all plain s.attr.raw) v.form h.form).1
 
   pub held_raw : {r : List ℕ} → Raw doc v r → r ≡ s.attr.raw
   held_raw w = w.is ∙ h.raw

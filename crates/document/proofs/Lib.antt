@@ -3,6 +3,7 @@
 -- Assumes nothing.
 pub mod Tests
 pub mod Prefixes
+pub mod Readers
 pub mod Runs
 pub mod Held
 pub mod Presence

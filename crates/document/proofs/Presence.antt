@@ -1,25 +1,25 @@
--- Values of a tag: absent or there, by their kind.
+-- Values of a tag: absent or there, by their form.
 -- Assumes nothing.
 use Prim.Native.Nat.{ℕ}
-use mathlib.Core.Path.{◌≡◌, refl, sym, ◌∙◌}
+use mathlib.Core.Path.{◌≡◌, refl, sym, ap, ◌∙◌}
 use mathlib.Core.List.{List}
 use mathlib.Core.Option.{Option, none, some}
 use mathlib.Core.Bool.{Bool, true, false}
-use native.Mathlib.Omega.{arith}
 use Rattle.slices.specs.Bytes.{if, all}
 use Rattle.references.specs.Unescape.{plain}
 use Rattle.document.specs.Tags.{Shown}
-use Rattle.document.specs.Outcome.{Held, ValueIs}
+use Rattle.document.specs.Outcome.{Held, ValueIs, is_none, is_absent}
+use Rattle.document.specs.declared.Form.TheVariants.{Plain, Changed}
 use Rattle.document.specs.declared.Value.{Value}
 
-not-zero : (t : Bool) → ◌≡◌ {A = ℕ} (if t 1 2) 0 → ⊥
-not-zero true e = omega arith
-not-zero false e = omega arith
+form_there : (t : Bool) → is_none (if t Plain Changed) ≡ false
+form_there true = refl
+form_there false = refl
 
-pub value_absent : (doc : List ℕ) (v : Value) (o : Option Shown) → ValueIs doc v o → v.kind ≡ 0 → o ≡ none
+pub value_absent : (doc : List ℕ) (v : Value) (o : Option Shown) → ValueIs doc v o → is_absent v ≡ true → o ≡ none
 value_absent doc v none h e = refl
-value_absent doc v (some s) h e = absurd (not-zero (all plain s.attr.raw) (sym h.kind ∙ e))
+value_absent doc v (some s) h e = let z : ◌≡◌ {A = Bool} false true = sym (form_there (all plain s.attr.raw)) ∙ ap is_none (sym h.form) ∙ e in cc
 
-pub value_there : (doc : List ℕ) (v : Value) (o : Option Shown) → ValueIs doc v o → (v.kind ≡ 0 → ⊥) → (s : Shown) × (o ≡ some s) × Held doc v s
-value_there doc v none h e = absurd (e h)
+pub value_there : (doc : List ℕ) (v : Value) (o : Option Shown) → ValueIs doc v o → is_absent v ≡ false → (s : Shown) × (o ≡ some s) × Held doc v s
+value_there doc v none h e = let z : ◌≡◌ {A = Bool} true false = ap is_none (sym h) ∙ e in absurd cc
 value_there doc v (some s) h e = (s, refl, h)

@@ -2,6 +2,7 @@
 -- Assumes nothing.
 use Rattle.std.specs.Prelude.{ℕ, suc, ◌+◌, ◌-◌, ◌*◌, ◌≤◌, ◌<◌, ◌≡◌, List, ◌∷◌, Bool, true, false, not, eqb, length, take, drop, get_or, Result, Ok, Err}
 use Rattle.std.proofs.Math.Option.{Option, none, some}
+use denote.Ref.{at_last}
 use Rattle.slices.specs.Bytes.{if, bytes, all}
 use Rattle.utf8.specs.WellFormed.{ill_formed}
 use Rattle.tables.specs.Table.{Rep}
@@ -15,7 +16,9 @@ use Rattle.document.specs.Refusals.{fault_in}
 use Rattle.document.specs.Rows.{Row, Tables, words_from, texts, warned}
 use Rattle.document.specs.Elements.{kind_of, among, held_by_lem, opens, refuses, opens_as}
 use Rattle.document.specs.Reading as reading
-use Rattle.document.specs.Reading.{Purpose, Frame, element, State, refused, name_of, parent_of, closed, with_row, shut, started, child, noted, begins, unsupported, docstring_in, passing, run, Name}
+use Rattle.document.specs.Reading.{Purpose, Frame, element, State, refused, name_of, parent_of, closed, with_row, shut, started, child, noted, begins, unsupported, docstring_in, passing, run, Name, tag_name}
+use Rattle.document.specs.declared.Form.{Form}
+use Rattle.document.specs.declared.Form.TheVariants.{Absent, Plain, Changed}
 use Rattle.document.specs.declared.Value.{Value}
 use Rattle.document.specs.declared.Values.{Values}
 use Rattle.document.specs.declared.StartTag.{StartTag}
@@ -24,6 +27,7 @@ use Rattle.document.specs.declared.Token.{Token}
 use Rattle.document.specs.declared.Next.{Next}
 use Rattle.document.specs.declared.Closing.{Closing}
 use Rattle.document.specs.declared.Refusal.{Refusal}
+use Rattle.document.specs.declared.Reader.{Reader}
 pub use Rattle.document.specs.Elements.{whole}
 
 abbrev pub runs : List ℕ → ℕ → State Shown → State Shown
@@ -33,16 +37,29 @@ runs doc at s = run whole doc at s
 abbrev pub name_at : List ℕ → ℕ → ℕ → Name
 name_at doc at len = record { at = at; bytes = take len (drop at doc) }
 
+-- how a raw value that is there shows its text
+abbrev pub form_of : List ℕ → Form
+form_of raw = if (all plain raw) Plain Changed
+
+-- a form that is none
+abbrev pub is_none : Form → Bool
+is_none Absent = true
+is_none Plain = false
+is_none Changed = false
+
+abbrev pub is_absent : Value → Bool
+is_absent v = is_none v.form
+
 -- a value that is there: the attribute's raw value stands in the document, and shows its text
 pub record Held (doc : List ℕ) (v : Value) (s : Shown) : Type 0 where
   pub at : v.at ≡ s.attr.valued
   pub len : v.len ≡ length s.attr.raw
   pub raw : take v.len (drop v.at doc) ≡ s.attr.raw
-  pub kind : v.kind ≡ if (all plain s.attr.raw) 1 2
+  pub form : v.form ≡ form_of s.attr.raw
   pub shows : unescape s.attr.raw ≡ text s.value
 
 abbrev pub ValueIs : List ℕ → Value → Option Shown → Type 0
-ValueIs doc v none = v.kind ≡ 0
+ValueIs doc v none = v.form ≡ Absent
 ValueIs doc v (some s) = Held doc v s
 
 -- a value, there or not, is no longer than what is between the two places, and ends before the second
@@ -113,6 +130,21 @@ warnings_in (lent r w t) = w
 
 abbrev pub text_in : Lent → List ℕ
 text_in (lent r w t) = t
+
+-- those that a reader has been lent
+abbrev pub lent_to : Reader → Lent
+lent_to r = lent r.rows.now r.warnings.now r.text.now
+
+-- the same document, classes and buffers, their pointers and ghost names with them; each buffer is as long as it was
+pub record Keeps (r r' : Reader) : Type 0 where
+  pub doc : r'.doc ≡ r.doc
+  pub classes : r'.classes ≡ r.classes
+  pub rows : r'.rows ≡ at_last r.rows r'.rows.now
+  pub warnings : r'.warnings ≡ at_last r.warnings r'.warnings.now
+  pub text : r'.text ≡ at_last r.text r'.text.now
+  pub rows_long : length r'.rows.now ≡ length r.rows.now
+  pub warnings_long : length r'.warnings.now ≡ length r.warnings.now
+  pub text_long : length r'.text.now ≡ length r.text.now
 
 -- the counts at another place
 abbrev pub moved : Fill → ℕ → Fill
@@ -235,6 +267,17 @@ pub record Children (doc : List ℕ) (hs : List ℕ) (docs : Bool) (at len i : �
       not (eqb k kinds.annotation) ≡ docs →
       Stands u b f →
       Ends doc (runs doc f.at (reading.reading (element k (name_at doc at len) i ∷ fs) u)) fs i (take i u.rows) b' r
+
+-- what reading all that follows the row of such an element says: the element is closed by its own tag, or its children are read
+pub record Contents (doc : List ℕ) (hs : List ℕ) (docs : Bool) (c : StartTag) (i : ℕ) (f : Fill) (b b' : Lent) (r : Result Fill Refusal) : Type 0 where
+  pub onward : Onward doc f r
+  pub ends :
+      (k : ℕ) (t : Tag) (fs : List Frame) (u : Tables Shown) →
+      held_by_lem k ≡ hs →
+      not (eqb k kinds.annotation) ≡ docs →
+      TagIs doc c t →
+      Stands u b f →
+      Ends doc (runs doc f.at (if t.self (closed fs u) (reading.reading (element k (tag_name t) i ∷ fs) u))) fs i (take i u.rows) b' r
 
 -- the next token from a place on
 abbrev pub OnwardToken : List ℕ → ℕ → Result Token Refusal → Type 0

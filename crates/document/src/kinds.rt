@@ -1,4 +1,5 @@
-// The kinds of elements and of their rows. specs/Kinds has the same numbers for the definitions.
+// The kinds of elements and of their rows. specs/Kinds has the same numbers for the definitions. No enum: word 0 of a row that the caller
+// lends has the number.
 
 pub const NODE: u32 = 1;
 

@@ -4,11 +4,12 @@
 ghost use Rattle.std.specs.Prelude.{◌≡◌, ◌+◌, ◌<◌, ◌^◌};
 ghost use Rattle.document.specs.Refusals.{bare, showing, shown_by};
 ghost use Rattle.document.specs.declared.Excerpt.{Excerpt};
-ghost use Rattle.document.specs.Outcome.{Lies, Raw, moved};
+ghost use Rattle.document.specs.Outcome.{Lies, Raw, is_absent, moved};
 
 pub mod kinds;
 
 use faults::Fault;
+use scan::ClassTable;
 
 // Bytes of the document, by their place and how many they are.
 #[derive(Clone, Copy)]
@@ -31,7 +32,7 @@ impl Excerpt {
 }
 
 // Why a document is refused: the place, the number, and what the message shows: the key of a missing attribute, and up to two
-// excerpts.
+// excerpts. The number is no enum, since the interface for C tells it.
 #[derive(Clone, Copy)]
 pub struct Refusal {
     pub place: usize,
@@ -100,12 +101,36 @@ pub struct Counts {
 // What was read of a document, or why it is refused.
 pub type Verdict = Result<Counts, Refusal>;
 
-// The raw value of an attribute: kind 0 is absent, 1 shown as it stands, 2 changed.
+// How the raw value of an attribute shows its text: as it stands, or changed; or there is no such attribute.
+#[derive(Clone, Copy)]
+pub enum Form {
+    Absent,
+    Plain,
+    Changed,
+}
+
+// The raw value of an attribute.
 #[derive(Clone, Copy)]
 pub struct Value {
     pub at: u32,
     pub len: u32,
-    pub kind: u32,
+    pub form: Form,
+}
+
+impl Value {
+    // A value that is not there.
+    pub const ABSENT: Value = Value {
+        at: 0,
+        len: 0,
+        form: Form::Absent,
+    };
+
+    // Whether a value is not there.
+    pub fn is_absent(self) -> bool
+        ensures { result ≡ is_absent self }
+    {
+        matches!(self.form, Form::Absent)
+    }
 }
 
 // The raw bytes of a value.
@@ -173,7 +198,7 @@ pub struct ClosingTag {
     pub end: usize,
 }
 
-// A token: the end, a closing tag or a start tag.
+// A token: the end, a closing tag or a start tag. No Option: each of the three has a value of its own.
 #[derive(Clone, Copy)]
 pub enum Token {
     End(usize),
@@ -188,9 +213,19 @@ pub struct Closing {
     pub end: usize,
 }
 
-// What comes next in an open element: its closing tag, or a start tag.
+// What comes next in an open element: its closing tag, or a start tag. No Option: each has a value of its own.
 #[derive(Clone, Copy)]
 pub enum Next {
     Close(Closing),
     Start(StartTag),
+}
+
+// What reading goes over and what it fills: the document, the classes of its bytes, and the buffers that the caller lends.
+#[derive(Drop)]
+pub struct Reader<'a, 'r> {
+    pub doc: &'a [u8],
+    pub classes: &'a ClassTable,
+    pub rows: &'r mut [u32],
+    pub warnings: &'r mut [u32],
+    pub text: &'r mut [u8],
 }

@@ -5,20 +5,21 @@ use mathlib.Core.Path.{◌≡◌, refl, sym, ◌∙◌, ap}
 use mathlib.Core.List.{List}
 use mathlib.Core.Option.{Option, none, some}
 use mathlib.Core.Bool.{Bool, true, false, not}
-use borrow.Author.Rules.{rules}
-use borrow.Author.Tests.{ne_eqb, not-true, not-false}
-use native.Mathlib.Omega.{arith}
 use lib.Dec.{eqb}
+use borrow.Author.Rules.{rules}
+use borrow.Author.Tests.{ne_eqb}
+use native.Mathlib.Omega.{arith}
 use Rattle.std.specs.Prelude.{Ok, Err}
-use Rattle.slices.specs.Bytes.{if, bytes, same}
+use Rattle.slices.specs.Bytes.{bytes}
 use Rattle.names.specs.Names.{interface_name, member_name, property_name}
 use Rattle.names.specs.Signature.{signature}
 use Rattle.document.specs.Kinds as kinds
 use Rattle.document.specs.Tags.{Shown, tp_type}
 use Rattle.document.specs.Tokens.{Tag}
-use Rattle.document.specs.Elements.{attr, access_of, direction_of, directed, kept, row, opens, refuses, opens_as, Opened, required, valid}
-use Rattle.document.specs.Refusals.{nothing, bare, showing, lacking, raw_of}
-use Rattle.document.specs.Outcome.{Held, Lies, ValueIs, ValueFits, Ready, TagIs, Opening, whole}
+use Rattle.document.specs.Elements.{attr, access_of, directed, kept, row, opens, refuses, opens_as, Opened, required, valid}
+use Rattle.document.specs.Refusals.{bare, showing, raw_of}
+use Rattle.document.specs.Outcome.{is_absent, Held, Lies, ValueIs, ValueFits, Ready, TagIs, Opening, whole}
+use Rattle.document.specs.declared.Form.{Form}
 use Rattle.document.specs.declared.Value.{Value}
 use Rattle.document.specs.declared.StartTag.{StartTag}
 use Rattle.document.specs.declared.Fill.{Fill}
@@ -28,19 +29,29 @@ use Rattle.document.proofs.Presence.{value_absent, value_there}
 use Rattle.shown.specs.Outcome.{Tests}
 use Rattle.rows.specs.Outcome.{RowFits, RowPut}
 use Rattle.rows.specs.declared.Head.{Head}
-use Rattle.elements.specs.Outcome.{Absent, Accesses, access_word, Directs, direction_word, PropertyNamed, NamedKind, TypedKind, UntypedKind, lacking_at}
+use Rattle.elements.specs.Outcome.{AttributeIs, Steps, demanded, tested, accessed, Accesses, Directs, NamedKind, TypedKind, UntypedKind}
 
 -- a value of a tag lies in the document, and so does one that is not there
 pub lies : {doc : List ℕ} {c : StartTag} {f : Fill} {v : Value} → Ready doc c f → ValueFits c.at c.end v → Lies doc v
 lies r h = record { small = r.sound.small; inside = omega (arith, h.until, r.fits.within) }
 
-pub absent_fits : {doc : List ℕ} {c : StartTag} {f : Fill} {v : Value} → Ready doc c f → Absent v → ValueFits c.at c.end v
-absent_fits r a = record { until = omega (arith, a.at, a.len); short = omega (arith, a.len, r.fits.inside) }
+pub lies_ty : {doc : List ℕ} {c : StartTag} {f : Fill} → Ready doc c f → Lies doc c.values.ty
+lies_ty r = lies r r.fits.values.ty
+
+abbrev absent : Value
+absent = record { at = 0; len = 0; form = Form.Absent }
+
+pub absent_fits : {doc : List ℕ} {c : StartTag} {f : Fill} → Ready doc c f → ValueFits c.at c.end absent
+absent_fits r = record { until = omega arith; short = omega (arith, r.fits.inside) }
 
 -- the reader keeps all of an attribute
 kept_is : (doc : List ℕ) (v : Value) (o : Option Shown) → ValueIs doc v o → ValueIs doc v (kept whole o)
 kept_is doc v none h = h
 kept_is doc v (some s) h = h
+
+-- the head of the row of an element of kind k
+abbrev head_of : StartTag → ℕ → ℕ → ℕ → Head
+head_of c k p w = record { kind = k; parent = p; word = w; at = c.at }
 
 module _ {doc : List ℕ} {c : StartTag} {f : Fill} {h : Head} {name second tp : Value} (r : Ready doc c f) (a : ValueFits c.at c.end name) (b : ValueFits c.at c.end second) (d : ValueFits c.at c.end tp) where
   pub row_fits : h.parent ≤ 1048576 → h.at ≡ c.at → RowFits doc h name second tp f
@@ -57,8 +68,8 @@ module _ {doc : List ℕ} {c : StartTag} {f : Fill} {h : Head} {name second tp :
   }
 
   -- a row that fits the tag's element
-  opened : {k p : ℕ} {rows rows' text text' : List ℕ} {g : Fill} → RowPut doc h name second tp f rows rows' text text' g → h.kind ≡ k → h.parent ≡ p → h.at ≡ c.at → ((t : Tag) → TagIs doc c t → (n v y : Option Shown) × (opens_as whole k p t ≡ opens (row whole t k p n v y h.word)) × ValueIs doc name n × ValueIs doc second v × ValueIs doc tp y) → Opening doc k c p f rows rows' text text' (Ok g)
-  opened {k} {p} {g = g} q e o l i = record {
+  opened : {k p w : ℕ} {rows rows' text text' : List ℕ} {g : Fill} → h ≡ head_of c k p w → RowPut doc h name second tp f rows rows' text text' g → ((t : Tag) → TagIs doc c t → (n v y : Option Shown) × (opens_as whole k p t ≡ opens (row whole t k p n v y w)) × ValueIs doc name n × ValueIs doc second v × ValueIs doc tp y) → Opening doc k c p f rows rows' text text' (Ok g)
+  opened {k} {p} {w} {g = g} e q i = record {
     at = r.at;
     onward = (
       q.at,
@@ -70,7 +81,13 @@ module _ {doc : List ℕ} {c : StartTag} {f : Fill} {h : Head} {name second tp :
         text = omega (arith, q.at, r.at, q.most, r.text, a.short, b.short, d.short, r.fits.inside);
       },
     );
-    is = λ t z. let j = i t z in (row whole t k p j.0 j.1 j.2 h.word, j.3, λ u w s. q.stands (row whole t k p j.0 j.1 j.2 h.word) u w (sym e) (sym o) refl (l ∙ z.at) refl (kept_is doc name j.0 j.4) (kept_is doc second j.1 j.5) (kept_is doc tp j.2 j.6) s);
+    is = λ t z.
+        let j = i t z in
+        let x = row whole t k p j.0 j.1 j.2 w in (
+          x,
+          j.3,
+          λ u l s. q.stands x u l (sym (ap (λ (m : Head). m.kind) e)) (sym (ap (λ (m : Head). m.parent) e)) (sym (ap (λ (m : Head). m.word) e)) (ap (λ (m : Head). m.at) e ∙ z.at) refl (kept_is doc name j.0 j.4) (kept_is doc second j.1 j.5) (kept_is doc tp j.2 j.6) s,
+        );
   }
 
 -- the tag's first fault
@@ -106,299 +123,180 @@ pub mapping_kind : UntypedKind kinds.mapping
 unfolding opens_as
 mapping_kind = record { is = λ p t. refl }
 
--- an attribute that is missing, and one that is there
-missing : (doc key : List ℕ) (t : Tag) (v : Value) → ValueIs doc v (attr key t) → v.kind ≡ 0 → attr key t ≡ none
-missing doc key t v h e = value_absent doc v (attr key t) h e
-
-there : (doc key : List ℕ) (t : Tag) {v : Value} → ValueIs doc v (attr key t) → (v.kind ≡ 0 → ⊥) → (s : Shown) × (attr key t ≡ some s) × Held doc v s
-there doc key t {v} h e = value_there doc v (attr key t) h e
-
-module _ {doc : List ℕ} {c : StartTag} {f : Fill} (r : Ready doc c f) {p : ℕ} {rows rows' text text' : List ℕ} {g : Fill} where
-  -- kinds whose attributes may be missing
-  module _ {x y : Value} (a : Absent x) (b : Absent y) where
-    pub node_done : RowPut doc (record { kind = kinds.node; parent = p; word = 0; at = c.at }) c.values.name x y f rows rows' text text' g → Opening doc kinds.node c p f rows rows' text text' (Ok g)
-    unfolding opens_as
-    node_done q =
-        opened r r.fits.values.name (absent_fits r a) (absent_fits r b) q refl refl refl
-        (λ t z. (attr (bytes "name") t, none, none, refl, z.values.name, a.kind, b.kind))
-
-    pub untyped_done : {k : ℕ} → UntypedKind k → RowPut doc (record { kind = k; parent = p; word = 0; at = c.at }) c.values.name x y f rows rows' text text' g → Opening doc k c p f rows rows' text text' (Ok g)
-    untyped_done i q =
-        opened r r.fits.values.name (absent_fits r a) (absent_fits r b) q refl refl refl
-        (λ t z. (attr (bytes "name") t, none, none, i.is p t, z.values.name, a.kind, b.kind))
-
-    -- a name that is there and good
-    pub named_done : {k : ℕ} {good : List ℕ → Bool} {ok : Bool} → NamedKind good k → (c.values.name.kind ≡ 0 → ⊥) → Tests good doc c.values.name ok → ok ≡ true → RowPut doc (record { kind = k; parent = p; word = 0; at = c.at }) c.values.name x y f rows rows' text text' g → Opening doc k c p f rows rows' text text' (Ok g)
-    named_done i n o e q =
-        opened r r.fits.values.name (absent_fits r a) (absent_fits r b) q refl refl refl
-        (λ t z.
-        let s = there doc (bytes "name") t z.values.name n in
-        (some s.0, none, none, i.is p t ∙ rw (s.1, sym (o.is s.0 s.2) ∙ e), s.2, a.kind, b.kind))
-
-  module _ {x : Value} (a : Absent x) where
-    pub typed_done : {k : ℕ} → TypedKind k → RowPut doc (record { kind = k; parent = p; word = 0; at = c.at }) c.values.name c.values.ty x f rows rows' text text' g → Opening doc k c p f rows rows' text text' (Ok g)
-    typed_done i q =
-        opened r r.fits.values.name r.fits.values.ty (absent_fits r a) q refl refl refl
-        (λ t z. (attr (bytes "name") t, attr (bytes "type") t, none, i.is p t, z.values.name, z.values.ty, a.kind))
-
-    pub enumvalue_done : RowPut doc (record { kind = kinds.enumvalue; parent = p; word = 0; at = c.at }) c.values.suffix c.values.value x f rows rows' text text' g → Opening doc kinds.enumvalue c p f rows rows' text text' (Ok g)
-    unfolding opens_as
-    enumvalue_done q =
-        opened r r.fits.values.suffix r.fits.values.value (absent_fits r a) q refl refl refl
-        (λ t z. (attr (bytes "suffix") t, attr (bytes "value") t, none, refl, z.values.suffix, z.values.value, a.kind))
-
-    pub annotation_done : (c.values.name.kind ≡ 0 → ⊥) → (c.values.value.kind ≡ 0 → ⊥) → RowPut doc (record { kind = kinds.annotation; parent = p; word = 0; at = c.at }) c.values.name c.values.value x f rows rows' text text' g → Opening doc kinds.annotation c p f rows rows' text text' (Ok g)
-    unfolding opens_as
-    annotation_done n v q =
-        opened r r.fits.values.name r.fits.values.value (absent_fits r a) q refl refl refl
-        (λ t z.
-        let s = there doc (bytes "name") t z.values.name n in
-        let w = there doc (bytes "value") t z.values.value v in
-        (some s.0, some w.0, none, rw (s.1, w.1), s.2, w.2, a.kind))
-
-  pub member_done : RowPut doc (record { kind = kinds.member; parent = p; word = 0; at = c.at }) c.values.name c.values.ty c.values.tp f rows rows' text text' g → Opening doc kinds.member c p f rows rows' text text' (Ok g)
-  unfolding opens_as
-  member_done q =
-      opened r r.fits.values.name r.fits.values.ty r.fits.values.tp q refl refl refl
-      (λ t z. (attr (bytes "name") t, attr (bytes "type") t, tp_type t.attrs, refl, z.values.name, z.values.ty, z.values.tp))
-
--- faults, at the element name
-lacks_tag : {doc : List ℕ} {c : StartTag} {t : Tag} {k : ℕ} → TagIs doc c t → lacking k t ≡ lacking_at k c.at c.len
-lacks_tag z = rw (z.at, z.named.len)
-
-pub lacking_is : {key at len : ℕ} {e : Excerpt} → e ≡ record { at = at; len = len } → ◌≡◌ {A = Refusal} (record { place = at; number = 12; key = key; first = e; second = nothing }) (lacking_at key at len)
-lacking_is h = rw h
+-- ---- steps
 
 pub tag_small : {doc : List ℕ} {c : StartTag} {f : Fill} → Ready doc c f → c.at + c.len < 2 ^ 32
 tag_small r = omega (arith, r.fits.inside, r.fits.within, r.sound.small)
 
--- after the tag, the raw value
-shown_after : {doc : List ℕ} {c : StartTag} {t : Tag} {v : Value} {s : Shown} (n : ℕ) → TagIs doc c t → Held doc v s → showing n t.after (raw_of s) ≡ showing n c.end (record { at = v.at; len = v.len })
-shown_after n z h = rw (z.end, h.at, h.len)
+-- an attribute is there, or it is missing
+pub demand_there : {c : StartTag} {v : Value} (key : ℕ) → is_absent v ≡ false → (doc k : List ℕ) → AttributeIs doc c v k → Steps {V = Unit {0}} doc c (λ u s. Held doc v s) (demanded key k) (Ok tt)
+demand_there {c} {v} key e doc k h = λ t z. let s = value_there doc v (attr k t) (h t z) e in (s.0, s.2, λ f. ap (λ o. required whole key o t f) s.1)
 
-module _ {doc : List ℕ} {c : StartTag} {f : Fill} (r : Ready doc c f) {p : ℕ} {rows text : List ℕ} where
-  pub named_missing : {k : ℕ} {good : List ℕ → Bool} {x : Refusal} → NamedKind good k → c.values.name.kind ≡ 0 → x ≡ lacking_at 1 c.at c.len → Opening doc k c p f rows rows text text (Err x)
-  named_missing i e q = refused r (λ t z. i.is p t ∙ rw (missing doc (bytes "name") t c.values.name z.values.name e) (ap refuses (lacks_tag z ∙ sym q)))
+pub demand_missing : {c : StartTag} {v : Value} (key : ℕ) {e : Excerpt} {x : Refusal} → is_absent v ≡ true → e ≡ record { at = c.at; len = c.len } → x ≡ showing 12 c.at e → (doc k : List ℕ) → AttributeIs doc c v k → Steps {V = Unit {0}} doc c (λ u s. Held doc v s) (demanded key k) (Err (record { place = x.place; number = x.number; key = key; first = x.first; second = x.second }))
+demand_missing {c} {v} key n e q doc k h = λ t z f. rw (value_absent doc v (attr k t) (h t z) n, q, e, z.at, z.named.len)
 
-  pub named_bad : {k : ℕ} {good : List ℕ → Bool} {ok : Bool} {x : Refusal} → NamedKind good k → (c.values.name.kind ≡ 0 → ⊥) → Tests good doc c.values.name ok → ok ≡ false → x ≡ bare 13 c.at → Opening doc k c p f rows rows text text (Err x)
-  named_bad i n o e q =
-      refused r
-      (λ t z.
-      let s = there doc (bytes "name") t z.values.name n in
-      i.is p t ∙ rw (s.1, sym (o.is s.0 s.2) ∙ e) (ap refuses (ap (bare 13) (sym z.at) ∙ sym q)))
+-- what is left of a step after the attribute is there
+abbrev rest : ℕ → (List ℕ → Bool) → Tag → (Shown → Opened Shown) → Shown → Opened Shown
+rest number p t f s = valid whole (p s.value) (bare number (ℕ.suc t.at)) (f s)
 
-  pub annotation_unnamed : {x : Refusal} → c.values.name.kind ≡ 0 → x ≡ lacking_at 1 c.at c.len → Opening doc kinds.annotation c p f rows rows text text (Err x)
+pub good_missing : {doc k : List ℕ} {c : StartTag} {key : ℕ} (number : ℕ) (p : List ℕ → Bool) {x : Refusal} → ((t : Tag) → TagIs doc c t → (f : Shown → Opened Shown) → demanded key k t f ≡ refuses x) → (t : Tag) → TagIs doc c t → (f : Shown → Opened Shown) → tested key k number p t f ≡ refuses x
+good_missing number p h t z f = h t z (rest number p t f)
+
+module _ {doc k : List ℕ} {c : StartTag} {v : Value} {key : ℕ} (number : ℕ) (p : List ℕ → Bool) (h : Steps {V = Unit {0}} doc c (λ u s. Held doc v s) (demanded key k) (Ok tt)) {r : Bool} (i : Tests p doc v r) where
+  pub good_there : r ≡ true → Steps {V = Unit {0}} doc c (λ u s. Held doc v s) (tested key k number p) (Ok tt)
+  good_there e = λ t z. let s = h t z in (s.0, s.1, λ f. s.2 (rest number p t f) ∙ ap (λ b. valid whole b (bare number (ℕ.suc t.at)) (f s.0)) (sym (i.is s.0 s.1) ∙ e))
+
+  pub good_bad : {x : Refusal} → r ≡ false → x ≡ bare number c.at → (t : Tag) → TagIs doc c t → (f : Shown → Opened Shown) → tested key k number p t f ≡ refuses x
+  good_bad e q t z f =
+      let s = h t z in
+      s.2 (rest number p t f) ∙ ap (λ b. valid whole b (bare number (ℕ.suc t.at)) (f s.0)) (sym (i.is s.0 s.1) ∙ e) ∙ ap refuses (ap (bare number) (sym z.at) ∙ sym q)
+
+-- ---- an access and a direction
+
+-- what is left of an access after the attribute is there
+abbrev after : Tag → (ℕ → Opened Shown) → Shown → Opened Shown
+after t f a = valid whole (not (eqb (access_of a.value) 0)) (showing 15 t.after (raw_of a)) (f (access_of a.value))
+
+module _ {doc : List ℕ} {c : StartTag} where
+  pub access_at : {v : Value} {e : Excerpt} {t : Tag} {s : Shown} (number : ℕ) {x : Refusal} → TagIs doc c t → Held doc v s → e ≡ record { at = v.at; len = v.len } → x ≡ showing number c.end e → showing number t.after (raw_of s) ≡ x
+  access_at number z h e q = sym (q ∙ rw (e, z.end, h.at, h.len))
+
+  module _ (d : Steps {V = Unit {0}} doc c (λ u s. Held doc c.values.access s) (demanded 3 (bytes "access")) (Ok tt)) {w : ℕ} (l : Tests access_of doc c.values.access w) where
+    pub access_bad : {e : Excerpt} {x : Refusal} → w ≡ 0 → e ≡ record { at = c.values.access.at; len = c.values.access.len } → x ≡ showing 15 c.end e → Accesses doc c (Err x)
+    access_bad n e q = record {
+      is = λ t z f.
+          let s = d t z in
+          s.2 (after t f) ∙ rw (sym (l.is s.0 s.1) ∙ n) (ap refuses (access_at 15 z s.1 e q));
+    }
+
+    pub access_good : (w ≡ 0 → ⊥) → Accesses doc c (Ok w)
+    access_good n = record {
+      is = λ t z.
+          let s = d t z in
+          (access_of s.0.value, l.is s.0 s.1, λ f. s.2 (after t f) ∙ rw (ne_eqb (access_of s.0.value) 0 (λ i. n (l.is s.0 s.1 ∙ i))));
+    }
+
+-- ---- rows
+
+module _ {doc : List ℕ} {c : StartTag} {f : Fill} (r : Ready doc c f) {p : ℕ} {h : Head} {rows rows' text text' : List ℕ} {g : Fill} where
+  pub node_done : h ≡ head_of c kinds.node p 0 → RowPut doc h c.values.name absent absent f rows rows' text text' g → Opening doc kinds.node c p f rows rows' text text' (Ok g)
   unfolding opens_as
-  annotation_unnamed e q = refused r (λ t z. rw (missing doc (bytes "name") t c.values.name z.values.name e) (ap refuses (lacks_tag z ∙ sym q)))
+  node_done e q = opened r r.fits.values.name (absent_fits r) (absent_fits r) e q (λ t z. (attr (bytes "name") t, none, none, refl, z.values.name, refl, refl))
 
-  pub annotation_unvalued : {x : Refusal} → (c.values.name.kind ≡ 0 → ⊥) → c.values.value.kind ≡ 0 → x ≡ lacking_at 4 c.at c.len → Opening doc kinds.annotation c p f rows rows text text (Err x)
+  pub untyped_done : {k : ℕ} → UntypedKind k → h ≡ head_of c k p 0 → RowPut doc h c.values.name absent absent f rows rows' text text' g → Opening doc k c p f rows rows' text text' (Ok g)
+  untyped_done i e q = opened r r.fits.values.name (absent_fits r) (absent_fits r) e q (λ t z. (attr (bytes "name") t, none, none, i.is p t, z.values.name, refl, refl))
+
+  pub typed_done : {k : ℕ} → TypedKind k → h ≡ head_of c k p 0 → RowPut doc h c.values.name c.values.ty absent f rows rows' text text' g → Opening doc k c p f rows rows' text text' (Ok g)
+  typed_done i e q = opened r r.fits.values.name r.fits.values.ty (absent_fits r) e q (λ t z. (attr (bytes "name") t, attr (bytes "type") t, none, i.is p t, z.values.name, z.values.ty, refl))
+
+  pub enumvalue_done : h ≡ head_of c kinds.enumvalue p 0 → RowPut doc h c.values.suffix c.values.value absent f rows rows' text text' g → Opening doc kinds.enumvalue c p f rows rows' text text' (Ok g)
   unfolding opens_as
-  annotation_unvalued n e q =
-      refused r
-      (λ t z.
-      let s = there doc (bytes "name") t z.values.name n in
-      rw (s.1, missing doc (bytes "value") t c.values.value z.values.value e) (ap refuses (lacks_tag z ∙ sym q)))
+  enumvalue_done e q = opened r r.fits.values.suffix r.fits.values.value (absent_fits r) e q (λ t z. (attr (bytes "suffix") t, attr (bytes "value") t, none, refl, z.values.suffix, z.values.value, refl))
 
-pub lies_name : {doc : List ℕ} {c : StartTag} {f : Fill} → Ready doc c f → Lies doc c.values.name
-lies_name r = lies r r.fits.values.name
-
-not_four : (a b c : Bool) → ◌≡◌ {A = ℕ} (if a 1 (if b 2 (if c 3 0))) 4 → ⊥
-not_four true b c e = omega arith
-not_four false true c e = omega arith
-not_four false false true e = omega arith
-not_four false false false e = omega arith
-
-access_missing : (o : Option Shown) → access_word o ≡ 4 → o ≡ none
-access_missing none e = refl
-access_missing (some s) e = absurd (not_four (same s.value (bytes "read")) (same s.value (bytes "write")) (same s.value (bytes "readwrite")) e)
-
-access_there : (o : Option Shown) → (access_word o ≡ 4 → ⊥) → (s : Shown) × (o ≡ some s) × (access_word o ≡ access_of s.value)
-access_there none e = absurd (e refl)
-access_there (some s) e = (s, refl, refl)
-
-access_bad : {doc : List ℕ} {c : StartTag} {t : Tag} (v : Value) → TagIs doc c t → (o : Option Shown) → ValueIs doc v o → (k : Shown → Opened Shown) → access_word o ≡ 0 → required whole 3 o t (λ a. valid whole (not (eqb (access_of a.value) 0)) (showing 15 t.after (raw_of a)) (k a)) ≡ refuses (showing 15 c.end (record { at = v.at; len = v.len }))
-access_bad v z none h k e = absurd (omega arith)
-access_bad v z (some s) h k e = rw e (ap refuses (shown_after 15 z h))
-
-pub accesses_none : {doc : List ℕ} {v : Value} → v.kind ≡ 0 → Accesses doc v 4
-accesses_none {doc} {v} e = record { is = λ o h. rw (value_absent doc v o h e) }
-
-pub accesses : {doc : List ℕ} {v : Value} {word : ℕ} → (v.kind ≡ 0 → ⊥) → Tests access_of doc v word → Accesses doc v word
-accesses {doc} {v} n l = record { is = λ o h. let s = value_there doc v o h n in l.is s.0 s.2 ∙ sym (ap access_word s.1) }
-
--- property: the tests in a row
-module _ {doc : List ℕ} {c : StartTag} {f : Fill} (r : Ready doc c f) {p : ℕ} where
-  module _ {rows text : List ℕ} where
-    pub property_unnamed : {x : Refusal} → c.values.name.kind ≡ 0 → x ≡ lacking_at 1 c.at c.len → Opening doc kinds.property c p f rows rows text text (Err x)
-    unfolding opens_as
-    property_unnamed e q = refused r (λ t z. rw (missing doc (bytes "name") t c.values.name z.values.name e) (ap refuses (lacks_tag z ∙ sym q)))
-
-  module _ (n : c.values.name.kind ≡ 0 → ⊥) {o : Bool} (i : Tests property_name doc c.values.name o) where
-    pub property_bad : {rows text : List ℕ} {x : Refusal} → not o ≡ true → x ≡ bare 13 c.at → Opening doc kinds.property c p f rows rows text text (Err x)
-    unfolding opens_as
-    property_bad e q =
-        refused r
-        (λ t z.
-        let s = there doc (bytes "name") t z.values.name n in
-        rw (s.1, sym (i.is s.0 s.2) ∙ not-true o e) (ap refuses (ap (bare 13) (sym z.at) ∙ sym q)))
-
-  module _ (h : PropertyNamed doc c) where
-    pub property_untyped : {rows text : List ℕ} {x : Refusal} → c.values.ty.kind ≡ 0 → x ≡ lacking_at 2 c.at c.len → Opening doc kinds.property c p f rows rows text text (Err x)
-    unfolding opens_as
-    property_untyped e q =
-        refused r
-        (λ t z.
-        let s = h.is t z in
-        rw (s.1, s.3, missing doc (bytes "type") t c.values.ty z.values.ty e) (ap refuses (lacks_tag z ∙ sym q)))
-
-    module _ (m : c.values.ty.kind ≡ 0 → ⊥) {y : Bool} (j : Tests signature doc c.values.ty y) where
-      pub property_unsigned : {rows text : List ℕ} {x : Refusal} → not y ≡ true → x ≡ bare 14 c.at → Opening doc kinds.property c p f rows rows text text (Err x)
-      unfolding opens_as
-      property_unsigned e q =
-          refused r
-          (λ t z.
-          let s = h.is t z in
-          let w = there doc (bytes "type") t z.values.ty m in
-          rw (s.1, s.3, w.1, sym (j.is w.0 w.2) ∙ not-true y e) (ap refuses (ap (bare 14) (sym z.at) ∙ sym q)))
-
-      module _ (x : not y ≡ false) where
-        module _ {word : ℕ} (l : Accesses doc c.values.access word) where
-          pub property_unaccessed : {rows text : List ℕ} {x : Refusal} → word ≡ 4 → x ≡ lacking_at 3 c.at c.len → Opening doc kinds.property c p f rows rows text text (Err x)
-          unfolding opens_as
-          property_unaccessed e q =
-              refused r
-              (λ t z.
-              let s = h.is t z in
-              let w = there doc (bytes "type") t z.values.ty m in
-              rw (s.1, s.3, w.1, sym (j.is w.0 w.2) ∙ not-false y x, access_missing (attr (bytes "access") t) (sym (l.is (attr (bytes "access") t) z.values.access) ∙ e))
-              (ap refuses (lacks_tag z ∙ sym q)))
-
-          pub property_inaccessible : {rows text : List ℕ} {x : Refusal} → word ≡ 0 → x ≡ showing 15 c.end (record { at = c.values.access.at; len = c.values.access.len }) → Opening doc kinds.property c p f rows rows text text (Err x)
-          unfolding opens_as
-          property_inaccessible e q =
-              refused r
-              (λ t z.
-              let s = h.is t z in
-              let w = there doc (bytes "type") t z.values.ty m in
-              rw (s.1, s.3, w.1, sym (j.is w.0 w.2) ∙ not-false y x)
-              (access_bad c.values.access z (attr (bytes "access") t) z.values.access _ (sym (l.is (attr (bytes "access") t) z.values.access) ∙ e) ∙ ap refuses (sym q)))
-
-          pub property_done : {rows rows' text text' : List ℕ} {g : Fill} → (word ≡ 4 → ⊥) → (word ≡ 0 → ⊥) → RowPut doc (record { kind = kinds.property; parent = p; word = word; at = c.at }) c.values.name c.values.ty c.values.tp f rows rows' text text' g → Opening doc kinds.property c p f rows rows' text text' (Ok g)
-          unfolding opens_as
-          property_done n e q =
-              opened r r.fits.values.name r.fits.values.ty r.fits.values.tp q refl refl refl
-              (λ t z.
-              let s = h.is t z in
-              let w = there doc (bytes "type") t z.values.ty m in
-              let k = l.is (attr (bytes "access") t) z.values.access in
-              let v = access_there (attr (bytes "access") t) (λ i. n (k ∙ i)) in (
-                some s.0,
-                some w.0,
-                tp_type t.attrs,
-                rw (s.1, s.3, w.1, sym (j.is w.0 w.2) ∙ not-false y x, v.1, sym v.2 ∙ sym k, ne_eqb word 0 e),
-                s.2,
-                w.2,
-                z.values.tp,
-              ))
-
-pub property_named : {doc : List ℕ} {c : StartTag} {o : Bool} → (c.values.name.kind ≡ 0 → ⊥) → Tests property_name doc c.values.name o → not o ≡ false → PropertyNamed doc c
-property_named {doc} {c} {o} n i d = record {
-  is = λ t z.
-      let s = there doc (bytes "name") t z.values.name n in
-      (s.0, s.1, s.2, sym (i.is s.0 s.2) ∙ not-false o d);
-}
-
--- arg: two tests and a direction
-pub directs_none : {doc : List ℕ} {v : Value} → v.kind ≡ 0 → Directs doc v 0
-directs_none {doc} {v} e = record { is = λ o h. rw (value_absent doc v o h e) }
-
-module _ {doc : List ℕ} {v : Value} (n : v.kind ≡ 0 → ⊥) {word : ℕ} (l : Tests direction_of doc v word) where
-  pub directs_bad : word ≡ 0 → Directs doc v 3
-  directs_bad e = record { is = λ o h. let s = value_there doc v o h n in rw (s.1, sym (l.is s.0 s.2) ∙ e) }
-
-  pub directs : (word ≡ 0 → ⊥) → Directs doc v word
-  directs e = record { is = λ o h. let s = value_there doc v o h n in rw (s.1, sym (l.is s.0 s.2), ne_eqb word 0 e) }
-
-not_three : (a b : Bool) → ◌≡◌ {A = ℕ} (if a 1 (if b 2 0)) 3 → ⊥
-not_three true b e = omega arith
-not_three false true e = omega arith
-not_three false false e = omega arith
-
-direction_bad : {doc : List ℕ} {c : StartTag} {t : Tag} (v : Value) → TagIs doc c t → (o : Option Shown) → ValueIs doc v o → (k : ℕ → Opened Shown) → direction_word o ≡ 3 → directed whole o t k ≡ refuses (showing 16 c.end (record { at = v.at; len = v.len }))
-direction_bad v z none h k e = absurd (omega arith)
-direction_bad {doc} {c} {t} v z (some s) h k e = go (eqb (direction_of s.value) 0) refl e
-  where
-    go : (b : Bool) → eqb (direction_of s.value) 0 ≡ b → if b 3 (direction_of s.value) ≡ 3 → directed whole (some s) t k ≡ refuses (showing 16 c.end (record { at = v.at; len = v.len }))
-    go true i e = rw i (ap refuses (shown_after 16 z h))
-    go false i e = absurd (not_three (same s.value (bytes "in")) (same s.value (bytes "out")) e)
-
-direction_good : (t : Tag) (o : Option Shown) (k : ℕ → Opened Shown) → (direction_word o ≡ 3 → ⊥) → directed whole o t k ≡ k (direction_word o)
-direction_good t none k e = refl
-direction_good t (some s) k e = go (eqb (direction_of s.value) 0) refl e
-  where
-    go : (b : Bool) → eqb (direction_of s.value) 0 ≡ b → (if b 3 (direction_of s.value) ≡ 3 → ⊥) → directed whole (some s) t k ≡ k (if b 3 (direction_of s.value))
-    go true h e = absurd (e refl)
-    go false h e = rw h
-
-module _ {doc : List ℕ} {c : StartTag} {f : Fill} (r : Ready doc c f) where
-  pub arg_untyped : {p : ℕ} {rows text : List ℕ} {x : Refusal} → c.values.ty.kind ≡ 0 → x ≡ lacking_at 2 c.at c.len → Opening doc kinds.arg c p f rows rows text text (Err x)
+  pub member_done : h ≡ head_of c kinds.member p 0 → RowPut doc h c.values.name c.values.ty c.values.tp f rows rows' text text' g → Opening doc kinds.member c p f rows rows' text text' (Ok g)
   unfolding opens_as
-  arg_untyped e q = refused r (λ t z. rw (missing doc (bytes "type") t c.values.ty z.values.ty e) (ap refuses (lacks_tag z ∙ sym q)))
+  member_done e q = opened r r.fits.values.name r.fits.values.ty r.fits.values.tp e q (λ t z. (attr (bytes "name") t, attr (bytes "type") t, tp_type t.attrs, refl, z.values.name, z.values.ty, z.values.tp))
 
-  module _ (m : c.values.ty.kind ≡ 0 → ⊥) {y : Bool} (j : Tests signature doc c.values.ty y) where
-    pub arg_unsigned : {p : ℕ} {rows text : List ℕ} {x : Refusal} → not y ≡ true → x ≡ bare 14 c.at → Opening doc kinds.arg c p f rows rows text text (Err x)
-    unfolding opens_as
-    arg_unsigned e q =
-        refused r
-        (λ t z.
-        let w = there doc (bytes "type") t z.values.ty m in
-        rw (w.1, sym (j.is w.0 w.2) ∙ not-true y e) (ap refuses (ap (bare 14) (sym z.at) ∙ sym q)))
+  -- a name that is there and good
+  pub named_done : {k : ℕ} {good : List ℕ → Bool} → NamedKind good k → Steps {V = Unit {0}} doc c (λ u s. Held doc c.values.name s) (tested 1 (bytes "name") 13 good) (Ok tt) → h ≡ head_of c k p 0 → RowPut doc h c.values.name absent absent f rows rows' text text' g → Opening doc k c p f rows rows' text text' (Ok g)
+  named_done {k} i d e q = opened r r.fits.values.name (absent_fits r) (absent_fits r) e q (λ t z. let s = d t z in (some s.0, none, none, i.is p t ∙ s.2 (λ n. opens (row whole t k p (some n) none none 0)), s.1, refl, refl))
 
-    module _ (x : not y ≡ false) {word : ℕ} (l : Directs doc c.values.direction word) where
-      typed : (p : ℕ) (t : Tag) → TagIs doc c t → (w : Shown) × Held doc c.values.ty w × (opens_as whole kinds.arg p t ≡ directed whole (attr (bytes "direction") t) t (λ d. opens (row whole t kinds.arg p (attr (bytes "name") t) (some w) (tp_type t.attrs) d)))
-      unfolding opens_as
-      typed p t z =
-          let w = there doc (bytes "type") t z.values.ty m in
-          (w.0, w.2, rw (w.1, sym (j.is w.0 w.2) ∙ not-false y x))
+pub named_refused : {doc : List ℕ} {c : StartTag} {f : Fill} {k p : ℕ} {good : List ℕ → Bool} {x : Refusal} {rows text : List ℕ} → Ready doc c f → NamedKind good k → ((t : Tag) → TagIs doc c t → (f : Shown → Opened Shown) → tested 1 (bytes "name") 13 good t f ≡ refuses x) → Opening doc k c p f rows rows text text (Err x)
+named_refused {k = k} {p = p} r i d = refused r (λ t z. i.is p t ∙ d t z (λ n. opens (row whole t k p (some n) none none 0)))
 
-      pub arg_undirected : {p : ℕ} {rows text : List ℕ} {x : Refusal} → word ≡ 3 → x ≡ showing 16 c.end (record { at = c.values.direction.at; len = c.values.direction.len }) → Opening doc kinds.arg c p f rows rows text text (Err x)
-      arg_undirected {p} e q =
-          refused r
+-- annotation: two attributes
+annotation_is : (p : ℕ) (t : Tag) → opens_as whole kinds.annotation p t ≡ demanded 1 (bytes "name") t (λ n. demanded 4 (bytes "value") t (λ v. opens (row whole t kinds.annotation p (some n) (some v) none 0)))
+unfolding opens_as
+annotation_is p t = refl
+
+module _ {doc : List ℕ} {c : StartTag} {f : Fill} (r : Ready doc c f) (p : ℕ) where
+  pub annotation_unnamed : {x : Refusal} {rows text : List ℕ} → ((t : Tag) → TagIs doc c t → (f : Shown → Opened Shown) → demanded 1 (bytes "name") t f ≡ refuses x) → Opening doc kinds.annotation c p f rows rows text text (Err x)
+  annotation_unnamed d = refused r (λ t z. annotation_is p t ∙ d t z (λ n. demanded 4 (bytes "value") t (λ v. opens (row whole t kinds.annotation p (some n) (some v) none 0))))
+
+  module _ (d : Steps {V = Unit {0}} doc c (λ u s. Held doc c.values.name s) (demanded 1 (bytes "name")) (Ok tt)) where
+    first : (t : Tag) (z : TagIs doc c t) → opens_as whole kinds.annotation p t ≡ demanded 4 (bytes "value") t (λ v. opens (row whole t kinds.annotation p (some (d t z).0) (some v) none 0))
+    first t z = annotation_is p t ∙ (d t z).2 (λ n. demanded 4 (bytes "value") t (λ v. opens (row whole t kinds.annotation p (some n) (some v) none 0)))
+
+    pub annotation_unvalued : {x : Refusal} {rows text : List ℕ} → ((t : Tag) → TagIs doc c t → (f : Shown → Opened Shown) → demanded 4 (bytes "value") t f ≡ refuses x) → Opening doc kinds.annotation c p f rows rows text text (Err x)
+    annotation_unvalued y = refused r (λ t z. first t z ∙ y t z (λ v. opens (row whole t kinds.annotation p (some (d t z).0) (some v) none 0)))
+
+    pub annotation_done : {h : Head} {rows rows' text text' : List ℕ} {g : Fill} → Steps {V = Unit {0}} doc c (λ u s. Held doc c.values.value s) (demanded 4 (bytes "value")) (Ok tt) → h ≡ head_of c kinds.annotation p 0 → RowPut doc h c.values.name c.values.value absent f rows rows' text text' g → Opening doc kinds.annotation c p f rows rows' text text' (Ok g)
+    annotation_done y e q = opened r r.fits.values.name r.fits.values.value (absent_fits r) e q (λ t z. let v = y t z in (some (d t z).0, some v.0, none, first t z ∙ v.2 (λ v. opens (row whole t kinds.annotation p (some (d t z).0) (some v) none 0)), (d t z).1, v.1, refl))
+
+-- property: three steps
+abbrev property_next : ℕ → Tag → Shown → Opened Shown
+property_next p t n = tested 2 (bytes "type") 14 signature t (λ s. accessed t (λ w. opens (row whole t kinds.property p (some n) (some s) (tp_type t.attrs) w)))
+
+property_is : (p : ℕ) (t : Tag) → opens_as whole kinds.property p t ≡ tested 1 (bytes "name") 13 property_name t (property_next p t)
+unfolding opens_as
+property_is p t = refl
+
+module _ {doc : List ℕ} {c : StartTag} {f : Fill} (r : Ready doc c f) (p : ℕ) where
+  pub property_unnamed : {x : Refusal} {rows text : List ℕ} → ((t : Tag) → TagIs doc c t → (f : Shown → Opened Shown) → tested 1 (bytes "name") 13 property_name t f ≡ refuses x) → Opening doc kinds.property c p f rows rows text text (Err x)
+  property_unnamed d = refused r (λ t z. property_is p t ∙ d t z (property_next p t))
+
+  module _ (d : Steps {V = Unit {0}} doc c (λ u s. Held doc c.values.name s) (tested 1 (bytes "name") 13 property_name) (Ok tt)) where
+    past_name : (t : Tag) (z : TagIs doc c t) → opens_as whole kinds.property p t ≡ property_next p t (d t z).0
+    past_name t z = property_is p t ∙ (d t z).2 (property_next p t)
+
+    pub property_untyped : {x : Refusal} {rows text : List ℕ} → ((t : Tag) → TagIs doc c t → (f : Shown → Opened Shown) → tested 2 (bytes "type") 14 signature t f ≡ refuses x) → Opening doc kinds.property c p f rows rows text text (Err x)
+    property_untyped y = refused r (λ t z. past_name t z ∙ y t z (λ s. accessed t (λ w. opens (row whole t kinds.property p (some (d t z).0) (some s) (tp_type t.attrs) w))))
+
+    module _ (y : Steps {V = Unit {0}} doc c (λ u s. Held doc c.values.ty s) (tested 2 (bytes "type") 14 signature) (Ok tt)) where
+      past_type : (t : Tag) (z : TagIs doc c t) → opens_as whole kinds.property p t ≡ accessed t (λ w. opens (row whole t kinds.property p (some (d t z).0) (some (y t z).0) (tp_type t.attrs) w))
+      past_type t z = past_name t z ∙ (y t z).2 (λ s. accessed t (λ w. opens (row whole t kinds.property p (some (d t z).0) (some s) (tp_type t.attrs) w)))
+
+      pub property_unaccessed : {x : Refusal} {rows text : List ℕ} → Accesses doc c (Err x) → Opening doc kinds.property c p f rows rows text text (Err x)
+      property_unaccessed a = refused r (λ t z. past_type t z ∙ a.is t z (λ w. opens (row whole t kinds.property p (some (d t z).0) (some (y t z).0) (tp_type t.attrs) w)))
+
+      pub property_done : {h : Head} {w : ℕ} {rows rows' text text' : List ℕ} {g : Fill} → Accesses doc c (Ok w) → h ≡ head_of c kinds.property p 0 → RowPut doc (record { kind = h.kind; parent = h.parent; word = w; at = h.at }) c.values.name c.values.ty c.values.tp f rows rows' text text' g → Opening doc kinds.property c p f rows rows' text text' (Ok g)
+      property_done {w = w} a e q =
+          opened r r.fits.values.name r.fits.values.ty r.fits.values.tp (rw e) q
           (λ t z.
-          (typed p t z).2
-          ∙ direction_bad c.values.direction z (attr (bytes "direction") t) z.values.direction (λ d. opens (row whole t kinds.arg p (attr (bytes "name") t) (some (typed p t z).0) (tp_type t.attrs) d)) (sym (l.is (attr (bytes "direction") t) z.values.direction) ∙ e)
-          ∙ ap refuses (sym q))
-
-      pub arg_done : {p : ℕ} {rows rows' text text' : List ℕ} {g : Fill} → (word ≡ 3 → ⊥) → RowPut doc (record { kind = kinds.arg; parent = p; word = word; at = c.at }) c.values.name c.values.ty c.values.tp f rows rows' text text' g → Opening doc kinds.arg c p f rows rows' text text' (Ok g)
-      arg_done {p} e q =
-          opened r r.fits.values.name r.fits.values.ty r.fits.values.tp q refl refl refl
-          (λ t z.
-          let h = l.is (attr (bytes "direction") t) z.values.direction in (
-            attr (bytes "name") t,
-            some (typed p t z).0,
+          let n = a.is t z in (
+            some (d t z).0,
+            some (y t z).0,
             tp_type t.attrs,
-            (typed p t z).2
-                ∙ direction_good t (attr (bytes "direction") t) (λ d. opens (row whole t kinds.arg p (attr (bytes "name") t) (some (typed p t z).0) (tp_type t.attrs) d)) (λ i. e (h ∙ i))
-                ∙ ap (λ d. opens (row whole t kinds.arg p (attr (bytes "name") t) (some (typed p t z).0) (tp_type t.attrs) d)) (sym h),
-            z.values.name,
-            (typed p t z).1,
+            past_type t z ∙ n.2 (λ w. opens (row whole t kinds.property p (some (d t z).0) (some (y t z).0) (tp_type t.attrs) w)) ∙ ap (λ w. opens (row whole t kinds.property p (some (d t z).0) (some (y t z).0) (tp_type t.attrs) w)) (sym n.1),
+            (d t z).1,
+            (y t z).1,
             z.values.tp,
           ))
 
-pub typed_fits : {doc : List ℕ} {c : StartTag} {f : Fill} {h : Head} → Ready doc c f → h.parent ≤ 1048576 → h.at ≡ c.at → RowFits doc h c.values.name c.values.ty c.values.tp f
-typed_fits r p l = row_fits r r.fits.values.name r.fits.values.ty r.fits.values.tp p l
+-- arg: two steps
+abbrev arg_last : ℕ → Tag → Shown → ℕ → Opened Shown
+arg_last p t s w = opens (row whole t kinds.arg p (attr (bytes "name") t) (some s) (tp_type t.attrs) w)
 
-pub lies_ty : {doc : List ℕ} {c : StartTag} {f : Fill} → Ready doc c f → Lies doc c.values.ty
-lies_ty r = lies r r.fits.values.ty
+abbrev arg_next : ℕ → Tag → Shown → Opened Shown
+arg_next p t s = directed whole (attr (bytes "direction") t) t (λ w. opens (row whole t kinds.arg p (attr (bytes "name") t) (some s) (tp_type t.attrs) w))
 
-pub lies_access : {doc : List ℕ} {c : StartTag} {f : Fill} → Ready doc c f → Lies doc c.values.access
-lies_access r = lies r r.fits.values.access
+arg_is : (p : ℕ) (t : Tag) → opens_as whole kinds.arg p t ≡ tested 2 (bytes "type") 14 signature t (arg_next p t)
+unfolding opens_as
+arg_is p t = refl
 
-pub lies_direction : {doc : List ℕ} {c : StartTag} {f : Fill} → Ready doc c f → Lies doc c.values.direction
-lies_direction r = lies r r.fits.values.direction
+module _ {doc : List ℕ} {c : StartTag} {f : Fill} (r : Ready doc c f) (p : ℕ) where
+  pub arg_untyped : {x : Refusal} {rows text : List ℕ} → ((t : Tag) → TagIs doc c t → (f : Shown → Opened Shown) → tested 2 (bytes "type") 14 signature t f ≡ refuses x) → Opening doc kinds.arg c p f rows rows text text (Err x)
+  arg_untyped y = refused r (λ t z. arg_is p t ∙ y t z (arg_next p t))
 
-pub ruleset properties = (tag_small, lies_name, lies_ty, lies_access, typed_fits, property_unnamed, property_bad, property_untyped, property_unsigned, property_unaccessed, property_inaccessible, property_done, property_named, accesses_none, accesses, rules)
+  module _ (y : Steps {V = Unit {0}} doc c (λ u s. Held doc c.values.ty s) (tested 2 (bytes "type") 14 signature) (Ok tt)) where
+    arg_typed : (t : Tag) (z : TagIs doc c t) → opens_as whole kinds.arg p t ≡ arg_next p t (y t z).0
+    arg_typed t z = arg_is p t ∙ (y t z).2 (arg_next p t)
 
-pub ruleset args = (tag_small, lies_ty, lies_direction, typed_fits, directs_none, directs_bad, directs, arg_untyped, arg_unsigned, arg_undirected, arg_done, rules)
+    pub arg_undirected : {x : Refusal} {rows text : List ℕ} → Directs doc c (Err x) → Opening doc kinds.arg c p f rows rows text text (Err x)
+    arg_undirected a = refused r (λ t z. arg_typed t z ∙ a.is t z (arg_last p t (y t z).0))
 
-pub ruleset elements = (lacking_is, tag_small, lies_name, interface_kind, row_fits, absent_fits, node_done, untyped_done, named_done, typed_done, enumvalue_done, annotation_done, member_done, named_missing, named_bad, annotation_unnamed, annotation_unvalued, rules)
+    pub arg_done : {h : Head} {w : ℕ} {rows rows' text text' : List ℕ} {g : Fill} → Directs doc c (Ok w) → h ≡ head_of c kinds.arg p 0 → RowPut doc (record { kind = h.kind; parent = h.parent; word = w; at = h.at }) c.values.name c.values.ty c.values.tp f rows rows' text text' g → Opening doc kinds.arg c p f rows rows' text text' (Ok g)
+    arg_done {w = w} a e q =
+        opened r r.fits.values.name r.fits.values.ty r.fits.values.tp (rw e) q
+        (λ t z.
+        let n = a.is t z in (
+          attr (bytes "name") t,
+          some (y t z).0,
+          tp_type t.attrs,
+          arg_typed t z ∙ n.2 (arg_last p t (y t z).0) ∙ ap (arg_last p t (y t z).0) (sym n.1),
+          z.values.name,
+          (y t z).1,
+          z.values.tp,
+        ))
+
+pub ruleset elements = (tag_small, interface_kind, row_fits, absent_fits, rules)

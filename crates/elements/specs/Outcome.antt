@@ -1,26 +1,43 @@
--- A value that is not there, and the kinds that need a good name and nothing else.
+-- The steps of what a start tag comes to, and the kinds that need a good name and nothing else.
 -- Assumes nothing.
-use Rattle.std.specs.Prelude.{ℕ, ◌≡◌, List, Bool, true, eqb}
-use Rattle.std.proofs.Math.Option.{Option, none, some}
-use Rattle.slices.specs.Bytes.{if, bytes}
-use Rattle.names.specs.Names.{property_name}
+use Rattle.std.specs.Prelude.{ℕ, suc, ◌≡◌, List, Bool, not, eqb, Result, Ok, Err}
+use Rattle.std.proofs.Math.Option.{none}
+use Rattle.slices.specs.Bytes.{bytes}
 use Rattle.document.specs.Tags.{Shown}
 use Rattle.document.specs.Tokens.{Tag}
-use Rattle.document.specs.Elements.{attr, access_of, direction_of, row, opens, named_row, opens_as}
-use Rattle.document.specs.Refusals.{nothing}
-use Rattle.document.specs.Outcome.{Held, ValueIs, TagIs, whole}
+use Rattle.document.specs.Elements.{attr, access_of, directed, row, Opened, opens, refuses, required, valid, named_row, opens_as}
+use Rattle.document.specs.Refusals.{bare, showing, raw_of}
+use Rattle.document.specs.Outcome.{ValueIs, TagIs, whole}
 use Rattle.document.specs.declared.Refusal.{Refusal}
 use Rattle.document.specs.declared.Value.{Value}
 use Rattle.document.specs.declared.StartTag.{StartTag}
 
-pub record Absent (v : Value) : Type 0 where
-  pub at : v.at ≡ 0
-  pub len : v.len ≡ 0
-  pub kind : v.kind ≡ 0
+-- the value is the attribute of a key
+abbrev pub AttributeIs : List ℕ → StartTag → Value → List ℕ → Type 0
+AttributeIs doc c v k = (t : Tag) → TagIs doc c t → ValueIs doc v (attr k t)
 
--- 12 of a tag whose name stands at a place, with a length: the attribute of a key is missing
-abbrev pub lacking_at : ℕ → ℕ → ℕ → Refusal
-lacking_at key at len = record { place = at; number = 12; key = key; first = record { at = at; len = len }; second = nothing }
+-- a step of what a start tag comes to: it goes on with what belongs to the answer, or it refuses
+abbrev pub Steps : {V A : Type 0} → List ℕ → StartTag → (V → A → Type 0) → (Tag → (A → Opened Shown) → Opened Shown) → Result V Refusal → Type 0
+Steps {V} {A} doc c belongs step (Ok v) = (t : Tag) → TagIs doc c t → (a : A) × belongs v a × ((f : A → Opened Shown) → step t f ≡ f a)
+Steps {V} {A} doc c belongs step (Err x) = (t : Tag) → TagIs doc c t → (f : A → Opened Shown) → step t f ≡ refuses x
+
+-- the attribute of a key is there
+abbrev pub demanded : ℕ → List ℕ → Tag → (Shown → Opened Shown) → Opened Shown
+demanded n k t f = required whole n (attr k t) t f
+
+-- and its text is good, or the tag is refused with a number
+abbrev pub tested : ℕ → List ℕ → ℕ → (List ℕ → Bool) → Tag → (Shown → Opened Shown) → Opened Shown
+tested n k e p t f = required whole n (attr k t) t λ s. valid whole (p s.value) (bare e (suc t.at)) (f s)
+
+-- an access is there, and is one of the three
+abbrev pub accessed : Tag → (ℕ → Opened Shown) → Opened Shown
+accessed t f = required whole 3 (attr (bytes "access") t) t λ a. valid whole (not (eqb (access_of a.value) 0)) (showing 15 t.after (raw_of a)) (f (access_of a.value))
+
+pub record Accesses (doc : List ℕ) (c : StartTag) (r : Result ℕ Refusal) : Type 0 where
+  pub is : Steps doc c ◌≡◌ accessed r
+
+pub record Directs (doc : List ℕ) (c : StartTag) (r : Result ℕ Refusal) : Type 0 where
+  pub is : Steps doc c ◌≡◌ (λ t f. directed whole (attr (bytes "direction") t) t f) r
 
 -- interface, method and signal: name there, name good
 pub record NamedKind (good : List ℕ → Bool) (k : ℕ) : Type 0 where
@@ -33,23 +50,3 @@ pub record TypedKind (k : ℕ) : Type 0 where
 -- struct and mapping: name
 pub record UntypedKind (k : ℕ) : Type 0 where
   pub is : (p : ℕ) (t : Tag) → opens_as whole k p t ≡ opens (row whole t k p (attr (bytes "name") t) none none 0)
-
--- the number of a direction: 0 absent, 3 neither `in` nor `out`
-abbrev pub direction_word : Option Shown → ℕ
-direction_word none = 0
-direction_word (some s) = if (eqb (direction_of s.value) 0) 3 (direction_of s.value)
-
-pub record Directs (doc : List ℕ) (v : Value) (r : ℕ) : Type 0 where
-  pub is : (o : Option Shown) → ValueIs doc v o → r ≡ direction_word o
-
--- the number of an access: 4 absent, 0 neither of the three
-abbrev pub access_word : Option Shown → ℕ
-access_word none = 4
-access_word (some s) = access_of s.value
-
-pub record Accesses (doc : List ℕ) (v : Value) (r : ℕ) : Type 0 where
-  pub is : (o : Option Shown) → ValueIs doc v o → r ≡ access_word o
-
--- a property whose name is there and good
-pub record PropertyNamed (doc : List ℕ) (c : StartTag) : Type 0 where
-  pub is : (t : Tag) → TagIs doc c t → (s : Shown) × (attr (bytes "name") t ≡ some s) × Held doc c.values.name s × (property_name s.value ≡ true)

@@ -1,37 +1,88 @@
 // What a start tag needs: the row of each kind of element, or the tag's first fault.
 #![tactic(auto)]
 
-ghost use Rattle.std.specs.Prelude.{◌≡◌, ◌≤◌, ◌<◌, ◌+◌, ◌^◌};
+ghost use Rattle.std.specs.Prelude.{◌≡◌, ◌≤◌, ◌<◌, ◌+◌, ◌^◌, List, ℕ, Bool};
 ghost use Rattle.names.specs.Names.{member_name};
 ghost use Rattle.document.specs.Kinds as kinds;
-ghost use Rattle.document.specs.Outcome.{Lies, Ready, Opening};
-ghost use Rattle.elements.specs.Outcome.{Absent, Accesses, Directs, PropertyNamed, NamedKind, TypedKind, UntypedKind, lacking_at};
+ghost use Rattle.document.specs.Outcome.{Held, Lies, Ready, Opening};
+ghost use Rattle.shown.specs.Outcome.{Tests};
+ghost use Rattle.elements.specs.Outcome.{Accesses, AttributeIs, Directs, NamedKind, TypedKind, UntypedKind, Steps, demanded, tested};
 
 use document::{Excerpt, Fill, Refusal, StartTag, Value, kinds};
 use rows::Head;
 
-// A value that is not there.
-pub fn absent() -> Value
-    ensures { Absent result }
+// The bytes of a value.
+fn excerpt(v: Value) -> Excerpt
+    ensures { result ≡ record { at = v.at; len = v.len } }
 {
-    Value {
-        at: 0,
-        len: 0,
-        kind: 0,
+    Excerpt {
+        at: v.at,
+        len: v.len,
     }
 }
 
-// 12 of a tag whose name stands at a place, with a length: the attribute of a key is missing, 1 name, 2 type, 3 access, 4 value.
-fn lacking(key: u32, at: usize, len: usize) -> Refusal
-    requires { at + len < 2 ^ 32 }
-    ensures { result ≡ lacking_at key at len }
+// The attribute of a key is there, or 12: the keys are 1 name, 2 type, 3 access, 4 value.
+fn demand(c: StartTag, v: Value, key: u32) -> Result<(), Refusal>
+    requires { c.at + c.len < 2 ^ 32 }
+    ensures { (doc k : List ℕ) → AttributeIs doc c v k → Steps doc c (λ u s. Held doc v s) (demanded key k) result }
 {
-    Refusal {
-        place: at,
-        number: 12,
-        key,
-        first: Excerpt::new(at, len),
-        second: document::NOTHING,
+    if v.is_absent() {
+        let name = Excerpt::new(c.at, c.len);
+        return Err(Refusal {
+            key,
+            ..document::showing(12, c.at, name)
+        });
+    }
+    Ok(())
+}
+
+// The attribute of a key is there, or 12; and it is good, or a number.
+fn demand_good<P: Fn(&[u8], Value) -> bool>(
+    doc: &[u8],
+    c: StartTag,
+    v: Value,
+    key: u32,
+    number: u32,
+    good: P,
+) -> Result<(), Refusal>
+    requires small { c.at + c.len < 2 ^ 32 }
+    requires callable { P.pre good doc v }
+    ensures { (p : List ℕ → Bool) (k : List ℕ) → ((r : Bool) → P.post good doc.entry v r → Tests p doc.now v r) → AttributeIs doc.now c v k
+        → Steps doc.now c (λ u s. Held doc.now v s) (tested key k number p) result }
+{
+    demand(c, v, key)?;
+    if good(doc, v) {
+        return Ok(());
+    }
+    Err(document::bare(number, c.at))
+}
+
+// The number of a property's access: 12 where it has none, 15 where it is neither of the three.
+fn access_word(doc: &[u8], c: StartTag) -> Result<u32, Refusal>
+    requires small { c.at + c.len < 2 ^ 32 }
+    requires lies { Lies doc.now c.values.access }
+    ensures { Accesses doc.now c result }
+{
+    let v = c.values.access;
+    demand(c, v, 3)?;
+    match shown::access(doc, v) {
+        0 => Err(document::showing(15, c.end, excerpt(v))),
+        word => Ok(word),
+    }
+}
+
+// The number of an arg's direction, 0 where it has none: 16 where it is neither `in` nor `out`.
+fn direction_word(doc: &[u8], c: StartTag) -> Result<u32, Refusal>
+    requires { Lies doc.now c.values.direction }
+    ensures { Directs doc.now c result }
+{
+    let v = c.values.direction;
+    if v.is_absent() {
+        return Ok(0);
+    }
+    match shown::direction(doc, v) {
+        0 => Err(document::showing(16, c.end, excerpt(v))),
+        word => Ok(word),
     }
 }
 
@@ -50,13 +101,18 @@ pub fn node_row(
     ensures { Opening doc.now kinds.node c parent f rows.old rows.new
         text.old text.new result }
 {
-    let head = Head {
-        kind: kinds::NODE,
-        parent,
-        word: 0,
-        at: c.at,
-    };
-    Ok(rows::put_row(doc, rows, text, head, c.values.name, absent(), absent(), f))
+    let v = c.values;
+    let head = Head::new(kinds::NODE, parent, c.at);
+    Ok(rows::put_row(
+        doc,
+        rows,
+        text,
+        head,
+        v.name,
+        Value::ABSENT,
+        Value::ABSENT,
+        f,
+    ))
 }
 
 // An interface: name there, name good.
@@ -75,19 +131,9 @@ pub fn interface_row(
         text.old text.new result }
 {
     let name = c.values.name;
-    if name.kind == 0 {
-        return Err(lacking(1, c.at, c.len));
-    }
-    if shown::interface_name(doc, name) {
-        let head = Head {
-            kind: kinds::INTERFACE,
-            parent,
-            word: 0,
-            at: c.at,
-        };
-        return Ok(rows::put_row(doc, rows, text, head, name, absent(), absent(), f));
-    }
-    Err(document::bare(13, c.at))
+    demand_good(doc, c, name, 1, 13, shown::interface_name)?;
+    let head = Head::new(kinds::INTERFACE, parent, c.at);
+    Ok(rows::put_row(doc, rows, text, head, name, Value::ABSENT, Value::ABSENT, f))
 }
 
 // A method or a signal: name there, name good.
@@ -108,19 +154,9 @@ pub fn callable_row(
         text.old text.new result }
 {
     let name = c.values.name;
-    if name.kind == 0 {
-        return Err(lacking(1, c.at, c.len));
-    }
-    if shown::member_name(doc, name) {
-        let head = Head {
-            kind,
-            parent,
-            word: 0,
-            at: c.at,
-        };
-        return Ok(rows::put_row(doc, rows, text, head, name, absent(), absent(), f));
-    }
-    Err(document::bare(13, c.at))
+    demand_good(doc, c, name, 1, 13, shown::member_name)?;
+    let head = Head::new(kind, parent, c.at);
+    Ok(rows::put_row(doc, rows, text, head, name, Value::ABSENT, Value::ABSENT, f))
 }
 
 // An annotation: name, value.
@@ -138,21 +174,11 @@ pub fn annotation_row(
     ensures { Opening doc.now kinds.annotation c parent f rows.old rows.new
         text.old text.new result }
 {
-    let name = c.values.name;
-    let value = c.values.value;
-    if name.kind == 0 {
-        return Err(lacking(1, c.at, c.len));
-    }
-    if value.kind == 0 {
-        return Err(lacking(4, c.at, c.len));
-    }
-    let head = Head {
-        kind: kinds::ANNOTATION,
-        parent,
-        word: 0,
-        at: c.at,
-    };
-    Ok(rows::put_row(doc, rows, text, head, name, value, absent(), f))
+    let v = c.values;
+    demand(c, v.name, 1)?;
+    demand(c, v.value, 4)?;
+    let head = Head::new(kinds::ANNOTATION, parent, c.at);
+    Ok(rows::put_row(doc, rows, text, head, v.name, v.value, Value::ABSENT, f))
 }
 
 // A simple-type or an enum: name and type, which may be missing.
@@ -172,22 +198,9 @@ pub fn typed_row(
     ensures { Opening doc.now kind c parent f rows.old rows.new
         text.old text.new result }
 {
-    let head = Head {
-        kind,
-        parent,
-        word: 0,
-        at: c.at,
-    };
-    Ok(rows::put_row(
-        doc,
-        rows,
-        text,
-        head,
-        c.values.name,
-        c.values.ty,
-        absent(),
-        f,
-    ))
+    let v = c.values;
+    let head = Head::new(kind, parent, c.at);
+    Ok(rows::put_row(doc, rows, text, head, v.name, v.ty, Value::ABSENT, f))
 }
 
 // A struct or a mapping: its name may be missing.
@@ -207,13 +220,18 @@ pub fn untyped_row(
     ensures { Opening doc.now kind c parent f rows.old rows.new
         text.old text.new result }
 {
-    let head = Head {
-        kind,
-        parent,
-        word: 0,
-        at: c.at,
-    };
-    Ok(rows::put_row(doc, rows, text, head, c.values.name, absent(), absent(), f))
+    let v = c.values;
+    let head = Head::new(kind, parent, c.at);
+    Ok(rows::put_row(
+        doc,
+        rows,
+        text,
+        head,
+        v.name,
+        Value::ABSENT,
+        Value::ABSENT,
+        f,
+    ))
 }
 
 // An enumvalue: suffix and value, which may be missing.
@@ -231,22 +249,9 @@ pub fn enumvalue_row(
     ensures { Opening doc.now kinds.enumvalue c parent f rows.old rows.new
         text.old text.new result }
 {
-    let head = Head {
-        kind: kinds::ENUMVALUE,
-        parent,
-        word: 0,
-        at: c.at,
-    };
-    Ok(rows::put_row(
-        doc,
-        rows,
-        text,
-        head,
-        c.values.suffix,
-        c.values.value,
-        absent(),
-        f,
-    ))
+    let v = c.values;
+    let head = Head::new(kinds::ENUMVALUE, parent, c.at);
+    Ok(rows::put_row(doc, rows, text, head, v.suffix, v.value, Value::ABSENT, f))
 }
 
 // A member of a struct or a mapping: name, type and tp type, which may be missing.
@@ -264,26 +269,13 @@ pub fn member_row(
     ensures { Opening doc.now kinds.member c parent f rows.old rows.new
         text.old text.new result }
 {
-    let head = Head {
-        kind: kinds::MEMBER,
-        parent,
-        word: 0,
-        at: c.at,
-    };
-    Ok(rows::put_row(
-        doc,
-        rows,
-        text,
-        head,
-        c.values.name,
-        c.values.ty,
-        c.values.tp,
-        f,
-    ))
+    let v = c.values;
+    let head = Head::new(kinds::MEMBER, parent, c.at);
+    Ok(rows::put_row(doc, rows, text, head, v.name, v.ty, v.tp, f))
 }
 
 // A property: name there, name good, type there, signature good, access there, access good.
-#[tactic(auto, using(crate::proofs::Rows::properties))]
+#[tactic(auto, using(crate::proofs::Rows::elements))]
 pub fn property_row(
     doc: &[u8],
     rows: &mut [u32],
@@ -298,86 +290,17 @@ pub fn property_row(
         text.old text.new result }
 {
     let v = c.values;
-    if v.name.kind == 0 {
-        return Err(lacking(1, c.at, c.len));
-    }
-    if !shown::property_name(doc, v.name) {
-        return Err(document::bare(13, c.at));
-    }
-    accessed_row(doc, rows, text, c, parent, f)
-}
-
-// A property whose name is good: type there, signature good, access there, access good.
-#[tactic(auto, using(crate::proofs::Rows::properties))]
-fn accessed_row(
-    doc: &[u8],
-    rows: &mut [u32],
-    text: &mut [u8],
-    c: StartTag,
-    parent: usize,
-    f: Fill,
-) -> Result<Fill, Refusal>
-    requires ready { Ready doc.now c f }
-    requires parent_small { parent ≤ 1048576 }
-    requires property_named { PropertyNamed doc.now c }
-    ensures { Opening doc.now kinds.property c parent f rows.old rows.new
-        text.old text.new result }
-{
-    let v = c.values;
-    if v.ty.kind == 0 {
-        return Err(lacking(2, c.at, c.len));
-    }
-    if !shown::signature(doc, v.ty) {
-        return Err(document::bare(14, c.at));
-    }
-    let word = access_word(doc, v.access);
-    if word == 4 {
-        return Err(lacking(3, c.at, c.len));
-    }
-    if word == 0 {
-        let first = Excerpt {
-            at: v.access.at,
-            len: v.access.len,
-        };
-        return Err(document::showing(15, c.end, first));
-    }
+    demand_good(doc, c, v.name, 1, 13, shown::property_name)?;
+    demand_good(doc, c, v.ty, 2, 14, shown::signature)?;
     let head = Head {
-        kind: kinds::PROPERTY,
-        parent,
-        word,
-        at: c.at,
+        word: access_word(doc, c)?,
+        ..Head::new(kinds::PROPERTY, parent, c.at)
     };
     Ok(rows::put_row(doc, rows, text, head, v.name, v.ty, v.tp, f))
 }
 
-// The number of a property's access: 4 if it has none, 0 if it is neither of the three.
-fn access_word(doc: &[u8], v: Value) -> u32
-    requires { Lies doc.now v }
-    ensures { Accesses doc.now v result }
-{
-    if v.kind == 0 {
-        return 4;
-    }
-    shown::access(doc, v)
-}
-
-// The number of an arg's direction: 0 if it has none, 3 if it is neither `in` nor `out`.
-fn direction_word(doc: &[u8], v: Value) -> u32
-    requires { Lies doc.now v }
-    ensures { Directs doc.now v result }
-{
-    if v.kind == 0 {
-        return 0;
-    }
-    let word = shown::direction(doc, v);
-    if word == 0 {
-        return 3;
-    }
-    word
-}
-
 // An arg: type, signature, direction.
-#[tactic(auto, using(crate::proofs::Rows::args))]
+#[tactic(auto, using(crate::proofs::Rows::elements))]
 pub fn arg_row(
     doc: &[u8],
     rows: &mut [u32],
@@ -392,25 +315,10 @@ pub fn arg_row(
         text.old text.new result }
 {
     let v = c.values;
-    if v.ty.kind == 0 {
-        return Err(lacking(2, c.at, c.len));
-    }
-    if !shown::signature(doc, v.ty) {
-        return Err(document::bare(14, c.at));
-    }
-    let word = direction_word(doc, v.direction);
-    if word == 3 {
-        let first = Excerpt {
-            at: v.direction.at,
-            len: v.direction.len,
-        };
-        return Err(document::showing(16, c.end, first));
-    }
+    demand_good(doc, c, v.ty, 2, 14, shown::signature)?;
     let head = Head {
-        kind: kinds::ARG,
-        parent,
-        word,
-        at: c.at,
+        word: direction_word(doc, c)?,
+        ..Head::new(kinds::ARG, parent, c.at)
     };
     Ok(rows::put_row(doc, rows, text, head, v.name, v.ty, v.tp, f))
 }

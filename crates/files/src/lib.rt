@@ -4,7 +4,7 @@
 use document::Verdict;
 
 // What reading a file answers: the verdict, and how many bytes of its text were decoded; 0 of a file without a mark, and where decoding is
-// refused.
+// refused. The interface for C tells it so.
 #[derive(Clone, Copy)]
 pub struct Reading {
     pub verdict: Verdict,

@@ -15,6 +15,7 @@ use Rattle.document.specs.Outcome.{Lent, Begins, Child}
 use Rattle.document.specs.declared.StartTag.{StartTag}
 use Rattle.document.specs.declared.Fill.{Fill}
 use Rattle.document.specs.declared.Refusal.{Refusal}
+use Rattle.document.proofs.Readers.{keeping}
 use Rattle.document.proofs.Loops.{child_begins, parts_and_docstring}
 use Rattle.telepathy.specs.Outcome.{DefinitionKind}
 use Rattle.members.proofs.Members.{NoneOf, none_more, child_else, child_parent, child_taken, method_callable, signal_callable}
@@ -81,4 +82,4 @@ no_part k =
 pub child_definition : {doc hs : List ℕ} {docs : Bool} {c : StartTag} {i : ℕ} {f : Fill} {b b' : Lent} {t : Bool} {r : Result Fill Refusal} → i < f.rows → HoldsDefinitions hs → Among c.kind definitions t → t ≡ true → Begins doc c.kind c (i + 1) f b b' r → Child doc hs docs c i f b b' r
 child_definition {c = c} l d a e h = let y = sym a.is ∙ e in child_begins l refl (d.is c.kind y) (no_part c.kind y) h
 
-pub ruleset interfaces = (child_definition, interface_holds, definition_kind, among_none, method_callable, signal_callable, child_taken, child_begins, none_more, child_else, child_parent, rules)
+pub ruleset interfaces = (child_definition, interface_holds, definition_kind, among_none, method_callable, signal_callable, child_taken, child_begins, none_more, child_else, child_parent, keeping, rules)

@@ -1,5 +1,6 @@
 // The functions for C, with C's calling convention and names: each calls the function of the same name of the library `introspection`
-// (include/introspection.h). This crate is the archive.
+// (include/introspection.h). This crate is the archive. A crate is a library or an archive, so there are two functions
+// of each name.
 #![tactic(auto)]
 
 ghost use Rattle.std.specs.Prelude.{◌≡◌, length, replicate};

@@ -29,7 +29,7 @@ pub fn triple(rows: &[u32], i: usize, k: usize) -> Triple
     }
 }
 
-// Three zeros.
+// Three zeros. Three tests, since a pattern of a triple takes a line for each word.
 pub fn is_absent(t: Triple) -> bool
     ensures { result ≡ absent t }
 {

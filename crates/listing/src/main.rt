@@ -80,7 +80,7 @@ fn write_answer<P: Print>(to: &P, document: &[u8]) -> Result<()> {
 
 // Lists what the buffer can hold of standard input.
 fn list(rt: &HostRuntime, document: &mut [u8]) -> std::result::Result<(), Failure> {
-    let end = output::input::read_all(&mut rt.stdin(), document).map_err(Failure::Reading)?;
+    let end = output::input::read_all(&mut rt.stdin(), document)?;
     write_answer(rt, &document[..end]).map_err(Failure::Writing)
 }
 

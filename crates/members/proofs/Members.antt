@@ -1,44 +1,31 @@
 -- The laws of the members of an interface.
 -- Assumes nothing.
-use Prim.Native.Nat.{ℕ, ◌+◌, ◌-◌, ◌≤◌, ◌<◌}
+use Prim.Native.Nat.{ℕ, ◌+◌, ◌≤◌, ◌<◌}
 use mathlib.Core.Path.{◌≡◌, refl}
 use mathlib.Core.List.{List, [], ◌∷◌}
 use mathlib.Core.Bool.{Bool, true, false}
 use borrow.Author.Rules.{rules}
 use native.Mathlib.Omega.{arith}
-use lib.ListN.{length}
 use Rattle.std.specs.Prelude.{Result, Ok}
 use Rattle.document.specs.Kinds as kinds
 use Rattle.document.specs.Elements.{among}
-use Rattle.document.specs.Outcome.{Lent, lent, Ready, Steps, Ignores, Others, Opening, Begins, Child, Children, moved}
+use Rattle.document.specs.Outcome.{lent, Lent, Ready, Others, Opening, Begins, Child, Contents}
 use Rattle.document.specs.declared.StartTag.{StartTag}
 use Rattle.document.specs.declared.Fill.{Fill}
-use Rattle.document.specs.declared.Next.{Next}
 use Rattle.document.specs.declared.Refusal.{Refusal}
-use Rattle.document.proofs.Loops.{Sofar, loops, loop_less, child_bare, child_begins, child_other, among_not, name_inside, parts_and_docstring}
-use Rattle.document.proofs.Openings.{openings, opening_closes, opening_children}
+use Rattle.document.proofs.Readers.{keeping}
+use Rattle.document.proofs.Loops.{child_bare, child_begins, child_other, among_not, name_inside, parts_and_docstring}
+use Rattle.document.proofs.Openings.{openings, opening_contents}
 use Rattle.elements.proofs.Rows.{method_kind, signal_kind}
 use Rattle.members.specs.Kinds.{CallableKind}
 
--- a child of an annotation leaves less of the document
-pub annotation_less : {doc rows w w' bytes : List ℕ} {at len i : ℕ} {f₀ f g m : Fill} {b₀ : Lent} {r : Result Next Refusal} {c : StartTag} {a : Result Fill Refusal} → Sofar doc [] false at len i f₀ b₀ f (lent rows w bytes) → Steps doc f.at at len r → r ≡ Ok (Next.Start c) → Ignores doc c m w w' a → m ≡ moved f c.end → a ≡ Ok g → length doc - g.at < length doc - f.at
-annotation_less s t q h y e = loop_less s t q (child_bare (rw y s.owner) h) y e
+pub ruleset bare_children = (child_bare, keeping, rules)
 
-pub ruleset annotation_loop = (annotation_less, child_bare, loops)
-
-pub ruleset elements = (name_inside, openings)
-
--- what holds of these kinds holds of the same by another name
-same_held : {doc hs hs' : List ℕ} {docs docs' : Bool} {at len i : ℕ} {f : Fill} {b b' : Lent} {r : Result Fill Refusal} → hs' ≡ hs → docs' ≡ docs → Children doc hs docs at len i f b b' r → Children doc hs' docs' at len i f b b' r
-same_held e d h = rw (e, d) h
+pub ruleset elements = (name_inside, openings, keeping)
 
 -- a method or a signal
-module _ {doc : List ℕ} {k : ℕ} {c : StartTag} {p : ℕ} {f g : Fill} {rows rows' w bytes bytes' : List ℕ} {a : Result Fill Refusal} (m : CallableKind k) (o : Opening doc k c p f rows rows' bytes bytes' a) (e : a ≡ Ok g) where
-  pub callable_closes : c.closes ≡ true → Begins doc k c p f (lent rows w bytes) (lent rows' w bytes') (Ok g)
-  callable_closes x = opening_closes o e m.plain x
-
-  pub callable_children : {b : Lent} {r : Result Fill Refusal} → c.closes ≡ false → Children doc kinds.in_callable true c.at c.len f.rows g (lent rows' w bytes') b r → Begins doc k c p f (lent rows w bytes) b r
-  callable_children x l = opening_children o e m.plain x m.node (same_held m.held m.docs l)
+pub callable_contents : {doc : List ℕ} {k : ℕ} {c : StartTag} {p : ℕ} {f g : Fill} {rows rows' w bytes bytes' : List ℕ} {a : Result Fill Refusal} {b : Lent} {r : Result Fill Refusal} → CallableKind k → Opening doc k c p f rows rows' bytes bytes' a → a ≡ Ok g → Contents doc kinds.in_callable true c f.rows g (lent rows' w bytes') b r → Begins doc k c p f (lent rows w bytes) b r
+callable_contents m o e l = opening_contents o e m.plain m.node (rw (m.held, m.docs) l)
 
 pub method_callable : CallableKind kinds.method
 method_callable = record { named = method_kind; held = refl; docs = refl; plain = refl; node = refl }
@@ -46,7 +33,7 @@ method_callable = record { named = method_kind; held = refl; docs = refl; plain 
 pub signal_callable : CallableKind kinds.signal
 signal_callable = record { named = signal_kind; held = refl; docs = refl; plain = refl; node = refl }
 
-pub ruleset callables = (callable_closes, callable_children, elements)
+pub ruleset callables = (callable_contents, elements)
 
 -- a row plus one or two is small
 pub child_parent : {doc : List ℕ} {c : StartTag} {i : ℕ} {f : Fill} (n : ℕ) → Ready doc c f → i < f.rows → n ≤ 2 → i + n ≤ 1048576
@@ -69,4 +56,4 @@ child_else n h = child_other n.is h
 pub child_taken : {doc hs : List ℕ} {docs : Bool} {c : StartTag} {i : ℕ} {f : Fill} {b b' : Lent} {m : ℕ} {v r : Result Fill Refusal} → i < f.rows → c.kind ≡ m → among m hs ≡ true → among m parts_and_docstring ≡ false → Begins doc m c (i + 1) f b b' v → v ≡ r → Child doc hs docs c i f b b' r
 child_taken {hs = hs} {docs = docs} l k a x h e = rw e at (child_begins {hs = hs} {docs = docs} l k a x h)
 
-pub ruleset children = (child_taken, child_begins, none_empty, none_more, child_else, child_parent, rules)
+pub ruleset children = (child_taken, child_begins, none_empty, none_more, child_else, child_parent, keeping, rules)

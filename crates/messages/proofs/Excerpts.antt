@@ -12,9 +12,8 @@ use lib.ListN.{length, take, drop, length-drop}
 use lib.Seq.{length-take-le}
 use Rattle.slices.proofs.Runs.{and_both}
 use Rattle.utf8.specs.WellFormed.{ill_formed, well_formed}
-use Rattle.answers.specs.Text.{wrong}
+use Rattle.answers.specs.Text.{text, wrong}
 use Rattle.messages.specs.Message.{is_shown, excerpt, excerpt_of}
-use Rattle.messages.specs.Steps.{Excerpted}
 use Rattle.messages.specs.declared.Wide.{Wide}
 
 no_middle : (a c : Bool) → (a && false) && c ≡ false
@@ -57,16 +56,23 @@ module _ (doc : List ℕ) (t : Wide) where
   pub callee_shows : {b : Bool} → b ≡ is_shown doc t → b ≡ true → is_shown doc t ≡ true
   callee_shows q e = sym q ∙ e
 
-  pub excerpt_some : {b : Bool} → b ≡ is_shown doc t → b ≡ true → Excerpted doc t (take (t.start + t.len - t.start) (drop t.start doc))
+  -- a part of a document is as small as that
+  pub excerpt_small : {b : Bool} → b ≡ is_shown doc t → b ≡ true → length doc ≤ 1048576 → length (take (t.start + t.len - t.start) (drop t.start doc)) ≤ 1048576
+  excerpt_small q e l =
+      let h : t.start + t.len ≤ length doc = excerpt_end (sym q ∙ e) in
+      let n : t.start + t.len - t.start ≡ t.len = omega arith in
+      rw (n, excerpt_long h) (omega arith)
+
+  pub excerpt_some : {b : Bool} → b ≡ is_shown doc t → b ≡ true → excerpt_of doc t ≡ text (take (t.start + t.len - t.start) (drop t.start doc))
   unfolding excerpt_of
   excerpt_some q e =
       let h : is_shown doc t ≡ true = sym q ∙ e in
       let n : t.start + t.len - t.start ≡ t.len = omega arith in
-      record { is = rw (h, n); short = rw (n, excerpt_long (excerpt_end h)) (omega (arith, excerpt_end h)) }
+      rw (h, n)
 
   pub excerpt_none : {b : Bool} → b ≡ is_shown doc t → b ≡ false → excerpt_of doc t ≡ wrong 19 0
   unfolding excerpt_of
   excerpt_none q e = rw (sym q ∙ e)
 
 -- what answers every need of `is_shown` and `excerpt`
-pub ruleset excerpts = (shown_other, shown_start, shown_len, shown_formed, excerpt_end, excerpt_fits, callee_shows, excerpt_some, excerpt_none, rules)
+pub ruleset excerpts = (shown_other, shown_start, shown_len, shown_formed, excerpt_end, excerpt_fits, callee_shows, excerpt_small, excerpt_some, excerpt_none, rules)

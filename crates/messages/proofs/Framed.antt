@@ -5,7 +5,7 @@ use mathlib.Core.Path.{◌≡◌, ap, ◌∙◌}
 use mathlib.Core.List.{List, [], ◌++◌, append_assoc}
 use borrow.Author.Rules.{rules}
 use native.Mathlib.Omega.{arith}
-use lib.ListN.{length, length-append}
+use lib.ListN.{length}
 use Rattle.std.specs.Prelude.{Result, Ok, Err}
 use Rattle.faults.specs.declared.Fault.{Fault}
 use Rattle.slices.specs.Bytes.{bytes}
@@ -17,17 +17,14 @@ use Rattle.references.specs.Unescape.{unescape}
 use Rattle.references.specs.Outcome.{Checks, Shows}
 use Rattle.references.specs.declared.ValueFault.{ValueFault}
 use Rattle.messages.specs.Message.{excerpt_of, or_unsound, unescaped_of, framed}
-use Rattle.messages.specs.Steps.{Excerpted, Around, Unescaped, Parted, UnexpectedIn, Unexpected}
+use Rattle.messages.specs.Steps.{Around, Unescaped, Mismatched, Unexpected}
 use Rattle.messages.specs.declared.Wide.{Wide}
 
--- words before bytes and after them
-pub with_after : {y z t b b' : List ℕ} {n k r : ℕ} → Puts z k b b' r → Puts y n t b k → Puts (y ++ z) n t b' r
-with_after p₂ p₁ = puts_then p₁ p₂
-
-pub around : {x : List ℕ} (y z : List ℕ) {t b b' : List ℕ} {n k r : ℕ} → Puts (y ++ z) k b b' r → Puts x n t b k → length x < 1024 → length z < 1024 → Around x y z n t b' r
-around y z p₂ p₁ h l = record {
-  puts = puts_then p₁ p₂;
-  most = omega (arith, p₁.counts, p₂.counts, length-append y z);
+-- words around bytes: the premises from the last call to the first
+pub around : {x y z t b b' b'' : List ℕ} {n m k r : ℕ} → Puts z k b' b'' r → Puts y m b b' k → Puts x n t b m → length x < 1024 → length z < 1024 → Around x y z n t b'' r
+around p₃ p₂ p₁ h l = record {
+  puts = puts_then p₁ (puts_then p₂ p₃);
+  most = omega (arith, p₁.counts, p₂.counts, p₃.counts);
 }
 
 pub unescapes : {x v z t b b' b'' : List ℕ} {m k r : ℕ} → Puts z k b' b'' r → Shows v m b b' k → Puts x 0 t b m → Unescaped x v z t b'' r
@@ -44,11 +41,14 @@ module _ {room : ℕ} {u : List ℕ} {r : Result ℕ Fault} where
   unfolding framed
   framed_made x y z f p l = plain_made f p.puts l
 
-  pub parted_made : {w x y : List ℕ} (s z : List ℕ) {t b b' : List ℕ} {n k : ℕ} → Finishes k 21 k b' u r → Puts (s ++ z) n b b' k → Around w x y 0 t b n → length b' ≡ length b → length b ≡ room → Parted w x y s z room u r
-  parted_made {w} {x} {y} s z {t} {b' = b'} {k = k} f p₂ p₁ l l' =
-      let e : (w ++ (x ++ y)) ++ (s ++ z) ≡ w ++ (x ++ (y ++ (s ++ z))) = append_assoc w (x ++ y) (s ++ z) ∙ ap (◌++◌ w) (append_assoc x y (s ++ z)) in
-      let p : Puts (w ++ (x ++ (y ++ (s ++ z)))) 0 t b' k = rw e at (puts_then p₁.puts p₂) in
-      record { says = plain_made f p (l ∙ l') }
+  pub mismatched_made : {x y t b b' b'' : List ℕ} {n m k : ℕ} → Finishes k 21 k b'' u r → Puts (bytes ">`") m b' b'' k → Puts y n b b' m → Around (bytes "unexpected `</") x (bytes ">` while parsing `<") 0 t b n → length b'' ≡ room → Mismatched x y room u r
+  mismatched_made {x} {y} {t} {b'' = b''} {k = k} f p₃ p₂ p₁ l =
+      let w : List ℕ = bytes "unexpected `</" in
+      let v : List ℕ = bytes ">` while parsing `<" in
+      let z : List ℕ = bytes ">`" in
+      let e : (w ++ (x ++ v)) ++ (y ++ z) ≡ w ++ (x ++ (v ++ (y ++ z))) = append_assoc w (x ++ v) (y ++ z) ∙ ap (◌++◌ w) (append_assoc x v (y ++ z)) in
+      let p : Puts (w ++ (x ++ (v ++ (y ++ z)))) 0 t b'' k = rw e at (puts_then p₁.puts (puts_then p₂ p₃)) in
+      record { says = plain_made f p l }
 
   -- a raw value
   module _ {v : List ℕ} {a : Result (Unit {0}) ValueFault} (c : Checks v a) (x z : List ℕ) where
@@ -64,32 +64,29 @@ module _ {room : ℕ} {u : List ℕ} {r : Result ℕ Fault} where
 
   -- what stands at a triple
   module _ (doc : List ℕ) (t : Wide) (x z : List ℕ) where
-    pub named_made : {s : List ℕ} → Excerpted doc t s → Says (roomy room (framed x (text s) z)) room u r → Says (roomy room (framed x (excerpt_of doc t) z)) room u r
-    named_made k s = rw k.is s
+    pub named_made : {s : List ℕ} → excerpt_of doc t ≡ text s → Says (roomy room (framed x (text s) z)) room u r → Says (roomy room (framed x (excerpt_of doc t) z)) room u r
+    named_made k s = rw k s
 
     pub named_bad : excerpt_of doc t ≡ wrong 19 0 → Says (wrong 19 0) room u r → Says (roomy room (framed x (excerpt_of doc t) z)) room u r
     unfolding framed
     named_bad e s = rw e s
 
-    pub valued_made : {s : List ℕ} → Excerpted doc t s → Says (roomy room (framed x (or_unsound (unescape s)) z)) room u r → Says (roomy room (framed x (unescaped_of (excerpt_of doc t)) z)) room u r
-    valued_made k s = rw k.is s
+    pub valued_made : {s : List ℕ} → excerpt_of doc t ≡ text s → Says (roomy room (framed x (or_unsound (unescape s)) z)) room u r → Says (roomy room (framed x (unescaped_of (excerpt_of doc t)) z)) room u r
+    valued_made k s = rw k s
 
     pub valued_bad : excerpt_of doc t ≡ wrong 19 0 → Says (wrong 19 0) room u r → Says (roomy room (framed x (unescaped_of (excerpt_of doc t)) z)) room u r
     unfolding framed
     valued_bad e s = rw e s
 
   -- and at two
-  module _ {doc : List ℕ} {t : Wide} where
-    pub in_made : {s s' : List ℕ} → Excerpted doc t s' → Parted (bytes "unexpected `</") s (bytes ">` while parsing `<") s' (bytes ">`") room u r → UnexpectedIn doc s t room u r
-    in_made h k = record { says = rw h.is k.says }
+  module _ {doc : List ℕ} {t t' : Wide} where
+    pub unexpected_made : {s s' : List ℕ} → excerpt_of doc t ≡ text s → excerpt_of doc t' ≡ text s' → Mismatched s s' room u r → Unexpected doc t t' room u r
+    unexpected_made h k m = record { says = λ x f g. rw (f, g, h, k) m.says }
 
-    pub in_bad : {s : List ℕ} → excerpt_of doc t ≡ wrong 19 0 → Says (wrong 19 0) room u r → UnexpectedIn doc s t room u r
-    in_bad e s = record { says = rw e s }
+    pub first_bad : excerpt_of doc t ≡ wrong 19 0 → Says (wrong 19 0) room u r → Unexpected doc t t' room u r
+    first_bad e s = record { says = λ x f g. rw (f, e) s }
 
-    pub unexpected_made : {t' : Wide} {s : List ℕ} → Excerpted doc t s → UnexpectedIn doc s t' room u r → Unexpected doc t t' room u r
-    unexpected_made h k = record { says = λ x f g. rw (f, g, h.is) k.says }
+    pub second_bad : {s : List ℕ} → excerpt_of doc t ≡ text s → excerpt_of doc t' ≡ wrong 19 0 → Says (wrong 19 0) room u r → Unexpected doc t t' room u r
+    second_bad h e s = record { says = λ x f g. rw (f, g, h, e) s }
 
-    pub unexpected_bad : {t' : Wide} → excerpt_of doc t ≡ wrong 19 0 → Says (wrong 19 0) room u r → Unexpected doc t t' room u r
-    unexpected_bad e s = record { says = λ x f g. rw (f, e) s }
-
-pub ruleset framing = (with_after, around, unescapes, plain_made, framed_made, parted_made, unescaped_made, unescaped_bad, named_made, named_bad, valued_made, valued_bad, in_made, in_bad, unexpected_made, unexpected_bad, rules)
+pub ruleset framing = (around, unescapes, plain_made, framed_made, mismatched_made, unescaped_made, unescaped_bad, named_made, named_bad, valued_made, valued_bad, unexpected_made, first_bad, second_bad, rules)

@@ -12,7 +12,7 @@ use Rattle.slices.specs.Bytes.{bytes}
 use Rattle.answers.specs.Text.{Text, text, wrong, roomy, Says}
 use Rattle.messages.specs.Texts.{Entry, words, pieces_of, refusals, warnings, key_name}
 use Rattle.messages.specs.Message.{excerpt_of, present, joined, framed, message_by}
-use Rattle.messages.specs.Steps.{NoneOf, PlainText, NoText, Plainly, Unexpected, Lacking, Turned, Warned}
+use Rattle.messages.specs.Steps.{NoneOf, PlainText, NoText, Plainly, Unexpected, Missing, NoKey, Lacking, Turned, Malformed, NoReason, Warned}
 use Rattle.messages.specs.declared.Wide.{Wide}
 use Rattle.messages.specs.declared.Told.{Told}
 
@@ -37,6 +37,24 @@ text_by k e q l = record { is = λ h. rw e q; short = l }
 pub no_text : {number : ℕ} → (number ≡ 1 → ⊥) → (number ≡ 2 → ⊥) → (number ≡ 3 → ⊥) → (number ≡ 4 → ⊥) → (number ≡ 7 → ⊥) → (number ≡ 9 → ⊥) → (number ≡ 13 → ⊥) → (number ≡ 14 → ⊥) → (number ≡ 17 → ⊥) → (number ≡ 18 → ⊥) → (number ≡ 19 → ⊥) → (number ≡ 20 → ⊥) → (number ≡ 21 → ⊥) → (number ≡ 22 → ⊥) → (number ≡ 23 → ⊥) → (number ≡ 24 → ⊥) → (number ≡ 25 → ⊥) → (number ≡ 26 → ⊥) → (number ≡ 27 → ⊥) → (number ≡ 28 → ⊥) → (number ≡ 29 → ⊥) → (number ≡ 30 → ⊥) → NoText number
 no_text {number} p1 p2 p3 p4 p7 p9 p13 p14 p17 p18 p19 p20 p21 p22 p23 p24 p25 p26 p27 p28 p29 p30 = record { is = λ h. unknown refusals number (p1, (p2, (p3, (p4, (h.0, (h.1.0, (p7, (h.1.1.0, (p9, (h.1.1.1.0, (h.1.1.1.1.0, (h.1.1.1.1.1.0, (p13, (p14, (h.1.1.1.1.1.1.0, (h.1.1.1.1.1.1.1.0, (p17, (p18, (p19, (p20, (p21, (p22, (p23, (p24, (p25, (p26, (p27, (p28, (p29, (p30, tt)))))))))))))))))))))))))))))) }
 
+-- keys
+pub missing_by : (k : ℕ) {key : ℕ} {s : List ℕ} → key ≡ k → present (key_name k) ≡ text (key_name k) → s ≡ bytes "missing attribute `" ++ (key_name k ++ bytes "` on `<") → length s < 1024 → Missing key s
+unfolding framed
+missing_by k e p q l = record {
+  is = λ doc x g. rw (g, e, p, q) (words_joined (bytes "missing attribute `") (key_name k) (bytes "` on `<") (joined (excerpt_of doc x.first) (text (bytes ">`"))));
+  short = l;
+}
+
+pub no_key : {key : ℕ} → (key ≡ 1 → ⊥) → (key ≡ 2 → ⊥) → (key ≡ 3 → ⊥) → (key ≡ 4 → ⊥) → NoKey key
+no_key {key} a b c d = record { is = rw (ne_eqb key 1 a, ne_eqb key 2 b, ne_eqb key 3 c, ne_eqb key 4 d) }
+
+-- reasons from 2 on
+pub malformed_by : (k : ℕ) {reason : ℕ} {s : List ℕ} → reason ≡ k → ((doc : List ℕ) (x : Told) → message_by doc x (pieces_of warnings k) ≡ framed (bytes "malformed element `<") (excerpt_of doc x.first) s) → length s < 1024 → Malformed reason s
+malformed_by k e q l = record { is = rw e q; short = l }
+
+pub no_reason : {reason : ℕ} → (reason ≡ 2 → ⊥) → (reason ≡ 3 → ⊥) → (reason ≡ 4 → ⊥) → (reason ≡ 5 → ⊥) → (reason ≡ 6 → ⊥) → (reason ≡ 7 → ⊥) → (reason ≡ 8 → ⊥) → (reason ≡ 9 → ⊥) → NoReason reason
+no_reason {reason} p2 p3 p4 p5 p6 p7 p8 p9 = record { is = λ p1. unknown warnings reason (p1, (p2, (p3, (p4, (p5, (p6, (p7, (p8, (p9, tt))))))))) }
+
 module _ {room : ℕ} {u : List ℕ} {r : Result ℕ Fault} where
   -- numbers that show nothing
   pub text_told : {number : ℕ} {s : List ℕ} → PlainText number s → Says (roomy room (text s)) room u r → Plainly number room u r
@@ -46,18 +64,19 @@ module _ {room : ℕ} {u : List ℕ} {r : Result ℕ Fault} where
   text_none a k = record { says = λ h doc x. rw (a.is h) k }
 
   -- keys
-  pub lacking_by : (k : ℕ) {doc : List ℕ} {name : Wide} {key : ℕ} → key ≡ k → present (key_name k) ≡ text (key_name k) → Says (roomy room (framed (bytes "missing attribute `" ++ (key_name k ++ bytes "` on `<")) (excerpt_of doc name) (bytes ">`"))) room u r → Lacking doc name key room u r
-  unfolding framed
-  lacking_by k {doc} {name} e p s = record {
-    says = λ x f g. rw (f, g, e, p, words_joined (bytes "missing attribute `") (key_name k) (bytes "` on `<") (joined (excerpt_of doc name) (text (bytes ">`")))) s;
-  }
+  pub lacking_told : {doc b a : List ℕ} {name : Wide} {key : ℕ} {w : List ℕ} → Missing key w → b ≡ w → a ≡ bytes ">`" → Says (roomy room (framed b (excerpt_of doc name) a)) room u r → Lacking doc name key room u r
+  lacking_told {doc} m e f s = record { says = λ x g h. rw (m.is doc x h, g, ← e, ← f) s }
 
-  pub lacking_unknown : {doc : List ℕ} {name : Wide} {key : ℕ} → Says (wrong 19 0) room u r → (key ≡ 1 → ⊥) → (key ≡ 2 → ⊥) → (key ≡ 3 → ⊥) → (key ≡ 4 → ⊥) → Lacking doc name key room u r
-  lacking_unknown {key = key} s a b c d = record { says = λ x f g. rw (g, ne_eqb key 1 a, ne_eqb key 2 b, ne_eqb key 3 c, ne_eqb key 4 d) s }
+  pub lacking_unknown : {doc : List ℕ} {name : Wide} {key : ℕ} → NoKey key → Says (wrong 19 0) room u r → Lacking doc name key room u r
+  lacking_unknown n s = record { says = λ x f g. rw (g, n.is) s }
 
   -- all numbers
   pub turned_by : (k : ℕ) {doc : List ℕ} {x : Told} → x.number ≡ k → Says (roomy room (message_by doc x (pieces_of refusals k))) room u r → Turned doc x room u r
   turned_by k {doc} {x} e s = record { says = subst (λ n. Says (roomy room (message_by doc x (pieces_of refusals n))) room u r) (sym e) s }
+
+  -- with words around what is shown
+  pub turned_framed : (k : ℕ) {doc : List ℕ} {x : Told} (o : Text) {w z b a : List ℕ} → x.number ≡ k → b ≡ w → a ≡ z → message_by doc x (pieces_of refusals k) ≡ framed w o z → Says (roomy room (framed b o a)) room u r → Turned doc x room u r
+  turned_framed k o e f g q s = turned_by k e (rw (q, ← f, ← g) s)
 
   pub turned_lacking : {doc : List ℕ} {x : Told} → x.number ≡ 12 → Lacking doc x.first x.key room u r → Turned doc x room u r
   turned_lacking {x = x} e s = turned_by 12 e (s.says x refl refl)
@@ -69,10 +88,14 @@ module _ {room : ℕ} {u : List ℕ} {r : Result ℕ Fault} where
   turned_plain {doc} {x} s p5 p6 p8 p10 p11 p12 p15 p16 = record { says = s.says (p5, (p6, (p8, (p10, (p11, (p12, (p15, (p16, tt)))))))) doc x }
 
   -- reasons
-  pub warned_by : (k : ℕ) {doc : List ℕ} {name : Wide} {reason : ℕ} → reason ≡ k → ((x : Told) → x.first ≡ name → Says (roomy room (message_by doc x (pieces_of warnings k))) room u r) → Warned doc reason name room u r
-  warned_by k {doc} e s = record { says = λ x f. subst (λ n. Says (roomy room (message_by doc x (pieces_of warnings n))) room u r) (sym e) (s x f) }
+  pub warned_first : {doc b a : List ℕ} {name : Wide} {reason : ℕ} → reason ≡ 1 → b ≡ bytes "unsupported element `<" → a ≡ bytes ">` ignored" → Says (roomy room (framed b (excerpt_of doc name) a)) room u r → Warned doc reason name room u r
+  unfolding framed
+  warned_first e f g s = record { says = λ x h. rw (e, h, ← f, ← g) s }
 
-  pub warned_unknown : {doc : List ℕ} {name : Wide} {reason : ℕ} → Says (wrong 19 0) room u r → (reason ≡ 1 → ⊥) → (reason ≡ 2 → ⊥) → (reason ≡ 3 → ⊥) → (reason ≡ 4 → ⊥) → (reason ≡ 5 → ⊥) → (reason ≡ 6 → ⊥) → (reason ≡ 7 → ⊥) → (reason ≡ 8 → ⊥) → (reason ≡ 9 → ⊥) → Warned doc reason name room u r
-  warned_unknown {reason = reason} s p1 p2 p3 p4 p5 p6 p7 p8 p9 = record { says = λ x f. rw (unknown warnings reason (p1, (p2, (p3, (p4, (p5, (p6, (p7, (p8, (p9, tt)))))))))) s }
+  pub warned_told : {doc b a : List ℕ} {name : Wide} {reason : ℕ} {w : List ℕ} → Malformed reason w → b ≡ bytes "malformed element `<" → a ≡ w → Says (roomy room (framed b (excerpt_of doc name) a)) room u r → Warned doc reason name room u r
+  warned_told {doc} m e f s = record { says = λ x h. rw (m.is doc x, h, ← e, ← f) s }
 
-pub ruleset cutting = (text_told, text_none, rules)
+  pub warned_unknown : {doc : List ℕ} {name : Wide} {reason : ℕ} → (reason ≡ 1 → ⊥) → NoReason reason → Says (wrong 19 0) room u r → Warned doc reason name room u r
+  warned_unknown h n s = record { says = λ x f. rw (n.is h) s }
+
+pub ruleset cutting = (text_told, text_none, lacking_told, lacking_unknown, warned_first, warned_told, warned_unknown, rules)

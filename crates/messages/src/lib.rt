@@ -6,8 +6,10 @@ ghost use Rattle.answers.specs.Text.{Says};
 ghost use Rattle.messages.specs.Message.{message_of, warning_message_of, widened};
 
 use answers::TextAnswer;
+use parts::Part;
 use tables::Triple;
 
+mod parts;
 mod shown;
 mod texts;
 
@@ -53,7 +55,7 @@ pub fn message(document: &[u8], told: Told, out: &mut [u8]) -> TextAnswer
     if 1048576 < document.len() {
         return answers::refuse(out, 2, 1048576);
     }
-    texts::told(document, told, out)
+    texts::told(Part { bytes: document }, told, out)
 }
 
 // The message of a warning: its reason, and where the element's name stands in the document. Refused as for `message`.
@@ -76,5 +78,5 @@ pub fn warning_message(
         start,
         len,
     });
-    texts::warned(document, reason, name, out)
+    texts::warned(Part { bytes: document }, reason, name, out)
 }

@@ -1,12 +1,12 @@
 // What a message shows, and words around it.
-ghost use Rattle.std.specs.Prelude.{◌≡◌, ◌++◌, ◌+◌, ◌^◌, ◌≤◌, ◌<◌, length, IfSome, IfNone};
-ghost use Rattle.answers.specs.Puts.{Puts};
+ghost use Rattle.std.specs.Prelude.{◌≡◌, ◌<◌, length, IfSome, IfNone};
 ghost use Rattle.answers.specs.Text.{Says, text, wrong, roomy};
 ghost use Rattle.messages.specs.Message.{is_shown, excerpt_of, or_unsound, unescaped_of, framed};
 ghost use Rattle.references.specs.Unescape.{unescape};
-ghost use Rattle.messages.specs.Steps.{Short, Excerpted, Around, Unescaped, Parted, UnexpectedIn, Unexpected};
+ghost use Rattle.messages.specs.Steps.{Around, Unescaped, Mismatched, Unexpected};
 
 use crate::Wide;
+use crate::parts::{Frame, Part};
 use answers::{TextAnswer, put};
 
 // Whether a triple shows something: its source is 1, it is inside the document, and what it shows is UTF-8.
@@ -25,14 +25,16 @@ fn is_shown(document: &[u8], t: Wide) -> bool
 
 // What a triple shows, if it shows something.
 #[tactic(auto, using(crate::proofs::Excerpts::excerpts))]
-fn excerpt(document: &[u8], t: Wide) -> Option<&[u8]>
-    ensures some { IfSome result (λ s. Excerpted document.now t s.now) }
-    ensures none { IfNone result (excerpt_of document.now t ≡ wrong 19 0) }
+fn excerpt(document: Part, t: Wide) -> Option<Part>
+    ensures some { IfSome result (λ s. excerpt_of document.entry.bytes.now t ≡ text s.bytes.now) }
+    ensures none { IfNone result (excerpt_of document.entry.bytes.now t ≡ wrong 19 0) }
 {
-    if is_shown(document, t) {
+    if is_shown(document.bytes, t) {
         let start = t.start as usize;
         let end = start + t.len as usize;
-        return Some(&document[start..end]);
+        return Some(Part {
+            bytes: &document.bytes[start..end],
+        });
     }
     None
 }
@@ -48,145 +50,98 @@ pub fn plain(words: &[u8], out: &mut [u8]) -> TextAnswer
     answers::finish(out, n, 21, n)
 }
 
-// Puts bytes at a count, with words after them.
-fn put_with(out: &mut [u8], n: usize, bytes: &[u8], after: &[u8]) -> usize
-    requires short { length after.now < 1024 }
-    requires counted { n + length bytes.now + 1024 < 2 ^ 62 }
-    ensures { Puts (bytes.now ++ after.now) n out.old out.new result }
+// Puts a part of a document, with words around it.
+fn put_framed(part: Part, frame: Frame, out: &mut [u8]) -> usize
+    ensures { Around frame.entry.before.now part.entry.bytes.now frame.entry.after.now
+        0 out.old out.new result }
 {
-    let shown = put::put_bytes(out, n, bytes);
-    put::put_bytes(out, shown, after)
+    let opened = put::put_bytes(out, 0, frame.before);
+    let shown = put::put_bytes(out, opened, part.bytes);
+    put::put_bytes(out, shown, frame.after)
 }
 
-// Puts bytes at a count, with words before them and after them.
-fn put_around(out: &mut [u8], n: usize, before: &[u8], bytes: &[u8], after: &[u8]) -> usize
-    requires short { Short before.now after.now }
-    requires counted { n + length bytes.now < 2 ^ 61 }
-    ensures { Around before.now bytes.now after.now n out.old
-        out.new result }
-{
-    let opened = put::put_bytes(out, n, before);
-    put_with(out, opened, bytes, after)
-}
-
-// Words before bytes and after them.
-fn wrapped(before: &[u8], bytes: &[u8], after: &[u8], out: &mut [u8]) -> TextAnswer
-    requires short { Short before.now after.now }
-    requires small { length bytes.now ≤ 1048576 }
+// Words around a part of a document.
+fn framed(part: Part, frame: Frame, out: &mut [u8]) -> TextAnswer
     ensures { Says
-        (roomy (length out.old) (framed before.now (text bytes.now) after.now))
+        (roomy (length out.old) (framed frame.entry.before.now (text part.entry.bytes.now) frame.entry.after.now))
         (length out.old) out.new result }
 {
-    let n = put_around(out, 0, before, bytes, after);
+    let n = put_framed(part, frame, out);
     answers::finish(out, n, 21, n)
 }
 
-// Words before what a triple shows and after it.
-pub fn named(document: &[u8], t: Wide, before: &[u8], after: &[u8], out: &mut [u8]) -> TextAnswer
-    requires short { Short before.now after.now }
-    requires small { length document.now ≤ 1048576 }
+// Words around what a triple shows.
+pub fn named(document: Part, t: Wide, frame: Frame, out: &mut [u8]) -> TextAnswer
     ensures { Says
-        (roomy (length out.old) (framed before.now (excerpt_of document.now t) after.now))
+        (roomy (length out.old) (framed frame.entry.before.now (excerpt_of document.entry.bytes.now t) frame.entry.after.now))
         (length out.old) out.new result }
 {
     match excerpt(document, t) {
-        Some(shown) => wrapped(before, shown, after, out),
+        Some(shown) => framed(shown, frame, out),
         None => answers::refuse(out, 19, 0),
     }
 }
 
-// Puts what a raw value shows, with words before it and after it.
-fn put_unescaped(value: &[u8], before: &[u8], after: &[u8], out: &mut [u8]) -> usize
-    requires short { Short before.now after.now }
-    requires small { length value.now ≤ 1048576 }
-    ensures { Unescaped before.now value.now after.now out.old
-        out.new result }
+// Puts what a raw value shows, with words around it.
+fn put_unescaped(value: Part, frame: Frame, out: &mut [u8]) -> usize
+    ensures { Unescaped frame.entry.before.now value.entry.bytes.now frame.entry.after.now
+        out.old out.new result }
 {
-    let opened = put::put_bytes(out, 0, before);
-    let shown = references::put_shown(value, out, opened);
-    put::put_bytes(out, shown, after)
+    let opened = put::put_bytes(out, 0, frame.before);
+    let shown = references::put_shown(value.bytes, out, opened);
+    put::put_bytes(out, shown, frame.after)
 }
 
-// Words before what a raw value shows and after it.
-fn unescaped(value: &[u8], before: &[u8], after: &[u8], out: &mut [u8]) -> TextAnswer
-    requires short { Short before.now after.now }
-    requires small { length value.now ≤ 1048576 }
+// Words around what a raw value shows.
+fn unescaped(value: Part, frame: Frame, out: &mut [u8]) -> TextAnswer
     ensures { Says
-        (roomy (length out.old) (framed before.now (or_unsound (unescape value.now)) after.now))
+        (roomy (length out.old) (framed frame.entry.before.now (or_unsound (unescape value.entry.bytes.now)) frame.entry.after.now))
         (length out.old) out.new result }
 {
-    match references::check(value) {
+    match references::check(value.bytes) {
         Err(_) => answers::refuse(out, 19, 0),
         Ok(()) => {
-            let n = put_unescaped(value, before, after, out);
+            let n = put_unescaped(value, frame, out);
             answers::finish(out, n, 21, n)
         }
     }
 }
 
-// Words before the raw value at a triple, unescaped, and after it.
-pub fn valued(document: &[u8], t: Wide, before: &[u8], after: &[u8], out: &mut [u8]) -> TextAnswer
-    requires short { Short before.now after.now }
-    requires small { length document.now ≤ 1048576 }
+// Words around the raw value at a triple, unescaped.
+pub fn valued(document: Part, t: Wide, frame: Frame, out: &mut [u8]) -> TextAnswer
     ensures { Says
-        (roomy (length out.old) (framed before.now (unescaped_of (excerpt_of document.now t)) after.now))
+        (roomy (length out.old) (framed frame.entry.before.now (unescaped_of (excerpt_of document.entry.bytes.now t)) frame.entry.after.now))
         (length out.old) out.new result }
 {
     match excerpt(document, t) {
-        Some(value) => unescaped(value, before, after, out),
+        Some(value) => unescaped(value, frame, out),
         None => answers::refuse(out, 19, 0),
     }
 }
 
-// Words before, between and after two texts.
-fn parted(
-    a: &[u8],
-    b: &[u8],
-    before: &[u8],
-    between: &[u8],
-    after: &[u8],
-    out: &mut [u8],
-) -> TextAnswer
-    requires short { Short before.now between.now }
-    requires short_after { length after.now < 1024 }
-    requires small_first { length a.now ≤ 1048576 }
-    requires small_second { length b.now ≤ 1048576 }
-    ensures { Parted before.now a.now between.now b.now
-        after.now (length out.old) out.new result }
+// 6, where both names are there.
+fn mismatched(closing: Part, element: Part, out: &mut [u8]) -> TextAnswer
+    ensures { Mismatched closing.entry.bytes.now element.entry.bytes.now
+        (length out.old) out.new result }
 {
-    let first = put_around(out, 0, before, a, between);
-    let n = put_with(out, first, b, after);
+    let tag = Frame {
+        before: b"unexpected `</",
+        after: b">` while parsing `<",
+    };
+    let first = put_framed(closing, tag, out);
+    let second = put::put_bytes(out, first, element.bytes);
+    let n = put::put_bytes(out, second, b">`");
     answers::finish(out, n, 21, n)
-}
-
-// 6, where the closing tag's name is there: that and the open element's name.
-fn unexpected_in(document: &[u8], closing: &[u8], element: Wide, out: &mut [u8]) -> TextAnswer
-    requires small { length document.now ≤ 1048576 }
-    requires small_closing { length closing.now ≤ 1048576 }
-    ensures { UnexpectedIn document.now closing.now element (length out.old)
-        out.new result }
-{
-    match excerpt(document, element) {
-        Some(name) => parted(
-            closing,
-            name,
-            b"unexpected `</",
-            b">` while parsing `<",
-            b">`",
-            out,
-        ),
-        None => answers::refuse(out, 19, 0),
-    }
 }
 
 // 6: the closing tag's name, and the open element's.
 #[tactic(auto, using(crate::proofs::Framed::framing))]
-pub fn unexpected(document: &[u8], closing: Wide, element: Wide, out: &mut [u8]) -> TextAnswer
-    requires { length document.now ≤ 1048576 }
-    ensures { Unexpected document.now closing element (length out.old) out.new result }
+pub fn unexpected(document: Part, closing: Wide, element: Wide, out: &mut [u8]) -> TextAnswer
+    ensures { Unexpected document.entry.bytes.now closing element (length out.old)
+        out.new result }
 {
-    match excerpt(document, closing) {
-        Some(name) => unexpected_in(document, name, element, out),
-        None => answers::refuse(out, 19, 0),
+    match (excerpt(document, closing), excerpt(document, element)) {
+        (Some(tag), Some(name)) => mismatched(tag, name, out),
+        _ => answers::refuse(out, 19, 0),
     }
 }

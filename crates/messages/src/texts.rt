@@ -1,10 +1,8 @@
 // The texts of messages: which words stand around what is shown.
-ghost use Rattle.std.specs.Prelude.{◌≤◌, ◌<◌, length, IfSome, IfNone};
-ghost use Rattle.answers.specs.Text.{Says, roomy};
-ghost use Rattle.slices.specs.Bytes.{bytes};
-ghost use Rattle.messages.specs.Message.{excerpt_of, framed};
-ghost use Rattle.messages.specs.Steps.{PlainText, NoText, Plainly, Lacking, Turned, Warned};
+ghost use Rattle.std.specs.Prelude.{length, IfSome, IfNone};
+ghost use Rattle.messages.specs.Steps.{PlainText, NoText, Plainly, Missing, NoKey, Lacking, Turned, Malformed, NoReason, Warned};
 
+use crate::parts::{Frame, Part};
 use crate::{Told, Wide, shown};
 use answers::TextAnswer;
 
@@ -50,121 +48,109 @@ pub fn plainly(number: u64, out: &mut [u8]) -> TextAnswer
     }
 }
 
-// 12: the key that is missing, and the element's name.
-fn lacking(document: &[u8], name: Wide, key: u64, out: &mut [u8]) -> TextAnswer
-    requires { length document.now ≤ 1048576 }
-    ensures { Lacking document.now name key (length out.old) out.new result }
+// What 12 says before the element's name, by the key that is missing.
+fn missing(key: u64) -> Option<&'static [u8]>
+    ensures some { IfSome result (λ s. Missing key s.now) }
+    ensures none { IfNone result (NoKey key) }
 {
     match key {
-        1 => shown::named(
-            document,
-            name,
-            b"missing attribute `name` on `<",
-            b">`",
-            out,
-        ),
-        2 => shown::named(
-            document,
-            name,
-            b"missing attribute `type` on `<",
-            b">`",
-            out,
-        ),
-        3 => shown::named(
-            document,
-            name,
-            b"missing attribute `access` on `<",
-            b">`",
-            out,
-        ),
-        4 => shown::named(
-            document,
-            name,
-            b"missing attribute `value` on `<",
-            b">`",
-            out,
-        ),
-        _ => answers::refuse(out, 19, 0),
+        1 => Some(b"missing attribute `name` on `<"),
+        2 => Some(b"missing attribute `type` on `<"),
+        3 => Some(b"missing attribute `access` on `<"),
+        4 => Some(b"missing attribute `value` on `<"),
+        _ => None,
+    }
+}
+
+// 12: the key that is missing, and the element's name.
+fn lacking(document: Part, name: Wide, key: u64, out: &mut [u8]) -> TextAnswer
+    ensures { Lacking document.entry.bytes.now name key (length out.old) out.new result }
+{
+    match missing(key) {
+        Some(before) => shown::named(document, name, Frame::new(before, b">`"), out),
+        None => answers::refuse(out, 19, 0),
     }
 }
 
 // A refusal.
-pub fn told(document: &[u8], told: Told, out: &mut [u8]) -> TextAnswer
-    requires { length document.now ≤ 1048576 }
-    ensures { Turned document.now told (length out.old) out.new result }
+pub fn told(document: Part, told: Told, out: &mut [u8]) -> TextAnswer
+    ensures { Turned document.entry.bytes.now told (length out.old) out.new result }
 {
     let number = told.number;
     let first = told.first;
     let second = told.second;
     match number {
-        5 => shown::named(document, first, b"missing `</", b">`", out),
+        5 => shown::named(document, first, Frame::new(b"missing `</", b">`"), out),
         6 => shown::unexpected(document, first, second, out),
-        8 => shown::named(document, first, b"duplicate attribute `", b"`", out),
-        10 => shown::named(document, first, b"unknown entity `", b"`", out),
-        11 => shown::named(document, first, b"invalid character reference `", b"`", out),
+        8 => shown::named(
+            document,
+            first,
+            Frame::new(b"duplicate attribute `", b"`"),
+            out,
+        ),
+        10 => shown::named(document, first, Frame::new(b"unknown entity `", b"`"), out),
+        11 => shown::named(
+            document,
+            first,
+            Frame::new(b"invalid character reference `", b"`"),
+            out,
+        ),
         12 => lacking(document, first, told.key, out),
-        15 => shown::valued(document, first, b"invalid property access `", b"`", out),
-        16 => shown::valued(document, first, b"invalid argument direction `", b"`", out),
+        15 => shown::valued(
+            document,
+            first,
+            Frame::new(b"invalid property access `", b"`"),
+            out,
+        ),
+        16 => shown::valued(
+            document,
+            first,
+            Frame::new(b"invalid argument direction `", b"`"),
+            out,
+        ),
         _ => plainly(number, out),
     }
 }
 
-// A warning's reason, and the element's name.
-pub fn warned(document: &[u8], reason: u32, name: Wide, out: &mut [u8]) -> TextAnswer
-    requires { length document.now ≤ 1048576 }
-    ensures { Warned document.now reason name (length out.old) out.new result }
+// What a warning says after the name of a malformed element, by its reason.
+fn malformed(reason: u32) -> Option<&'static [u8]>
+    ensures some { IfSome result (λ s. Malformed reason s.now) }
+    ensures none { IfNone result (NoReason reason) }
 {
     match reason {
-        1 => shown::named(
-            document,
-            name,
-            b"unsupported element `<",
-            b">` ignored",
-            out,
-        ),
-        2 => malformed(document, name, b">` ignored: missing attribute `name`", out),
-        3 => malformed(document, name, b">` ignored: missing attribute `type`", out),
-        4 => malformed(
-            document,
-            name,
-            b">` ignored: invalid signature in `type`",
-            out,
-        ),
-        5 => malformed(
-            document,
-            name,
-            b">` ignored: an enumvalue is missing its `suffix` or `value` attribute",
-            out,
-        ),
-        6 => malformed(
-            document,
-            name,
+        2 => Some(b">` ignored: missing attribute `name`"),
+        3 => Some(b">` ignored: missing attribute `type`"),
+        4 => Some(b">` ignored: invalid signature in `type`"),
+        5 => Some(b">` ignored: an enumvalue is missing its `suffix` or `value` attribute"),
+        6 => Some(
             b">` ignored: a member is missing its `name` or `type` attribute, or has an invalid signature",
-            out,
         ),
-        7 => malformed(document, name, b">` ignored: no members", out),
-        8 => malformed(
-            document,
-            name,
-            b">` ignored: expected exactly 2 members",
-            out,
-        ),
-        9 => malformed(
-            document,
-            name,
-            b">` ignored: the key is not a basic type",
-            out,
-        ),
-        _ => answers::refuse(out, 19, 0),
+        7 => Some(b">` ignored: no members"),
+        8 => Some(b">` ignored: expected exactly 2 members"),
+        9 => Some(b">` ignored: the key is not a basic type"),
+        _ => None,
     }
 }
 
-// A malformed element's name, and why it is ignored.
-fn malformed(document: &[u8], name: Wide, why: &[u8], out: &mut [u8]) -> TextAnswer
-    requires { (length document.now ≤ 1048576) × (length why.now < 1024) }
-    ensures { Says
-        (roomy (length out.old) (framed (bytes "malformed element `<") (excerpt_of document.now name) why.now))
-        (length out.old) out.new result }
+// A warning's reason, and the element's name.
+pub fn warned(document: Part, reason: u32, name: Wide, out: &mut [u8]) -> TextAnswer
+    ensures { Warned document.entry.bytes.now reason name (length out.old) out.new result }
 {
-    shown::named(document, name, b"malformed element `<", why, out)
+    if reason == 1 {
+        return shown::named(
+            document,
+            name,
+            Frame::new(b"unsupported element `<", b">` ignored"),
+            out,
+        );
+    }
+    match malformed(reason) {
+        Some(after) => shown::named(
+            document,
+            name,
+            Frame::new(b"malformed element `<", after),
+            out,
+        ),
+        None => answers::refuse(out, 19, 0),
+    }
 }

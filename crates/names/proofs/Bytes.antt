@@ -60,10 +60,6 @@ name_large b h =
 name_of_lem : (b : ℕ) → element_byte b ≡ true → dotted_byte b ≡ true
 name_of_lem b e = rw e
 
-all_name : (s : List ℕ) → all element_byte s ≡ true → all dotted_byte s ≡ true
-all_name [] e = refl
-all_name (b ∷ s) e = let t = both (element_byte b) (all element_byte s) e in rw (name_of_lem b t.0) (all_name s t.1)
-
 every_class : (es : List (List ℕ)) → every element es ≡ true → every (all element_byte) es ≡ true
 every_class [] h = refl
 every_class (e ∷ es) h =

@@ -13,7 +13,7 @@ use lib.Dec.{T, eqb}
 use lib.ListN.{length, drop, get_or, drop_of_length-le}
 use lib.Seq.{drop-cons}
 use Rattle.slices.specs.Bytes.{if}
-use Rattle.names.specs.Signature.{Open, State, is_array, count, basic_code, begins, byte, accepts, ended, nothing_open, signature, basic_signature}
+use Rattle.names.specs.Signature.{Open, State, is_array, count, basic_code, begins, byte, accepts, ended, nothing_open, signature}
 use Rattle.names.specs.Checks.{is_parenthesis, awaited, Onward, Ends, Counted, Typed, Fielded, Entered}
 use Rattle.names.proofs.Codes.{flag_on, flag_off}
 
@@ -212,17 +212,6 @@ pub ruleset field_lists = (field_bad, field_end, field_close, field_more, field_
 
 pub ruleset entries = (flag_on, flag_off, key_end, key_none, value_bad, value_none, brace_end, brace_none, brace_close, rules)
 
--- the ways of `basic_signature`
-pub basic_many : (s : List ℕ) → (length s ≡ 1 → ⊥) → false ≡ basic_signature s
-basic_many [] n = refl
-basic_many (b ∷ []) n = absurd (n refl)
-basic_many (b ∷ c ∷ s) n = sym (and-false (basic_code b))
-
-pub basic_one : (s : List ℕ) {r : Bool} → length s ≡ 1 → r ≡ basic_code (get_or s 0 0) → r ≡ basic_signature s
-basic_one [] n e = absurd (omega arith)
-basic_one (b ∷ []) n e = e ∙ sym (and-true (basic_code b))
-basic_one (b ∷ c ∷ s) n e = absurd (omega arith)
-
 -- the ways of `signature` for one byte, and for too many
 pub long_signature : (s : List ℕ) → 255 < length s → false ≡ signature s
 unfolding signature
@@ -278,5 +267,3 @@ pub sign_falls : {s : List ℕ} (at a p : ℕ) {r : Option ℕ} (e : ℕ) → Ty
 sign_falls {s} at a p e f q = let g : Typed s at a p (Some e) = rw q at f in omega (arith, g.onward)
 
 pub ruleset signatures = (long_signature, one_variant, one_basic, sign_begins, sign_ends, sign_bad, sign_more, sign_falls, rules)
-
-pub ruleset basics = (basic_many, basic_one, rules)

@@ -14,19 +14,9 @@ use lib.ListN.{length, drop, get_or, length-drop, drop_of_length-le}
 use lib.Seq.{drop-cons, drop-drop, get_or-drop}
 use Rattle.slices.specs.Bytes.{if, all, span}
 use Rattle.slices.specs.Run.{Run}
-use Rattle.slices.proofs.Runs.{both, and_both, if_false, by_byte, span_end, runs}
-use Rattle.names.specs.Names.{digit, element_byte, element, grown, elements, every, interface_name, member_name, property_name}
+use Rattle.slices.proofs.Runs.{both, and_both, if_false, by_byte, span_end}
+use Rattle.names.specs.Names.{digit, element_byte, element, grown, elements, every, interface_name, member_name}
 use Rattle.names.specs.Checks.{lead, Element}
-use Rattle.names.proofs.Codes.{flag_on, flag_off}
-
--- the two ways of `property_name`
-pub property_none : (s : List ℕ) → length s ≡ 0 → false ≡ property_name s
-property_none [] e = refl
-property_none (b ∷ s) e = absurd (omega arith)
-
-pub property_some : (s : List ℕ) → (length s ≡ 0 → ⊥) → leb (length s) 255 ≡ property_name s
-property_some [] e = absurd (e refl)
-property_some (b ∷ s) e = refl
 
 -- a run is of the class, and it is all there is where it is as long
 span_class : (p : ℕ → Bool) (l : List ℕ) → all p (span p l) ≡ true
@@ -264,7 +254,3 @@ pub ruleset name_loops = (name_begins, name_long, name_none, name_end, name_spoi
 pub ruleset members = (member_none, member_long, member_is, rules)
 
 pub ruleset leads = (element_end, element_digit, element_run, rules)
-
-pub ruleset element_runs = (flag_on, flag_off, runs)
-
-pub ruleset properties = (property_none, property_some, rules)

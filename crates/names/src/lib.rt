@@ -51,6 +51,7 @@ pub fn interface_name(s: &[u8]) -> bool
         return false;
     }
     let mut at = 0;
+    // Whether there was a dot goes by no value, and the next place is what the call found.
     let mut dotted = false;
     loop {
         let e = element(s, at);
@@ -91,6 +92,7 @@ fn basic(b: u8) -> bool
 fn entry(s: &[u8], key: usize, arrays: u32, parens: u32) -> Option<usize>
     ensures { Entered s.now key arrays parens result }
 {
+    // Four tests: the proof of two with `||` did not close.
     if s.len() <= key {
         return None;
     }
@@ -170,6 +172,7 @@ pub fn signature(s: &[u8]) -> bool
         return s[0] == b'v' || basic(s[0]);
     }
     let mut at = 0;
+    // The next place is what the call found, so no range has it.
     while at < s.len() {
         match complete(s, at, 0, 0) {
             None => return false,

@@ -7,6 +7,7 @@ pub mod text;
 pub fn number(s: &[u8]) -> (u64, &[u8]) {
     let mut value = 0u64;
     let mut rest = s;
+    // A cursor and not `for`: what is left of the text is answered too.
     while let Some((b, after)) = rest.split_first() {
         rest = after;
         if !b.is_ascii_digit() || 4294967295 < value {

@@ -38,6 +38,7 @@ fn repeat(s: &[u8]) -> Option<(u64, &[u8], &[u8])>
 // Puts a text that has no repeats, as far as there is room.
 fn put_plain<W: Write>(to: &mut W, s: &[u8]) {
     let mut rest = s;
+    // A cursor and not `for`: a byte is written with one character or with three.
     while let Some((b, after)) = byte(rest) {
         let _ = to.write(&[b]);
         rest = after;
@@ -69,6 +70,7 @@ pub fn expand(out: &mut [u8], s: &[u8]) -> usize {
     let room = out.len();
     let mut free = out;
     let mut rest = s;
+    // A cursor and not `for`: the next step begins where this one ends.
     while let Some(after) = step(&mut free, rest) {
         rest = after;
     }

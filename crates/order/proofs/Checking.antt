@@ -6,11 +6,13 @@ use mathlib.Core.List.{List, [], ◌∷◌, ◌++◌}
 use mathlib.Core.Option.{Option, some}
 use mathlib.Core.Bool.{Bool, true, false, not}
 use borrow.Author.Rules.{rules}
-use borrow.Author.Tests.{ne_eqb, eqb-true, eqb-false, ltb-true, not-true, not-false}
+use borrow.Author.Tests.{ne_eqb, eqb-true, eqb-false, leb-true, not-true, not-false}
 use native.Mathlib.Omega.{arith}
-use lib.Dec.{eqb, ltb}
-use lib.ListN.{drop, get_or}
+use lib.Dec.{eqb, leb}
+use lib.ListN.{length, drop, get_or}
 use Rattle.std.specs.Prelude.{Option as Maybe, None, Some}
+use Rattle.std.specs.Bool.{MatchBool}
+use Rattle.std.specs.List.{AllWithin, HoldsAt, range_with_len}
 use Rattle.slices.specs.Bytes.{if}
 use Rattle.utf8.proofs.Sequences.{below}
 use Rattle.document.specs.Kinds as kinds
@@ -19,15 +21,15 @@ use Rattle.items.specs.Words.{Word, rows_shown}
 use Rattle.items.specs.Content.{Row}
 use Rattle.items.proofs.Words.{word_in}
 use Rattle.order.specs.Relation.{Chain, one}
-use Rattle.order.specs.Types.{definitions, member_in, uses}
+use Rattle.order.specs.Types.{member_in, uses}
 use Rattle.order.specs.Lookup.{listed, referred_by, targets_in, targets}
-use Rattle.order.specs.Steps.{Held, Adds, shown_at, Defines, MemberIn, target, Target, IsUndefined}
-use Rattle.order.specs.Certificate.{Wide, Got, member_of, MemberOf, Falls, EdgeFalls, Late, RowFalls, Members, Follows, IsCircle, run_of, RunIs, Runs, Above, IsNoted, Placed, IsNext, PlacedBefore, IsAscending, Stands, IsPlaced, ArePlaced, IsOrder}
-use Rattle.order.proofs.Lists.{clash, apart, or_else, first_true, second_true, both}
+use Rattle.order.specs.Steps.{Held, Adds, shown_at, Defines, MemberIn, Within, found, target, Target, BearsNone}
+use Rattle.order.specs.Certificate.{Got, IsParent, member_of, Falls, EdgeFalls, Late, RowFalls, Members, Follows, IsCircle, run_of, RunIs, Runs, RunBefore, Above, IsNoted, Placed, IsNext, PlacedBefore, IsAscending, IsPlaced, ArePlaced}
+use Rattle.order.proofs.Lists.{clash, apart, or_else, first_true, second_true, both, each_below}
 use Rattle.order.proofs.Circles.{chained}
 use Rattle.order.proofs.Lookups.{among_append, listed_is, is_listed, uses_targets}
-use Rattle.order.proofs.Finding.{shown_at_lem, shown_past}
-use Rattle.order.proofs.Counting.{undefined_other, undefined_absent, undefined_whole, undefined_less, Missing, missing_begins, missing_ends, missing_more}
+use Rattle.order.proofs.Finding.{shown_at_lem, shown_past, finds_some}
+use Rattle.order.proofs.Counting.{undefined_member, Missing, missing_begins, missing_ends, missing_more}
 use Rattle.order.proofs.Waiting.{referred_targets, defined_at, defined_below, row_held, held_few}
 
 -- ---- uses by members
@@ -88,40 +90,42 @@ referred_cases t tp j e f =
 
 -- ---- numbers
 
-strict : {work : List ℕ} {n p i j a b : ℕ} → Got work (n + j) a → Got work (n + i) b → ltb a b ≡ true → Falls n work p i j
-strict {a = a} {b = b} s t z = record { most = omega (arith, s.is, t.is, ltb-true a b z); less = λ q. omega (arith, s.is, t.is, ltb-true a b z) }
-
-module _ {work : List ℕ} {n p i e j : ℕ} where
-  pub edge_never : EdgeFalls n work p i e j false
+module _ {work : List ℕ} {n p i e : ℕ} {t : Maybe ℕ} where
+  pub edge_never : EdgeFalls n work p i e t false
   edge_never = record { falls = λ z. clash z refl; noted = λ z. clash z refl }
 
   module _ {g : ℕ} (o : Got work (n + n + i) g) where
-    pub edge_none : n ≤ j → EdgeFalls n work p i e j (not (eqb g e))
+    pub edge_none : t ≡ None → EdgeFalls n work p i e t (not (eqb g e))
     edge_none h = record {
-      falls = λ z l. absurd (omega arith);
+      falls = λ z k q. absurd (cc);
       noted = λ z l q. absurd (eqb-false g e (not-true (eqb g e) z) (o.is ∙ q));
     }
 
-    module _ {a b : ℕ} (h : j < n) (s : Got work (n + j) a) (t : Got work (n + i) b) where
-      pub edge_circle : a ≤ b → p < n → i < p → EdgeFalls n work p i e j (ltb a b)
-      edge_circle l m k = record {
-        falls = λ z y. record { most = omega (arith, s.is, t.is); less = λ q. omega (arith, s.is, t.is, ltb-true a b z) };
-        noted = λ z y q. absurd (omega arith);
+    module _ {j a b : ℕ} (h : t ≡ Some j) (s : Got work (n + j) a) (u : Got work (n + i) b) where
+      -- before p, or where the edge is not the one noted
+      falling : {c : Bool} → (c ≡ true → Falls n work p i j) → (c ≡ true → n ≤ p → get_or work (n + n + i) 0 ≡ e → run_of n work i ≤ a + 1) → EdgeFalls n work p i e t c
+      falling f r = record {
+        falls = λ z k q. let y : j ≡ k = cc in rw y at (f z);
+        noted = λ z l q. (j, h, omega (arith, r z l q, s.is));
       }
 
-      pub edge_past : a ≤ b → p < n → p ≤ i → EdgeFalls n work p i e j true
-      edge_past l m k = record {
-        falls = λ z y. record { most = omega (arith, s.is, t.is); less = λ q. absurd (omega arith) };
-        noted = λ z y q. absurd (omega arith);
-      }
+      pub edge_less : p < n → a < b → EdgeFalls n work p i e t true
+      edge_less l k = falling (λ z. record { most = omega (arith, s.is, u.is); less = λ q. omega (arith, s.is, u.is) }) (λ z y q. absurd (omega arith))
 
-      pub edge_other : (g ≡ e → ⊥) → EdgeFalls n work p i e j (ltb a b)
-      edge_other k = record { falls = λ z y. strict s t z; noted = λ z y q. absurd (k (o.is ∙ q)) }
+      pub edge_equal : p < n → p ≤ i → EdgeFalls n work p i e t (eqb a b)
+      edge_equal l k = falling (λ z. record { most = omega (arith, s.is, u.is, eqb-true a b z); less = λ q. absurd (omega arith) }) (λ z y q. absurd (omega arith))
 
-      pub edge_noted : {r : ℕ} → RunIs n work i r → r ≤ a + 1 → EdgeFalls n work p i e j (ltb a b)
-      edge_noted q k = record { falls = λ z y. strict s t z; noted = λ z y x. (h, omega (arith, q.is, s.is)) }
+      pub edge_other : a < b → {c : Bool} → c ≡ not (eqb g e) → c ≡ true → EdgeFalls n work p i e t c
+      edge_other k q f = falling
+          (λ z. record { most = omega (arith, s.is, u.is); less = λ q. omega (arith, s.is, u.is) })
+          (λ z y w. absurd (eqb-false g e (not-true (eqb g e) (sym q ∙ f)) (o.is ∙ w)))
 
-pub ruleset edges = (edge_never, edge_none, edge_circle, edge_past, edge_other, edge_noted, rules)
+      pub edge_noted : {r : ℕ} → a < b → RunIs n work i r → EdgeFalls n work p i e t (leb r (a + 1))
+      edge_noted {r} k q = falling
+          (λ z. record { most = omega (arith, s.is, u.is); less = λ q. omega (arith, s.is, u.is) })
+          (λ z y w. omega (arith, q.is, leb-true r (a + 1) z))
+
+pub ruleset edges = (edge_never, edge_none, edge_less, edge_equal, edge_other, edge_noted, rules)
 
 module _ {d x ws work : List ℕ} {n p m : ℕ} where
   pub row_never : RowFalls d x ws n work p m None
@@ -136,19 +140,15 @@ module _ {d x ws work : List ℕ} {n p m : ℕ} where
         unnamed = λ b e. let z : false ≡ b = cc in sym z ∙ rw o;
       }
 
-  module _ {q u e f : ℕ} {b c : Bool} (w : Word ws m 1 q) (v : Wide q u) (l : m < n) (s : Target d x ws n false m e) (t : Target d x ws n true m f) (y : EdgeFalls n work p (u - 1) (m + m + 1) e b) (yb : not b ≡ false) (z : EdgeFalls n work p (u - 1) (m + m + 2) f c) (zc : not c ≡ false) where
-    owner : (i : ℕ) → member_in i (shown_at d x ws m) ≡ true → u - 1 ≡ i
+  module _ {u : ℕ} {o e f : Maybe ℕ} {b c : Bool} (w : IsParent d x ws n m o) (v : o ≡ Some u) (l : m < n) (s : Target d x ws n false m e) (t : Target d x ws n true m f) (y : EdgeFalls n work p u (m + m + 1) e b) (yb : not b ≡ false) (z : EdgeFalls n work p u (m + m + 2) f c) (zc : not c ≡ false) where
+    owner : (i : ℕ) → member_in i (shown_at d x ws m) ≡ true → u ≡ i
     owner i a =
         let o = (both (eqb (shown_at d x ws m).kind 12) (eqb (shown_at d x ws m).parent (suc i)) a).1 in
-        omega (arith, v.is, word_in w, eqb-true (shown_at d x ws m).parent (suc i) o)
+        omega (arith, w.is u v, eqb-true (shown_at d x ws m).parent (suc i) o)
 
-    falls_to : (less : Bool) (j : ℕ) → target (rows_shown d x ws n) less (shown_at d x ws m).tp ≡ some j → Falls n work p (u - 1) j
-    falls_to false j o = below e n
-        (λ k. let r : e ≡ j = cc (s.finds.some k, o) in rw r at (y.falls (not-false b yb) k))
-        (λ k. let r : ◌≡◌ {A = ℕ} 0 1 = cc (s.finds.none k, o) in absurd (omega arith))
-    falls_to true j o = below f n
-        (λ k. let r : f ≡ j = cc (t.finds.some k, o) in rw r at (z.falls (not-false c zc) k))
-        (λ k. let r : ◌≡◌ {A = ℕ} 0 1 = cc (t.finds.none k, o) in absurd (omega arith))
+    falls_to : (less : Bool) (j : ℕ) → target (rows_shown d x ws n) less (shown_at d x ws m).tp ≡ some j → Falls n work p u j
+    falls_to false j o = y.falls (not-false b yb) j (s.finds.is ∙ ap found o)
+    falls_to true j o = z.falls (not-false c zc) j (t.finds.is ∙ ap found o)
 
     row_falls : (i j : ℕ) → member_in i (shown_at d x ws m) ≡ true → among j (referred_by (rows_shown d x ws n) (shown_at d x ws m).tp) ≡ true → Falls n work p i j
     row_falls i j a r = referred_cases (rows_shown d x ws n) (shown_at d x ws m).tp j r (λ less o. rw (owner i a) at (falls_to less j o))
@@ -158,31 +158,33 @@ module _ {d x ws work : List ℕ} {n p m : ℕ} where
 
     row_noted : n ≤ p → (i : ℕ) → member_in i (shown_at d x ws m) ≡ true → 0 < get_or work (n + n + i) 0 → member_of (get_or work (n + n + i) 0) ≡ m → Late (rows_shown d x ws n) n work i
     row_noted k i a pos o =
-        let r : u - 1 ≡ i = owner i a in
+        let r : u ≡ i = owner i a in
         below (get_or work (n + n + i) 0) (m + m + 2)
         (λ small.
         let q : get_or work (n + n + i) 0 ≡ m + m + 1 = omega (arith, o, pos) in
         let x = rw r at (y.noted (not-false b yb) k) in
         let n = x q in
-        late i e false a (s.finds.some n.0) n.1)
+        late i n.0 false a (finds_some s.finds n.1) n.2)
         (λ large.
         let q : get_or work (n + n + i) 0 ≡ m + m + 2 = omega (arith, o, pos) in
         let x = rw r at (z.noted (not-false c zc) k) in
         let n = x q in
-        late i f true a (t.finds.some n.0) n.1)
+        late i n.0 true a (finds_some t.finds n.1) n.2)
 
-    pub row_told : {r : Bool} → IsUndefined d x ws n m r → RowFalls d x ws n work p m (Some r)
-    row_told {r} k = record { falls = λ b e. row_falls; noted = λ b e. row_noted; unnamed = λ b e. let z : r ≡ b = cc in sym z ∙ k.is }
+    pub row_told : {k : ℕ} {r : Bool} → Word ws m 0 k → k ≡ kinds.member → BearsNone d x ws n m r → RowFalls d x ws n work p m (Some r)
+    row_told {k} {r} a q g = record {
+      falls = λ b e. row_falls;
+      noted = λ b e. row_noted;
+      unnamed = λ b e. let z : r ≡ b = cc in sym z ∙ (undefined_member a q g).is;
+    }
 
-pub up_below : {u n : ℕ} → (u ≡ 0 → ⊥) → u ≤ n → u - 1 < n
-up_below h l = omega arith
+pub parent_below : {d x ws : List ℕ} {n m i : ℕ} {o : Maybe ℕ} → IsParent d x ws n m o → o ≡ Some i → i < n
+parent_below w e = w.within _ e
 
-pub target_within : {d x ws : List ℕ} {n m j : ℕ} {less : Bool} → Target d x ws n less m j → j ≤ n
-target_within f = f.finds.within
+pub target_place : {d x ws : List ℕ} {n m : ℕ} {less : Bool} {r : Maybe ℕ} → Target d x ws n less m r → Within r n
+target_place f = f.finds.within
 
-pub ruleset row_falling = (row_never, row_other, row_told, up_below, target_within, row_held, held_few, rules)
-
-pub ruleset tellings = (undefined_other, undefined_absent, undefined_whole, undefined_less, rules)
+pub ruleset row_falling = (row_never, row_other, row_told, parent_below, target_place, row_held, held_few, rules)
 
 pub record Fallen (d x ws : List ℕ) (n : ℕ) (work : List ℕ) (p k c : ℕ) : Type 0 where
   pub falls : (m : ℕ) → m < k → (i j : ℕ) → member_in i (shown_at d x ws m) ≡ true → among j (referred_by (rows_shown d x ws n) (shown_at d x ws m).tp) ≡ true → Falls n work p i j
@@ -217,13 +219,13 @@ pub ruleset fallings = (fallen_begins, fallen_never, fallen_ends, fallen_more, f
 
 -- ---- a circle
 
-pub follow_past : {t : List Row} {n r : ℕ} → Follows t n r n
-follow_past = record { is = λ h. absurd (omega arith); within = omega arith }
+pub follow_past : {t : List Row} {n r : ℕ} → Follows t n r None
+follow_past = record { is = λ k e. absurd (cc); within = λ k e. absurd (cc) }
 
-pub follow_target : {d x ws : List ℕ} {n r m j : ℕ} {b less : Bool} → m < n → MemberIn d x ws r m b → not b ≡ false → Target d x ws n less m j → Follows (rows_shown d x ws n) n r j
+pub follow_target : {d x ws : List ℕ} {n r m : ℕ} {j : Maybe ℕ} {b less : Bool} → m < n → MemberIn d x ws r m b → b ≡ true → Target d x ws n less m j → Follows (rows_shown d x ws n) n r j
 follow_target {d} {x} {ws} {n} {r} {m} {j} {b} {less} l a h f = record {
-  is = λ o. by_member d x ws n r j m l (sym a.is ∙ not-false b h) (target_referred (rows_shown d x ws n) less (shown_at d x ws m).tp j (f.finds.some o));
-  within = f.finds.within;
+  is = λ k e. by_member d x ws n r k m l (sym a.is ∙ h) (target_referred (rows_shown d x ws n) less (shown_at d x ws m).tp k (finds_some f.finds e));
+  within = f.finds.within.is;
 }
 
 pub ruleset follows = (follow_past, follow_target, row_held, held_few, rules)
@@ -238,57 +240,47 @@ leads_begins h = record { within = h; leads = λ j u. one u }
 pub circle_never : {t : List Row} {p : ℕ} → IsCircle t p false
 circle_never = record { is = λ e. clash e refl }
 
-module _ {t : List Row} {n p r j : ℕ} (g : Leads t n p r) (f : Follows t n r j) (h : j < n) where
+module _ {t : List Row} {n p r j : ℕ} {o : Maybe ℕ} (g : Leads t n p r) (f : Follows t n r o) (h : o ≡ Some j) where
   pub leads_on : Leads t n p j
-  leads_on = record { within = h; leads = λ k u. chained (uses t) (g.leads j (f.is h)) (one u) }
+  leads_on = record { within = f.within j h; leads = λ k u. chained (uses t) (g.leads j (f.is j h)) (one u) }
 
   pub leads_back : j ≡ p → IsCircle t p true
-  leads_back e = record { is = λ z. rw e at (g.leads j (f.is h)) }
+  leads_back e = record { is = λ z. rw e at (g.leads j (f.is j h)) }
 
 pub ruleset leading = (leads_begins, circle_never, leads_on, leads_back, rules)
 
 -- ---- places
 
-pub record Rising (out : List ℕ) (k r j : ℕ) : Type 0 where
-  pub is : (i : ℕ) → j ≤ i → i < k → get_or out i 0 < r
+pub record Rising (n : ℕ) (work out : List ℕ) (k r j : ℕ) : Type 0 where
+  pub is : Runs n work out k → (i : ℕ) → j ≤ i → i < k → get_or out i 0 < r
   pub within : j ≤ k
 
-pub rising_begins : {out : List ℕ} {k r : ℕ} → Rising out k r k
-rising_begins = record { is = λ i h l. absurd (omega arith); within = omega arith }
+pub rising_begins : {n : ℕ} {work out : List ℕ} {k r : ℕ} → Rising n work out k r k
+rising_begins = record { is = λ f i h l. absurd (omega arith); within = omega arith }
 
-pub above_never : {out : List ℕ} {k r from : ℕ} → Above out k r from false
-above_never = record { is = λ e. clash e refl }
+module _ {n : ℕ} {work out : List ℕ} {k r j : ℕ} (g : Rising n work out k r j) where
+  pub rising_here : RunBefore n work out k r j
+  rising_here = record { is = g.is }
 
-module _ {out : List ℕ} {k r j : ℕ} (g : Rising out k r j) where
-  pub rising_ends : {from : ℕ} → j ≤ from → Above out k r from true
-  rising_ends h = record { is = λ e i l. g.is i (omega arith) }
+  pub rising_ends : j ≤ 0 → RunBefore n work out k r 0
+  rising_ends h = record { is = λ f i l. g.is f i (omega arith) }
 
-  pub rising_on : {n s x from : ℕ} {work : List ℕ} → Runs n work out k → from < j → Got out (j - 1) x → x < r → RunIs n work x s → s < j → Rising out k r s
-  rising_on {n} {s} {x} {from} {work} f p o l q h = record {
-    is = λ i a b. below i j
+  pub rising_on : {s x : ℕ} → 0 < j → Got out (j - 1) x → x < r → RunIs n work x s → s < j → Rising n work out k r s
+  rising_on {s} {x} p o l q h = record {
+    is = λ f i a b. below i j
         (λ y. below i (j - 1)
         (λ z.
         let e : run_of n work (get_or out (j - 1) 0) ≡ s = rw (← o.is) (sym q.is) in
         omega (arith, f.is (j - 1) (omega (arith, g.within)) i (omega (arith, e)) z, o.is))
         (λ z. let e : j - 1 ≡ i = omega arith in omega (arith, ap (λ (k : ℕ). get_or out k 0) e, o.is)))
-        (λ y. g.is i y b);
+        (λ y. g.is f i y b);
     within = omega (arith, g.within);
   }
 
-pub ruleset rising = (rising_begins, above_never, rising_ends, rising_on, rules)
+pub above_is : {n : ℕ} {work out : List ℕ} {k r s from : ℕ} → Runs n work out k → RunBefore n work out k r s → Above out k r from (leb s from)
+above_is {s = s} {from = from} f g = record { is = λ e j h l. g.is f j (omega (arith, leb-true s from e)) l }
 
-pub noted_start : {d x ws work : List ℕ} {n r from : ℕ} → from ≡ 0 → IsNoted d x ws n work r from true
-noted_start h = record { within = λ e l. absurd (omega arith); member = λ e l. absurd (omega arith) }
-
-pub noted_never : {d x ws work : List ℕ} {n r from : ℕ} → IsNoted d x ws n work r from false
-noted_never = record { within = λ e. clash e refl; member = λ e. clash e refl }
-
-pub noted_member : {d x ws work : List ℕ} {n r from g m : ℕ} {b : Bool} → Got work (n + n + r) g → MemberOf g m → m < n → MemberIn d x ws r m b → IsNoted d x ws n work r from b
-noted_member {work = work} {n = n} {r = r} {m = m} o q l a =
-    let e : m ≡ member_of (get_or work (n + n + r) 0) = q.is ∙ ap member_of o.is in
-    record { within = λ z k. rw (← e) l; member = λ z k. rw (← e) (sym a.is ∙ z) }
-
-pub ruleset noting = (noted_start, noted_never, noted_member, row_held, held_few, rules)
+pub ruleset rising = (rising_begins, rising_here, rising_ends, rising_on, rules)
 
 pub next_never : {d x ws work out : List ℕ} {n k : ℕ} → IsNext d x ws n work out k false
 next_never = record { is = λ e. clash e refl }
@@ -296,17 +288,17 @@ next_never = record { is = λ e. clash e refl }
 pub placed_runs : {d x ws work out : List ℕ} {n k : ℕ} → PlacedBefore d x ws n work out k → Runs n work out k
 placed_runs f = record { is = λ i l. (f.is i l).run }
 
-pub next_is : {d x ws work out : List ℕ} {n k r a s : ℕ} {b c q : Bool} → r < n → Got out k r → Defines d x ws r b → not b ≡ false → Got work (n + r) a → a ≡ k → RunIs n work r s → IsNoted d x ws n work r s q → not q ≡ false → Above out k r s c → IsNext d x ws n work out k c
+pub next_is : {d x ws work out : List ℕ} {n k r a s : ℕ} {b c q : Bool} → r < n → Got out k r → Defines d x ws r b → b ≡ true → Got work (n + r) a → a ≡ k → RunIs n work r s → IsNoted d x ws n work r s q → q ≡ true → Above out k r s c → IsNext d x ws n work out k c
 next_is {d} {x} {ws} {work} {out} {n} {k} {r} {a} {s} {b} {c} {q} l g f h v y m w o p = record { is = all }
   where
     all : c ≡ true → Placed d x ws n work out k
     all e =
         let z : r ≡ get_or out k 0 = g.is in
         record {
-          definition = rw (← z) (defined_at d x ws n r l ∙ sym f.is ∙ not-false b h);
+          definition = rw (← z) (defined_at d x ws n r l ∙ sym f.is ∙ h);
           numbered = rw (← z) (sym v.is ∙ y);
           run = rw (← z, ← m.is) (p.is e);
-          noted = rw (← z, ← m.is) (rw (not-false q o) at w);
+          noted = rw (← z, ← m.is) (rw o at w);
         }
 
 pub ruleset nexts = (next_never, placed_runs, next_is, row_held, rules)
@@ -330,8 +322,8 @@ module _ {work out : List ℕ} {n count r : ℕ} where
   pub place_never : {t : List Row} → IsPlaced t n work out count r false
   place_never = record { is = λ e. clash e refl }
 
-  pub place_other : {d x ws : List ℕ} {b : Bool} → r < n → Defines d x ws r b → not b ≡ true → IsPlaced (rows_shown d x ws n) n work out count r true
-  place_other {d} {x} {ws} {b} l f h = record { is = λ e m. clash m (defined_at d x ws n r l ∙ sym f.is ∙ not-true b h) }
+  pub place_other : {d x ws : List ℕ} {b q : Bool} → r < n → Defines d x ws r b → b ≡ false → IsPlaced (rows_shown d x ws n) n work out count r q
+  place_other {d} {x} {ws} l f h = record { is = λ e m. clash m (defined_at d x ws n r l ∙ sym f.is ∙ h) }
 
   pub place_here : {t : List Row} {k y : ℕ} → Got work (n + r) k → k < count → Got out k y → IsPlaced t n work out count r (eqb y r)
   place_here {t} {k} {y} g l f = record {
@@ -340,29 +332,9 @@ module _ {work out : List ℕ} {n count r : ℕ} where
 
 pub ruleset placing = (place_never, place_other, place_here, row_held, rules)
 
-pub record PlacedRows (d x ws : List ℕ) (n : ℕ) (work out : List ℕ) (count k : ℕ) : Type 0 where
-  pub is : (r : ℕ) → r < k → among r (definitions (rows_shown d x ws n)) ≡ true → Stands n work out count r
-
-pub rows_begin : {d x ws work out : List ℕ} {n count : ℕ} → PlacedRows d x ws n work out count 0
-rows_begin = record { is = λ r l. absurd (omega arith) }
-
-pub rows_never : {t : List Row} {work out : List ℕ} {n count : ℕ} → ArePlaced t n work out count false
-rows_never = record { is = λ e. clash e refl }
-
-module _ {d x ws work out : List ℕ} {n count k : ℕ} (g : PlacedRows d x ws n work out count k) where
-  pub rows_end : n ≤ k → ArePlaced (rows_shown d x ws n) n work out count true
-  rows_end h = record { is = λ e r m. g.is r (omega (arith, defined_below d x ws n r m)) m }
-
-  pub rows_more : {b : Bool} → IsPlaced (rows_shown d x ws n) n work out count k b → not b ≡ false → PlacedRows d x ws n work out count (k + 1)
-  rows_more {b} f h = record { is = λ r l. below r k (g.is r) (λ o. let e : k ≡ r = omega arith in rw e at (f.is (not-false b h))) }
-
-pub ruleset placings = (rows_begin, rows_never, rows_end, rows_more, rules)
-
-module _ {d x ws work out : List ℕ} {n count : ℕ} where
-  pub order_never : IsOrder d x ws n work out count false
-  order_never = record { before = λ e. clash e refl; stands = λ e. clash e refl }
-
-  pub order_both : {b c : Bool} → ArePlaced (rows_shown d x ws n) n work out count b → not b ≡ false → IsAscending d x ws n work out count c → IsOrder d x ws n work out count c
-  order_both {b} f h g = record { before = g.is; stands = λ e. f.is (not-false b h) }
-
-pub ruleset whole_order = (order_never, order_both, rules)
+-- each of n rows stands at its place, or some does not
+pub placed_all : (d x ws work out : List ℕ) (n count : ℕ) (r : Bool) → MatchBool r (AllWithin (λ k. IsPlaced (rows_shown d x ws n) n work out count k true) (range_with_len 0 n) 0 (length (range_with_len 0 n))) ((k : ℕ) × (k < length (range_with_len 0 n)) × HoldsAt (λ k. IsPlaced (rows_shown d x ws n) n work out count k false) (range_with_len 0 n) k) → ArePlaced (rows_shown d x ws n) n work out count r
+placed_all d x ws work out n count true h = record {
+  is = λ e r m. (each_below (λ k. IsPlaced (rows_shown d x ws n) n work out count k true) n h r (defined_below d x ws n r m)).is refl m;
+}
+placed_all d x ws work out n count false h = record { is = λ e. clash e refl }

@@ -6,33 +6,24 @@ use mathlib.Core.List.{List, ◌∷◌, ◌++◌}
 use mathlib.Core.Option.{Option, none, some}
 use mathlib.Core.Bool.{Bool, true, false, not}
 use borrow.Author.Rules.{rules}
-use borrow.Author.Tests.{ne_eqb, le-leb, lt-leb}
+use borrow.Author.Tests.{ne_eqb, not-true, not-false}
 use native.Mathlib.Numerals.{add-one}
 use native.Mathlib.Omega.{arith}
-use lib.Dec.{leb}
 use lib.ListN.{length, drop}
+use Rattle.std.specs.Prelude.{Option as Maybe, None, Some, is_some}
 use Rattle.slices.specs.Bytes.{if, empty}
-use Rattle.utf8.proofs.Sequences.{below}
 use Rattle.tables.specs.Triple.{shown}
 use Rattle.tables.specs.declared.Triple.{Triple}
 use Rattle.document.specs.Kinds as kinds
 use Rattle.items.specs.Words.{Word, TripleIs, row_of, rows_shown, absent}
 use Rattle.items.specs.Content.{Row}
 use Rattle.items.proofs.Words.{word_in}
-use Rattle.order.specs.Types.{defines, definitions_from, definitions, is_undefined, undefined_in, undefined}
+use Rattle.order.specs.Types.{defines, definitions_from, definitions, typed, defined, is_undefined, undefined_in, undefined}
 use Rattle.order.specs.Lookup.{listed, referred, referred_by}
-use Rattle.order.specs.Steps.{Held, shown_at, Defines, target, Target, Adds, IsUndefined, CountsUndefined, CountsDefinitions}
+use Rattle.order.specs.Steps.{Held, shown_at, Defines, target, Target, Adds, BearsNone, IsUndefined, CountsUndefined, CountsDefinitions}
 use Rattle.order.proofs.Lookups.{defined_referred}
-use Rattle.order.proofs.Finding.{shown_at_lem, shown_past}
+use Rattle.order.proofs.Finding.{shown_at_lem, shown_past, finds_some, finds_none}
 use Rattle.order.proofs.Waiting.{referred_targets, row_held}
-
-pub adds_one : {c : ℕ} {b : Bool} → b ≡ true → Adds c b (c + 1)
-adds_one {c} e = record { is = rw e }
-
-pub adds_none : {c : ℕ} {b : Bool} → b ≡ false → Adds c b c
-adds_none {c} e = record { is = rw e (omega arith) }
-
-pub ruleset adding = (adds_one, adds_none, rules)
 
 one_most : (b : Bool) → if b 1 0 ≤ 1
 one_most true = omega arith
@@ -78,41 +69,54 @@ twice : (z : Bool) → not (not z) ≡ z
 twice true = refl
 twice false = refl
 
--- a member's tp type that is there bears no name exactly when it refers to no row
-bears_none : (d x ws : List ℕ) (n m : ℕ) → (shown_at d x ws m).kind ≡ kinds.member → absent (row_of (drop (m * 16) ws)).tp ≡ false → is_undefined (rows_shown d x ws n) (shown_at d x ws m) ≡ empty (referred_by (rows_shown d x ws n) (shown_at d x ws m).tp)
-bears_none d x ws n m e f =
+-- a tp type that is there bears no name exactly when it refers to no row
+bears_none : (d x ws : List ℕ) (n m : ℕ) → absent (row_of (drop (m * 16) ws)).tp ≡ false → typed (λ tp. not (defined (rows_shown d x ws n) tp)) (shown_at d x ws m).tp ≡ empty (referred_by (rows_shown d x ws n) (shown_at d x ws m).tp)
+bears_none d x ws n m f =
     let s = shown d x (row_of (drop (m * 16) ws)).tp in
-    rw (e, f) (ap not (defined_referred (rows_shown d x ws n) s) ∙ twice (empty (referred (rows_shown d x ws n) s)))
+    rw f (ap not (defined_referred (rows_shown d x ws n) s) ∙ twice (empty (referred (rows_shown d x ws n) s)))
 
-neither : (d x ws : List ℕ) (n m : ℕ) → (shown_at d x ws m).kind ≡ kinds.member → absent (row_of (drop (m * 16) ws)).tp ≡ false → (o p : Option ℕ) → target (rows_shown d x ws n) false (shown_at d x ws m).tp ≡ o → target (rows_shown d x ws n) true (shown_at d x ws m).tp ≡ p → is_undefined (rows_shown d x ws n) (shown_at d x ws m) ≡ empty (listed o ++ listed p)
-neither d x ws n m e f o p g h =
-    bears_none d x ws n m e f
+neither : (d x ws : List ℕ) (n m : ℕ) → absent (row_of (drop (m * 16) ws)).tp ≡ false → (o p : Option ℕ) → target (rows_shown d x ws n) false (shown_at d x ws m).tp ≡ o → target (rows_shown d x ws n) true (shown_at d x ws m).tp ≡ p → typed (λ tp. not (defined (rows_shown d x ws n) tp)) (shown_at d x ws m).tp ≡ empty (listed o ++ listed p)
+neither d x ws n m f o p g h =
+    bears_none d x ws n m f
     ∙ ap empty (referred_targets (rows_shown d x ws n) (shown_at d x ws m).tp)
     ∙ ap (λ (z : Option ℕ). empty (listed z ++ listed (target (rows_shown d x ws n) true (shown_at d x ws m).tp))) g
     ∙ ap (λ (z : Option ℕ). empty (listed o ++ listed z)) h
+
+module _ {d x ws : List ℕ} {n m : ℕ} {b : Bool} {p : Triple} (t : TripleIs ws m 8 p) (f : b ≡ absent p) where
+  pub bears_absent : {r : Bool} → not b ≡ false → r ≡ not b → BearsNone d x ws n m r
+  bears_absent q e = record { is = e ∙ q ∙ sym (rw (tp_is t f ∙ not-false b q)) }
+
+  module _ {v : Maybe ℕ} (q : b ≡ false) (g : Target d x ws n false m v) where
+    pub bears_whole : {r : Bool} → is_some v ≡ not r → r ≡ false → BearsNone d x ws n m r
+    bears_whole {r} e z = go v refl e
+      where
+        go : (u : Maybe ℕ) → v ≡ u → is_some u ≡ not r → BearsNone d x ws n m r
+        go None h k = absurd (cc)
+        go (Some i) h k = record {
+          is = z ∙ sym (neither d x ws n m (tp_is t f ∙ q) (some i) (target (rows_shown d x ws n) true (shown_at d x ws m).tp) (finds_some g.finds h) refl);
+        }
+
+    pub bears_less : {w : Maybe ℕ} {r s : Bool} → is_some v ≡ not r → r ≡ true → Target d x ws n true m w → is_some w ≡ not s → BearsNone d x ws n m s
+    bears_less {w} {r} {s} e z k o = go v refl w refl e o
+      where
+        go : (u : Maybe ℕ) → v ≡ u → (y : Maybe ℕ) → w ≡ y → is_some u ≡ not r → is_some y ≡ not s → BearsNone d x ws n m s
+        go (Some i) h y j e o = absurd (cc)
+        go None h None j e o = record { is = said ∙ sym (neither d x ws n m (tp_is t f ∙ q) none none (finds_none g.finds h) (finds_none k.finds j)) }
+          where
+            said : s ≡ true
+            said = not-false s (sym o)
+        go None h (Some i) j e o = record { is = not-true s (sym o) ∙ sym (neither d x ws n m (tp_is t f ∙ q) none (some i) (finds_none g.finds h) (finds_some k.finds j)) }
+
+pub ruleset bearing = (bears_absent, bears_whole, bears_less, rules)
 
 module _ {d x ws : List ℕ} {n m k : ℕ} (a : Word ws m 0 k) where
   pub undefined_other : (k ≡ kinds.member → ⊥) → IsUndefined d x ws n m false
   undefined_other e = record { is = rw (← word_in a, ne_eqb k kinds.member e) }
 
-  module _ (e : k ≡ kinds.member) {b : Bool} {p : Triple} (t : TripleIs ws m 8 p) (f : b ≡ absent p) where
-    pub undefined_absent : b ≡ true → IsUndefined d x ws n m false
-    undefined_absent q = record { is = rw (← word_in a, e, tp_is t f ∙ q) }
+  pub undefined_member : {r : Bool} → k ≡ kinds.member → BearsNone d x ws n m r → IsUndefined d x ws n m r
+  undefined_member e b = record { is = b.is ∙ rw (← word_in a, e) }
 
-    module _ {r : ℕ} (q : b ≡ false) (w : Target d x ws n false m r) where
-      pub undefined_whole : r < n → IsUndefined d x ws n m false
-      undefined_whole l = record {
-        is = sym (neither d x ws n m (sym (word_in a) ∙ e) (tp_is t f ∙ q) (some r) (target (rows_shown d x ws n) true (shown_at d x ws m).tp) (w.finds.some l) refl);
-      }
-
-      pub undefined_less : {s : ℕ} → n ≤ r → Target d x ws n true m s → IsUndefined d x ws n m (leb n s)
-      undefined_less {s} l v = record {
-        is = below s n
-            (λ o. lt-leb n s o ∙ sym (neither d x ws n m (sym (word_in a) ∙ e) (tp_is t f ∙ q) none (some s) (w.finds.none l) (v.finds.some o)))
-            (λ o. le-leb n s o ∙ sym (neither d x ws n m (sym (word_in a) ∙ e) (tp_is t f ∙ q) none none (w.finds.none l) (v.finds.none o)));
-      }
-
-pub ruleset undefineds = (undefined_other, undefined_absent, undefined_whole, undefined_less, row_held, rules)
+pub ruleset undefineds = (undefined_other, undefined_member, row_held, rules)
 
 pub record Missing (d x ws : List ℕ) (n k c : ℕ) : Type 0 where
   pub is : c + undefined_in (rows_shown d x ws n) (drop k (rows_shown d x ws n)) ≡ undefined (rows_shown d x ws n)

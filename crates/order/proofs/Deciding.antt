@@ -15,7 +15,7 @@ use Rattle.items.specs.Content.{Row}
 use Rattle.order.specs.Relation.{order, Chain}
 use Rattle.order.specs.Types.{definitions, uses}
 use Rattle.order.specs.Ordering.{wrong, Says}
-use Rattle.std.specs.Prelude.{Result, Ok, Option, None, Some}
+use Rattle.std.specs.Prelude.{Result, Ok, Option, None, Some, is_some}
 use Rattle.faults.specs.declared.Fault.{Fault}
 use Rattle.order.specs.declared.Ordered.{Ordered}
 use Rattle.order.specs.Steps.{GivenOut, CountsUndefined, CountsDefinitions, OrdersSound}
@@ -40,8 +40,12 @@ first_never = record { is = λ e. clash e refl }
 past : {d x ws work : List ℕ} {n p u : ℕ} {r : Option ℕ} → Members d x ws n work p r → r ≡ Some u → (q : ℕ) → Chain (uses (rows_shown d x ws n)) q q → p ≤ q
 past {d} {x} {ws} {work} {n} {p} {u} m e = circle_past (uses (rows_shown d x ws n)) (number n work) p (λ i j v. (m.falls u e i j v).most) (λ i j v. (m.falls u e i j v).less)
 
-pub first-is : {d x ws work : List ℕ} {n p u : ℕ} {r : Option ℕ} {c : Bool} → Members d x ws n work p r → r ≡ Some u → IsCircle (rows_shown d x ws n) p c → IsFirst (rows_shown d x ws n) p c
-first-is m h f = record { is = λ e. record { circle = f.is e; first = past m h } }
+pub first-is : {d x ws work : List ℕ} {n p : ℕ} {r : Option ℕ} {c : Bool} → Members d x ws n work p r → is_some r ≡ true → IsCircle (rows_shown d x ws n) p c → IsFirst (rows_shown d x ws n) p c
+first-is {d} {x} {ws} {work} {n} {p} {r} {c} m h f = go r refl h
+  where
+    go : (o : Option ℕ) → r ≡ o → is_some o ≡ true → IsFirst (rows_shown d x ws n) p c
+    go None q h = absurd (cc)
+    go (Some u) q h = record { is = λ e. record { circle = f.is e; first = past m q } }
 
 pub ruleset firsts = (first_never, first-is, rules)
 

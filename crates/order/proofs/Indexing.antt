@@ -7,12 +7,13 @@ use mathlib.Core.Option.{Option, none, some}
 use mathlib.Core.Bool.{Bool, true, false, ◌&&◌}
 use borrow.Author.Rules.{rules}
 use borrow.Author.Tests.{eq-eqb, ne_eqb, eqb-true, eqb-false}
-use native.Mathlib.Nat.{mod-lt}
 use native.Mathlib.Numerals.{add-one}
 use native.Mathlib.Omega.{arith}
 use lib.Dec.{eqb}
 use lib.ListN.{length, get_or, set, drop, replicate, length-set, length-replicate}
 use lib.Seq.{get_or-set_same, get_or-set_other}
+use Rattle.std.specs.Prelude.{Option as Maybe, None, Some, SomeIff}
+use Rattle.utf8.proofs.Sequences.{below}
 use Rattle.slices.specs.Bytes.{if, same}
 use Rattle.slices.specs.Hash.{hash_of, HashIs}
 use Rattle.slices.proofs.Runs.{same_equal}
@@ -26,7 +27,7 @@ use Rattle.order.specs.Types.{defines, first_named}
 use Rattle.order.specs.Steps.{Held, shown_at, Defines, HasName, FirstNamed}
 use Rattle.order.specs.Index.{bucket_of, tag_of, bucket_at, tag_at, first_in, word_for, HashAt, Spread, WordIs, RowOf, Tagged, IndexedFrom, Indexed, Built}
 use Rattle.order.proofs.Lists.{clash, case, refuted, both}
-use Rattle.order.proofs.Finding.{shown_at_lem, shown_past, present_shown}
+use Rattle.order.proofs.Finding.{shown_at_lem, shown_past, present_shown, found_here, found_none}
 use Rattle.order.proofs.Waiting.{row_held}
 
 -- ---- hashes and buckets
@@ -37,11 +38,6 @@ hash_row {d} {x} {ws} {l} {i} b q p = record {
 }
 
 pub ruleset hashes = (hash_row, rules)
-
-pub spread_is : {f m : ℕ} → 0 < m → Spread f m (f % m)
-spread_is {f} p = record { is = refl; within = mod-lt f p }
-
-pub ruleset spreads = (spread_is, rules)
 
 bucket_of_lem : (s : List ℕ) {f m h : ℕ} → f ≡ hash_of s → Spread f m h → h ≡ bucket_of m s
 unfolding bucket_of
@@ -144,97 +140,139 @@ module _ (d x ws : List ℕ) (n m : ℕ) (s : List ℕ) where
 
 -- ---- the walk along a bucket
 
--- k is a row of the bucket, whose word is w, and the name is not before it; or it is n, and the name is nowhere
-pub record Following (d x ws : List ℕ) (n m : ℕ) (s : List ℕ) (k w : ℕ) : Type 0 where
-  pub same : first_named s 0 (rows_shown d x ws n) ≡ first_named s k (drop k (rows_shown d x ws n))
-  pub is : k < n → defines (shown_at d x ws k) ≡ true
-  pub falls : k < n → bucket_at d x ws m k ≡ bucket_of m s
-  pub tag : k < n → w / 524288 ≡ tag_at d x ws k
+-- word w is that of the bucket's first row from some row on, and the name is not before that
+pub record Following (d x ws : List ℕ) (n m : ℕ) (s : List ℕ) (w : ℕ) : Type 0 where
+  pub from : ℕ
+  pub few : n ≤ 262144
+  pub within : from ≤ n
+  pub same : first_named s 0 (rows_shown d x ws n) ≡ first_named s from (drop from (rows_shown d x ws n))
+  pub word : w ≡ word_for d x ws (first_in m (bucket_of m s) from (drop from (rows_shown d x ws n)))
 
-record Goes (d x ws : List ℕ) (n m : ℕ) (s : List ℕ) (i k w : ℕ) : Type 0 where
-  pub following : Following d x ws n m s k w
-  pub past : i ≤ k
+-- how many of n rows are left from the row on whose number plus one is this; 0 for none
+abbrev pub ahead : ℕ → ℕ → ℕ
+ahead n zero = 0
+ahead n (suc k) = n - k
 
 pub indexed_some : {d x ws hs ls : List ℕ} {n k : ℕ} → IndexedFrom d x ws n k hs ls → 0 < length hs
 indexed_some ix = ix.some
 
-module _ (d x ws : List ℕ) (n m : ℕ) (s : List ℕ) (few : n ≤ 262144) where
-  goes : (i : ℕ) → i ≤ n → first_named s 0 (rows_shown d x ws n) ≡ first_named s i (drop i (rows_shown d x ws n)) → {w k : ℕ} → w ≡ word_for d x ws (first_in m (bucket_of m s) i (drop i (rows_shown d x ws n))) → RowOf w n k → Goes d x ws n m s i k w
-  goes i l g {w} {k} q r = go (first_in m (bucket_of m s) i (drop i (rows_shown d x ws n))) refl q
+-- the row that the word stands for, or none
+module _ {d x ws : List ℕ} {n m : ℕ} {s : List ℕ} {w : ℕ} (g : Following d x ws n m s w) where
+  word_none : first_in m (bucket_of m s) g.from (drop g.from (rows_shown d x ws n)) ≡ none → w % 524288 ≡ 0
+  word_none e = ap (λ (z : ℕ). z % 524288) (g.word ∙ ap (word_for d x ws) e)
+
+  module _ {j : ℕ} (e : first_in m (bucket_of m s) g.from (drop g.from (rows_shown d x ws n)) ≡ some j) where
+    word_passed : Passed d x ws n m s g.from j
+    word_passed = pass d x ws n m s (n - g.from) g.from (omega (arith, g.within)) j e
+
+    word_some : w % 524288 ≡ suc j
+    word_some =
+        ap (λ (z : ℕ). z % 524288) (g.word ∙ ap (word_for d x ws) e)
+        ∙ low_bits (suc j) (tag_at d x ws j) (omega (arith, g.few, word_passed.within))
+
+    word_tag : w / 524288 ≡ tag_at d x ws j
+    word_tag =
+        ap (λ (z : ℕ). z / 524288) (g.word ∙ ap (word_for d x ws) e)
+        ∙ high_bits (suc j) (tag_at d x ws j) (omega (arith, g.few, word_passed.within))
+
+  word_ahead : ahead n (w % 524288) ≤ n - g.from
+  word_ahead = go (first_in m (bucket_of m s) g.from (drop g.from (rows_shown d x ws n))) refl
     where
-      go : (o : Option ℕ) → first_in m (bucket_of m s) i (drop i (rows_shown d x ws n)) ≡ o → w ≡ word_for d x ws o → Goes d x ws n m s i k w
-      go none e q =
-          let p : k ≡ n = r.none (ap (λ (z : ℕ). z % 524288) q) in
-          let z : first_named s k (drop k (rows_shown d x ws n)) ≡ none = ap (first_named s k) (shown_past d x ws n k (omega arith)) in
-          record {
-            following = record {
-              same = g ∙ pass_none m s i (drop i (rows_shown d x ws n)) e ∙ sym z;
-              is = λ h. absurd (omega arith);
-              falls = λ h. absurd (omega arith);
-              tag = λ h. absurd (omega arith);
-            };
-            past = omega arith;
-          }
-      go (some j) e q =
-          let z = pass d x ws n m s (n - i) i (omega arith) j e in
-          let b : w % 524288 ≡ suc j = ap (λ (y : ℕ). y % 524288) q ∙ low_bits (suc j) (tag_at d x ws j) (omega (arith, z.within)) in
-          let t : w / 524288 ≡ tag_at d x ws j = ap (λ (y : ℕ). y / 524288) q ∙ high_bits (suc j) (tag_at d x ws j) (omega (arith, z.within)) in
-          let y : suc k ≡ w % 524288 = r.some (omega arith) in
-          let p : j ≡ k = omega arith in
-          subst (λ (u : ℕ). Goes d x ws n m s i u w) p
-          record { following = record { same = g ∙ z.same; is = λ h. z.is; falls = λ h. z.falls; tag = λ h. t }; past = z.past }
+      go : (o : Option ℕ) → first_in m (bucket_of m s) g.from (drop g.from (rows_shown d x ws n)) ≡ o → ahead n (w % 524288) ≤ n - g.from
+      go none e = rw (word_none e) (omega arith)
+      go (some j) e = rw (word_some e) (let z = word_passed e in omega (arith, z.past))
 
-module _ {d x ws s hs ls : List ℕ} {n : ℕ} (ix : Indexed d x ws n hs ls) where
-  pub follow_begins : {f h k : ℕ} → HashIs s f → Spread f (length hs) h → RowOf (get_or hs h 0) n k → Following d x ws n (length hs) s k (get_or hs h 0)
-  follow_begins {f} {h} {k} a b r =
-      (goes d x ws n (length hs) s ix.few 0 (omega arith) refl
-      (ix.first h b.within
-      ∙ ap (λ (z : ℕ). word_for d x ws (first_in (length hs) z 0 (rows_shown d x ws n))) (bucket_of_lem s a.is b))
-      r
-      ).following
+  module _ {r : Maybe ℕ} (p : RowOf w r) where
+    word_ends : r ≡ None → first_named s 0 (rows_shown d x ws n) ≡ none
+    word_ends e = go (first_in m (bucket_of m s) g.from (drop g.from (rows_shown d x ws n))) refl
+      where
+        go : (o : Option ℕ) → first_in m (bucket_of m s) g.from (drop g.from (rows_shown d x ws n)) ≡ o → first_named s 0 (rows_shown d x ws n) ≡ none
+        go none f = g.same ∙ pass_none m s g.from (drop g.from (rows_shown d x ws n)) f
+        go (some j) f = absurd (omega (arith, p.none e, word_some f))
 
-  module _ {k w : ℕ} {b : Bool} (g : Following d x ws n (length hs) s k w) (l : k < n) (a : HasName d x ws k s b) (e : b ≡ false) {r : ℕ} (p : RowOf (get_or ls k 0) n r) where
-    moves : Goes d x ws n (length hs) s (suc k) r (get_or ls k 0)
-    moves =
-        goes d x ws n (length hs) s ix.few (suc k) (omega arith)
-        (g.same
-        ∙ ap (first_named s k) (shown_at_lem d x ws n k l)
-        ∙ skip (length hs) s k (shown_at d x ws k) (drop (suc k) (rows_shown d x ws n)) (sym a.is ∙ e))
-        (ix.next k (omega arith) l (g.is l)
-        ∙ ap (λ (z : ℕ). word_for d x ws (first_in (length hs) z (suc k) (drop (suc k) (rows_shown d x ws n)))) (g.falls l))
-        p
+    word_row : {k : ℕ} → r ≡ Some k → first_in m (bucket_of m s) g.from (drop g.from (rows_shown d x ws n)) ≡ some k
+    word_row {k} e = go (first_in m (bucket_of m s) g.from (drop g.from (rows_shown d x ws n))) refl
+      where
+        go : (o : Option ℕ) → first_in m (bucket_of m s) g.from (drop g.from (rows_shown d x ws n)) ≡ o → o ≡ some k
+        go none f = absurd (omega (arith, p.some k e, word_none f))
+        go (some j) f = let z : j ≡ k = omega (arith, p.some k e, word_some f) in ap some z
 
-    pub follow_more : Following d x ws n (length hs) s r (get_or ls k 0)
-    follow_more = moves.following
+pub follow_begins : {d x ws s hs ls : List ℕ} {n f h : ℕ} → Indexed d x ws n hs ls → HashIs s f → Spread f (length hs) h → Following d x ws n (length hs) s (get_or hs h 0)
+follow_begins {d} {x} {ws} {s} {hs} {n = n} {h = h} ix a b = record {
+  from = 0;
+  few = ix.few;
+  within = omega arith;
+  same = refl;
+  word = ix.first h b.within
+      ∙ ap (λ (z : ℕ). word_for d x ws (first_in (length hs) z 0 (rows_shown d x ws n))) (bucket_of_lem s a.is b);
+}
 
-    pub follow_less : n - r < n - k
-    follow_less = omega (arith, moves.past)
+module _ {d x ws s : List ℕ} {n m w : ℕ} (g : Following d x ws n m s w) {r : Maybe ℕ} (p : RowOf w r) where
+  pub follow_ends : r ≡ None → FirstNamed (rows_shown d x ws n) s n None
+  follow_ends e = record { finds = found_none (word_ends g p e) }
 
-pub follow_tagged : {d x ws s : List ℕ} {n m k w : ℕ} → Following d x ws n m s k w → k < n → Tagged d x ws k w
-follow_tagged g l = record { is = g.tag l }
+  module _ {k : ℕ} (e : r ≡ Some k) where
+    here : Passed d x ws n m s g.from k
+    here = word_passed g (word_row g p e)
 
-module _ {d x ws s : List ℕ} {n m k w : ℕ} (g : Following d x ws n m s k w) where
-  pub follow_ends : n ≤ k → FirstNamed (rows_shown d x ws n) s n n
-  follow_ends h = record {
-    finds = record {
-      some = λ l. absurd (omega arith);
-      none = λ l. g.same ∙ ap (first_named s k) (shown_past d x ws n k h);
-      within = omega arith;
-    };
-  }
+    pub follow_row : k < n
+    follow_row = here.within
 
-  pub follow_found : {b : Bool} → k < n → HasName d x ws k s b → b ≡ true → FirstNamed (rows_shown d x ws n) s n k
-  follow_found l a e = record {
-    finds = record {
-      some = λ h. g.same
-          ∙ ap (first_named s k) (shown_at_lem d x ws n k l)
-          ∙ ap (λ (z : Bool). if z (some k) (first_named s (suc k) (drop (suc k) (rows_shown d x ws n)))) (sym a.is ∙ e);
-      none = λ h. absurd (omega arith);
-      within = omega arith;
-    };
-  }
+    pub follow_tagged : Tagged d x ws k w
+    follow_tagged = record { is = word_tag g (word_row g p e) }
 
-pub ruleset follows = (follow_begins, follow_more, follow_less, follow_ends, follow_found, indexed_some, rules)
+    pub follow_place : {hs ls : List ℕ} → Indexed d x ws n hs ls → k < length ls
+    follow_place ix = omega (arith, here.within, ix.held)
+
+    module _ {b : Bool} (a : HasName d x ws k s b) where
+      pub follow_found : b ≡ true → FirstNamed (rows_shown d x ws n) s n (Some k)
+      follow_found f = record {
+        finds = found_here
+            (g.same
+            ∙ here.same
+            ∙ ap (first_named s k) (shown_at_lem d x ws n k here.within)
+            ∙ ap (λ (z : Bool). if z (some k) (first_named s (suc k) (drop (suc k) (rows_shown d x ws n)))) (sym a.is ∙ f))
+            here.within;
+      }
+
+module _ {d x ws s hs ls : List ℕ} {n w k : ℕ} {r : Maybe ℕ} {b : Bool} (ix : Indexed d x ws n hs ls) (g : Following d x ws n (length hs) s w) (p : RowOf w r) (e : r ≡ Some k) (a : HasName d x ws k s b) (f : b ≡ false) where
+  more_from : (z : Following d x ws n (length hs) s (get_or ls k 0)) × (z.from ≡ suc k)
+  more_from =
+      let h = here g p e in (
+        record {
+          from = suc k;
+          few = ix.few;
+          within = omega (arith, h.within);
+          same = g.same
+              ∙ h.same
+              ∙ ap (first_named s k) (shown_at_lem d x ws n k h.within)
+              ∙ skip (length hs) s k (shown_at d x ws k) (drop (suc k) (rows_shown d x ws n)) (sym a.is ∙ f);
+          word = ix.next k (omega arith) h.within h.is
+              ∙ ap (λ (z : ℕ). word_for d x ws (first_in (length hs) z (suc k) (drop (suc k) (rows_shown d x ws n)))) h.falls;
+        },
+        refl,
+      )
+
+  pub follow_more : Following d x ws n (length hs) s (get_or ls k 0)
+  follow_more = more_from.0
+
+  pub follow_less : ahead n (get_or ls k 0 % 524288) < ahead n (w % 524288)
+  follow_less =
+      let z = more_from in
+      let h = here g p e in
+      rw (p.some k e) (omega (arith, word_ahead z.0, z.1, h.within))
+
+-- the row that a word stands for
+pub row_is : {w q : ℕ} {r : Maybe ℕ} → SomeIff r (1 ≤ q) (q - 1) → q ≡ w % 524288 → RowOf w r
+row_is {w} {q} {r} s e = go r s
+  where
+    go : (o : Maybe ℕ) → SomeIff o (1 ≤ q) (q - 1) → RowOf w o
+    go None s = record { some = λ k h. absurd (cc); none = λ h. below q 1 (λ l. omega (arith, e)) (λ l. absurd (s l)) }
+    go (Some j) s = record { some = λ k h. let y : j ≡ k = cc in omega (arith, e, s.0, s.1); none = λ h. absurd (cc) }
+
+pub ruleset standing = (row_is, rules)
+
+pub ruleset follows = (follow_begins, follow_more, follow_less, follow_ends, follow_found, follow_row, follow_place, follow_tagged, indexed_some, row_held, rules)
 
 -- ---- making the index
 
@@ -357,9 +395,6 @@ building_begins {d} {x} {ws} {hs} {hs'} {ls} {n} z o p q =
     zero_at (suc n) (suc k) = zero_at n k
 
 module _ {d x ws hs₀ ls₀ hs ls : List ℕ} {n k : ℕ} (g : Building d x ws n k hs₀ ls₀ hs ls) where
-  pub building_index : 0 < k → IndexedFrom d x ws n (k - 1 + 1) hs ls
-  building_index p = let e : k ≡ k - 1 + 1 = omega arith in rw (sym e) g.built.indexed
-
   pub building_row : 0 < k → k - 1 < n
   building_row p = omega (arith, g.within)
 

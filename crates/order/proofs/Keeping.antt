@@ -1,30 +1,47 @@
 -- Laws of words lent for work, and of edges in them.
 -- Assumes nothing.
-use Prim.Native.Nat.{ℕ, zero, suc, ◌+◌, ◌*◌, ◌≤◌, ◌<◌}
-use mathlib.Core.Path.{◌≡◌, refl, sym, ap, ◌∙◌}
+use Prim.Native.Nat.{ℕ, zero, suc, ◌+◌, ◌*◌, ◌-◌, ◌≤◌, ◌<◌}
+use mathlib.Core.Path.{◌≡◌, refl, ap, ◌∙◌}
 use mathlib.Core.List.{List, [], ◌∷◌}
 use borrow.Author.Rules.{rules}
 use borrow.Author.Tests.{eq-eqb, ne_eqb}
 use native.Mathlib.Omega.{arith}
 use lib.Dec.{eqb}
 use Rattle.slices.specs.Bytes.{if}
-use lib.ListN.{length, get_or, set, length-set, get_or-eq_default}
+use lib.ListN.{length, get_or, set, length-set}
 use lib.Seq.{get_or-set_other}
+use Rattle.std.specs.Prelude.{Option as Maybe, None, Some, SomeIff}
 use Rattle.tables.specs.Table.{Wiped, cleared}
+use Rattle.items.specs.Words.{Word}
+use Rattle.items.proofs.Words.{word_in}
 use Rattle.order.specs.Steps.{Held}
 use Rattle.order.specs.Index.{Indexed}
-use Rattle.order.specs.Certificate.{Wide, Got, Kept, member_of, MemberOf, run_of, RunIs}
+use Rattle.order.specs.Certificate.{Wide, Got, Kept, IsParent, member_of, MemberOf, run_of, RunIs}
 use Rattle.order.proofs.Indexing.{indexed_kept}
 
 -- ---- a word
 
-pub got_here : {ws : List ℕ} {k r : ℕ} → Wide (get_or ws k 0) r → Got ws k r
-got_here w = record { is = w.is; most = w.most }
+-- ---- the row that a row is in
 
-pub got_past : {ws : List ℕ} {k : ℕ} → length ws ≤ k → Got ws k 0
-got_past {ws} {k} h = record { is = sym (get_or-eq_default ws 0 h); most = omega arith }
+pub row_held : {ws : List ℕ} {n i : ℕ} → Held ws n → i < n → i * 16 + 16 ≤ length ws
+row_held h l = omega (arith, h.held)
 
-pub ruleset gets = (got_here, got_past, rules)
+pub parent_none : {d x ws : List ℕ} {n m : ℕ} → IsParent d x ws n m None
+parent_none = record { is = λ i e. absurd (cc); within = λ i e. absurd (cc) }
+
+pub parent_some : {d x ws : List ℕ} {n m k q u : ℕ} {r : Maybe ℕ} → Word ws m 1 k → Wide k q → SomeIff r (1 ≤ q) (q - 1) → r ≡ Some u → u < n → IsParent d x ws n m (Some u)
+parent_some {d} {x} {ws} {n} {m} {k} {q} {u} {r} w v s e l = go r s e
+  where
+    go : (o : Maybe ℕ) → SomeIff o (1 ≤ q) (q - 1) → o ≡ Some u → IsParent d x ws n m (Some u)
+    go None s e = absurd (cc)
+    go (Some j) s e =
+        let z : j ≡ u = cc in
+        record {
+          is = λ i h. let y : u ≡ i = cc in omega (arith, word_in w, v.is, s.0, s.1);
+          within = λ i h. let y : u ≡ i = cc in omega arith;
+        }
+
+pub ruleset parents = (parent_none, parent_some, row_held, rules)
 
 -- ---- words that are kept
 
@@ -41,26 +58,8 @@ kept_less f h = record { long = f.long; below = λ j l. f.below j (omega arith) 
 
 pub ruleset places = (kept_less, rules)
 
-kept_both : {a b c : List ℕ} {n : ℕ} → Kept n a b → Kept n b c → Kept n a c
-kept_both f g = record { long = g.long ∙ f.long; below = λ j h. g.below j h ∙ f.below j h }
-
-pub kept_three : {a b c d : List ℕ} {n : ℕ} → Kept n a b → Kept n b c → Kept n c d → Kept n a d
-kept_three f g h = kept_both f (kept_both g h)
-
-pub ruleset links = (kept_all, kept_three, rules)
-
-pub kept_two : {a b c : List ℕ} {n : ℕ} → Kept n a b → Kept n b c → Kept n a c
-kept_two f g = kept_both f g
-
-pub row_held : {ws : List ℕ} {n i : ℕ} → Held ws n → i < n → i * 16 + 16 ≤ length ws
-row_held h l = omega (arith, h.held)
-
-pub ruleset linked = (kept_all, kept_two, row_held, rules)
-
 pub kept_indexed : {d x ws heads work work' : List ℕ} {n : ℕ} → Indexed d x ws n heads work → Kept n work work' → Indexed d x ws n heads work'
 kept_indexed l k = indexed_kept l k.long k.below
-
-pub ruleset linking = (kept_indexed, rules)
 
 cleared_length : (n : ℕ) (l : List ℕ) → length (cleared n l) ≡ length l
 cleared_length n [] = refl

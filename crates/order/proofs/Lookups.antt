@@ -6,7 +6,7 @@ use mathlib.Core.Logic.{◌↔◌}
 use mathlib.Core.List.{List, [], ◌∷◌, ◌++◌}
 use mathlib.Core.Option.{Option, none, some}
 use mathlib.Core.Bool.{Bool, true, false, not, ◌&&◌}
-use borrow.Author.Tests.{eqb-true, eqb-false, eq-eqb}
+use borrow.Author.Tests.{eqb-true, eq-eqb}
 use native.Mathlib.Omega.{arith}
 use lib.Dec.{eqb}
 use lib.ListN.{length, take, drop, length-append, take-append-drop}
@@ -14,11 +14,9 @@ use lib.Seq.{take-append_seam, drop-append_seam}
 use Rattle.slices.specs.Bytes.{if, bytes, same, empty}
 use Rattle.document.specs.Elements.{among}
 use Rattle.items.specs.Content.{Row, present}
-use Rattle.order.specs.Relation.{without, times, uses_any}
 use Rattle.order.specs.Types.{member_in, defines, name_at, first_named, is_row, counts, bears, typed, any_row, uses, defined}
 use Rattle.order.specs.Lookup.{of_array, element, listed, referred, referred_by, targets_in, targets, waits}
-use Rattle.order.proofs.Lists.{clash, refuted, or_else, first_true, second_true, among_here, among_there, among_cases, without_among, among_other}
-use Rattle.order.proofs.Taking.{uses_none, none_used}
+use Rattle.order.proofs.Lists.{clash, or_else, first_true, second_true, among_here, among_there, among_cases}
 
 -- ---- tests and texts
 
@@ -273,30 +271,3 @@ waits_none js left = (there js, back js)
     back : (js : List ℕ) → ((j : ℕ) → among j js ≡ true → among j left ≡ false) → waits js left ≡ 0
     back [] f = refl
     back (x ∷ js) f = rw (f x (among_here x js)) (back js (λ j m. f j (among_there j x js m)))
-
--- a row is ready exactly when it waits for none
-pub ready_waits : (t : List Row) (i : ℕ) (left : List ℕ) → (uses_any (uses t) i left ≡ false) ↔ (waits (targets t i) left ≡ 0)
-ready_waits t i left = (
-  (λ e. (waits_none (targets t i) left).1 (λ j m. uses_none (uses t) i left e j (uses_targets t i j ∙ m))),
-  λ e. none_used (uses t) i left (λ j u. (waits_none (targets t i) left).0 e j (sym (uses_targets t i j) ∙ u)),
-)
-
--- giving out row r takes away as many as there are targets that are row r
-pub waits_without : (r : ℕ) (js left : List ℕ) → among r left ≡ true → waits js (without r left) + times r js ≡ waits js left
-waits_without r [] left m = refl
-waits_without r (j ∷ js) left m = go (eqb r j) refl (waits_without r js left m)
-  where
-    else : (b : Bool) → waits js (without r left) + times r js ≡ waits js left → if b (suc (waits js (without r left))) (waits js (without r left)) + times r js ≡ if b (suc (waits js left)) (waits js left)
-    else true h = omega arith
-    else false h = h
-
-    go : (b : Bool) → eqb r j ≡ b → waits js (without r left) + times r js ≡ waits js left → if (among j (without r left)) (suc (waits js (without r left))) (waits js (without r left)) + if b (suc (times r js)) (times r js) ≡ if (among j left) (suc (waits js left)) (waits js left)
-    go true b h =
-        let p : r ≡ j = eqb-true r j b in
-        let l : among j left ≡ true = rw p at m in
-        let n : among j (without r left) ≡ false = refuted (among j (without r left)) (λ q. (without_among r j left q).1 (sym p)) in
-        rw (l, n) (omega arith)
-    go false b h =
-        let q : j ≡ r → ⊥ = λ p. eqb-false r j b (sym p) in
-        let n : among j (without r left) ≡ among j left = among_other r j left q in
-        rw n (else (among j left) h)

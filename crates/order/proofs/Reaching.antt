@@ -1,18 +1,18 @@
 -- Laws of the search for a circle: marks, what they say of chains, and the first row on one.
 -- Assumes nothing.
 use Prim.Native.Nat.{ℕ, zero, suc, ◌+◌, ◌≤◌, ◌<◌}
-use mathlib.Core.Path.{◌≡◌, refl, sym, ◌∙◌}
+use mathlib.Core.Path.{◌≡◌, refl, sym, subst, ◌∙◌}
 use mathlib.Core.List.{List, [], ◌∷◌, ◌++◌}
 use mathlib.Core.Option.{Option}
 use mathlib.Core.Bool.{Bool, true, false, not}
 use borrow.Author.Rules.{rules}
-use borrow.Author.Tests.{eq-eqb, ne_eqb, eqb-true, eqb-false, not-true}
+use borrow.Author.Tests.{eq-eqb, ne_eqb, eqb-true, eqb-false}
 use native.Mathlib.Numerals.{add-one}
 use native.Mathlib.Omega.{arith}
 use lib.Dec.{eqb}
 use lib.ListN.{length, get_or, set, drop, replicate, length-replicate, length-set}
 use lib.Seq.{get_or-set_same, get_or-set_other}
-use Rattle.std.specs.Prelude.{Option as Maybe, None, Some}
+use Rattle.std.specs.Prelude.{Option as Maybe, None, Some, MatchOption}
 use Rattle.slices.specs.Bytes.{if}
 use Rattle.utf8.proofs.Sequences.{below}
 use Rattle.document.specs.Elements.{among}
@@ -21,13 +21,13 @@ use Rattle.items.specs.Content.{Row}
 use Rattle.order.specs.Relation.{Chain, one, more, FirstOnCircle}
 use Rattle.order.specs.Types.{member_in, definitions, uses}
 use Rattle.order.specs.Lookup.{listed, referred_by, targets_in, targets}
-use Rattle.order.specs.Steps.{Held, shown_at, Defines, MemberIn, Finds, Target, Blank, reached, todo, Marked, Reached, MemberReached, ReachedIn, TargetsReached, NextReached, OnCircle, Searching, Clear, CircleFound}
-use Rattle.order.proofs.Lists.{clash, apart, same_some, case}
+use Rattle.order.specs.Steps.{Held, shown_at, Defines, Within, Finds, Target, Blank, reached, todo, Marked, Reached, MemberReached, ReachedIn, TargetsReached, NextReached, OnCircle, Searching, Clear, CircleFound}
+use Rattle.order.proofs.Lists.{clash, same_some, case}
 use Rattle.order.proofs.Circles.{chain_listed}
 use Rattle.order.proofs.Tables.{used_listed}
 use Rattle.order.proofs.Lookups.{among_append, uses_targets}
-use Rattle.order.proofs.Finding.{shown_at_lem, shown_past}
-use Rattle.order.proofs.Waiting.{referred_targets, defined_at, defined_below, row_held, held_few}
+use Rattle.order.proofs.Finding.{shown_at_lem, shown_past, place_within, finds_cases}
+use Rattle.order.proofs.Waiting.{referred_targets, defined_at, defined_below, target_within, row_held, held_few}
 use Rattle.order.proofs.Giving.{blank_long}
 
 -- ---- marks
@@ -78,39 +78,33 @@ marked_then {a} {b} {t} {u} {v} p q = record {
 
 -- ---- a row
 
-module _ {t : List ℕ} {n j : ℕ} where
-  pub reach_past : n ≤ j → Reached n j t t
-  reach_past h = record { some = λ l. absurd (omega arith); none = λ l. marked_none }
+module _ {t : List ℕ} {r : Maybe ℕ} where
+  pub reach_past : r ≡ None → Reached r t t
+  reach_past e = record { some = λ k q. absurd (cc); none = λ q. marked_none }
 
-  module _ (l : j < n) where
-    pub reach_new : n ≤ length t → get_or t j 0 ≡ 0 → Reached n j t (set t j 1)
-    reach_new h e = record { some = λ m. marked_one t j (omega arith) e; none = λ m. absurd (omega arith) }
+  module _ {j : ℕ} (e : r ≡ Some j) where
+    pub reach_new : Within r (length t) → get_or t j 0 ≡ 0 → Reached r t (set t j 1)
+    reach_new w z = record {
+      some = λ k q. subst (λ (i : ℕ). Marked (i ∷ []) t (set t j 1)) (let o : j ≡ k = cc in o) (marked_one t j (w.is j e) z);
+      none = λ q. absurd (cc);
+    }
 
-    pub reach_old : (get_or t j 0 ≡ 0 → ⊥) → Reached n j t t
-    reach_old f = record { some = λ m. marked_old t j f; none = λ m. absurd (omega arith) }
+    pub reach_old : (get_or t j 0 ≡ 0 → ⊥) → Reached r t t
+    reach_old f = record { some = λ k q. let o : j ≡ k = cc in rw o at (marked_old t j f); none = λ q. absurd (cc) }
 
-pub ruleset reach = (reach_past, reach_new, reach_old, rules)
+pub ruleset reach = (reach_past, reach_new, reach_old, place_within, rules)
 
 -- ---- a member
 
-found_reached : {o : Option ℕ} {n r : ℕ} {t u : List ℕ} → Finds o n r → Reached n r t u → Marked (listed o) t u
-found_reached {o} {n} {r} f p = below r n (λ l. rw (f.some l) (p.some l)) (λ l. rw (f.none l) (p.none l))
+found_reached : {o : Option ℕ} {n : ℕ} {r : Maybe ℕ} {t u : List ℕ} → Finds o n r → Reached r t u → Marked (listed o) t u
+found_reached f p = finds_cases f (λ i e q. rw q (p.some i e)) (λ e q. rw q (p.none e))
 
-pub member_reached : {d x ws : List ℕ} {n m a b : ℕ} {t u v : List ℕ} → Reached n b u v → Reached n a t u → Target d x ws n true m b → Target d x ws n false m a → MemberReached d x ws n m t v
+pub member_reached : {d x ws : List ℕ} {n m : ℕ} {a b : Maybe ℕ} {t u v : List ℕ} → Reached b u v → Reached a t u → Target d x ws n true m b → Target d x ws n false m a → MemberReached d x ws n m t v
 member_reached {d} {x} {ws} {n} {m} q p g f = record {
   is = rw (referred_targets (rows_shown d x ws n) (shown_at d x ws m).tp) (marked_then (found_reached f.finds p) (found_reached g.finds q));
 }
 
-pub ruleset reach_members = (member_reached, row_held, rules)
-
-module _ {d x ws t : List ℕ} {n i m : ℕ} {b : Bool} (a : MemberIn d x ws i m b) where
-  pub reached_member : {u : List ℕ} → b ≡ true → MemberReached d x ws n m t u → ReachedIn d x ws n i m t u
-  reached_member e p = record { is = rw (sym a.is ∙ e) p.is }
-
-  pub reached_other : b ≡ false → ReachedIn d x ws n i m t t
-  reached_other e = record { is = rw (sym a.is ∙ e) marked_none }
-
-pub ruleset reach_inside = (reached_member, reached_other, row_held, held_few, rules)
+pub ruleset reach_members = (member_reached, target_within, row_held, rules)
 
 -- ---- the targets of a row: what is left to mark makes of the marks what was asked
 
@@ -145,30 +139,6 @@ module _ {d x ws t₀ t : List ℕ} {n i k : ℕ} (g : Reaching d x ws n i t₀ 
   }
 
 pub ruleset reaching = (reaching_begins, reaching_ends, reaching_long, reaching_more, rules)
-
--- ---- the next row with mark 1
-
-pub record Scanned (t : List ℕ) (k : ℕ) : Type 0 where
-  pub none : (j : ℕ) → j < k → get_or t j 0 ≡ 1 → ⊥
-
-pub scan_begins : {t : List ℕ} → Scanned t 0
-scan_begins = record { none = λ j h. absurd (omega arith) }
-
-module _ {t : List ℕ} {k : ℕ} (g : Scanned t k) where
-  pub scan_ends : {n : ℕ} → n ≤ k → NextReached t n None
-  scan_ends h = record { some = λ i e. apart e; within = λ i e. apart e; none = λ e j l m. g.none j (omega arith) m }
-
-  pub scan_found : {n : ℕ} → k < n → get_or t k 0 ≡ 1 → NextReached t n (Some k)
-  scan_found l f = record {
-    some = λ i e. rw (same_some e) at f;
-    within = λ i e. omega (arith, same_some e);
-    none = λ e. apart (sym e);
-  }
-
-  pub scan_more : (get_or t k 0 ≡ 1 → ⊥) → Scanned t (k + 1)
-  scan_more f = record { none = λ j h. below j k (λ l. g.none j l) (λ l. let z : j ≡ k = omega arith in rw z f) }
-
-pub ruleset scans = (scan_begins, scan_ends, scan_found, scan_more, rules)
 
 -- ---- what marks say of chains
 
@@ -305,39 +275,28 @@ blank_zeros = record { long = length-replicate {A = ℕ} 262144 0; zeros = λ k.
 -- ---- the first row on a circle
 
 module _ {d x ws : List ℕ} {n p : ℕ} {b : Bool} (l : p < n) (a : Defines d x ws p b) where
-  pub circle_other : not b ≡ true → OnCircle (rows_shown d x ws n) p false
-  circle_other e = record {
+  pub circle_other : {r : Bool} → b ≡ false → r ≡ b → OnCircle (rows_shown d x ws n) p r
+  circle_other e q = record {
     is = λ f. let z : ◌≡◌ {A = ℕ} 0 1 = cc in absurd (omega arith);
-    exact = λ c. sym (not-true b e) ∙ a.is ∙ sym (defined_at d x ws n p l) ∙ chain_listed (uses (rows_shown d x ws n)) (definitions (rows_shown d x ws n)) (used_listed (rows_shown d x ws n)) c;
+    exact = λ c. q ∙ a.is ∙ sym (defined_at d x ws n p l) ∙ chain_listed (uses (rows_shown d x ws n)) (definitions (rows_shown d x ws n)) (used_listed (rows_shown d x ws n)) c;
   }
 
-pub circle_given : {t : List Row} {marks : List ℕ} {p : ℕ} → Clear t marks → (get_or marks p 0 ≡ 0 → ⊥) → OnCircle t p false
-circle_given h f = record { is = λ e. let z : ◌≡◌ {A = ℕ} 0 1 = cc in absurd (omega arith); exact = λ c. absurd (h.none _ f c) }
+pub circle_given : {t : List Row} {marks : List ℕ} {p : ℕ} {r : Bool} → Clear t marks → r ≡ eqb (get_or marks p 0) 0 → r ≡ false → OnCircle t p r
+circle_given {marks = marks} {p = p} h q f = record {
+  is = λ e. clash e f;
+  exact = λ c. absurd (h.none _ (eqb-false (get_or marks p 0) 0 (sym q ∙ f)) c);
+}
 
 pub ruleset lefts = (circle_other, circle_given, row_held, rules)
 
-pub record Uncircled (d x ws : List ℕ) (n p : ℕ) : Type 0 where
-  pub none : (j : ℕ) → j < p → Chain (uses (rows_shown d x ws n)) j j → ⊥
-
-pub uncircled_begins : {d x ws : List ℕ} {n : ℕ} → Uncircled d x ws n 0
-uncircled_begins = record { none = λ j h. absurd (omega arith) }
-
-module _ {d x ws : List ℕ} {n p : ℕ} (g : Uncircled d x ws n p) where
-  pub uncircled_ends : n ≤ p → CircleFound (rows_shown d x ws n) None
-  uncircled_ends h = record {
-    some = λ i e. apart e;
-    none = λ e i c. g.none i (omega (arith, defined_below d x ws n i (chain_listed (uses (rows_shown d x ws n)) (definitions (rows_shown d x ws n)) (used_listed (rows_shown d x ws n)) c))) c;
-  }
-
-  module _ {b : Bool} (a : OnCircle (rows_shown d x ws n) p b) where
-    pub uncircled_found : b ≡ true → CircleFound (rows_shown d x ws n) (Some p)
-    uncircled_found e =
-        let f : FirstOnCircle (uses (rows_shown d x ws n)) p = record { circle = a.is e; first = λ q c. below q p (λ o. absurd (g.none q o c)) (λ o. o) } in
-        record { some = λ i h. rw (same_some h) at f; none = λ h. apart (sym h) }
-
-    pub uncircled_more : b ≡ false → Uncircled d x ws n (p + 1)
-    uncircled_more e = record {
-      none = λ j h c. below j p (λ o. g.none j o c) (λ o. let z : j ≡ p = omega arith in clash (a.exact (rw z at c)) e);
-    }
-
-pub ruleset circles = (uncircled_begins, uncircled_ends, uncircled_found, uncircled_more, rules)
+-- the first of n rows that is on a circle, or none
+pub circle_first : (d x ws : List ℕ) (n : ℕ) (r : Maybe ℕ) → MatchOption r ((k : ℕ) → 0 ≤ k → k < n → OnCircle (rows_shown d x ws n) k false) (λ i. (0 ≤ i) × (i < n) × OnCircle (rows_shown d x ws n) i true × ((k : ℕ) → 0 ≤ k → k < i → OnCircle (rows_shown d x ws n) k false)) → CircleFound (rows_shown d x ws n) r
+circle_first d x ws n None h = record {
+  some = λ i e. absurd (cc);
+  none = λ e i c. clash
+      ((h i (omega arith) (defined_below d x ws n i (chain_listed (uses (rows_shown d x ws n)) (definitions (rows_shown d x ws n)) (used_listed (rows_shown d x ws n)) c))).exact c)
+      refl;
+}
+circle_first d x ws n (Some i) h =
+    let f : FirstOnCircle (uses (rows_shown d x ws n)) i = record { circle = h.2.is refl; first = λ q c. below q i (λ o. clash ((h.3 q (omega arith) o).exact c) refl) (λ o. o) } in
+    record { some = λ k e. rw (same_some e) at f; none = λ e. absurd (cc) }

@@ -6,13 +6,14 @@ use mathlib.Core.List.{List, [], ◌∷◌, ◌++◌}
 use mathlib.Core.Option.{Option, none, some}
 use mathlib.Core.Bool.{Bool, true, false, not}
 use borrow.Author.Rules.{rules}
-use borrow.Author.Tests.{eq-eqb, ne_eqb, not-true, not-false}
+use borrow.Author.Tests.{ne_eqb}
 use native.Mathlib.Nat.{add-zero, zero-add}
-use native.Mathlib.Numerals.{add-one}
 use native.Mathlib.Omega.{arith}
 use lib.Dec.{eqb}
 use lib.ListN.{length, drop, get_or}
-use Rattle.std.specs.Prelude.{None, Some}
+use Rattle.std.specs.Prelude.{Option as Maybe, None, Some, MatchOption}
+use Rattle.std.specs.Bool.{MatchBool}
+use Rattle.std.specs.List.{AllWithin, HoldsAt, range_with_len}
 use Rattle.slices.specs.Bytes.{if}
 use Rattle.utf8.proofs.Sequences.{below}
 use Rattle.document.specs.Elements.{among}
@@ -21,13 +22,13 @@ use Rattle.items.specs.Content.{Row}
 use Rattle.order.specs.Relation.{uses_any, ready}
 use Rattle.order.specs.Types.{member_in, defines, definitions_from, definitions, first_named, uses}
 use Rattle.order.specs.Lookup.{of_array, element, listed, referred, referred_by, targets_in, targets}
-use Rattle.order.specs.Steps.{Held, shown_at, Defines, MemberIn, Finds, target, Target, unmarked, left_in, any_among, IsLeft, MemberWaits, WaitsIn, Waits, IsReady, First, NextReady}
-use Rattle.order.proofs.Lists.{clash, apart, same_some, case, refuted, or_else, first_true, second_true, among_here, among_there, among_cases}
+use Rattle.order.specs.Steps.{Held, shown_at, Defines, Within, Finds, target, Target, unmarked, left_in, any_among, IsLeft, MemberWaits, WaitsIn, Waits, IsReady, First, NextReady}
+use Rattle.order.proofs.Lists.{clash, same_some, case, refuted, or_else, first_true, second_true, among_here, among_there, among_cases, each_below, some_below}
 use Rattle.order.proofs.Taking.{uses_none}
 use Rattle.order.proofs.Tables.{from_below, named_listed}
 use Rattle.order.proofs.Lookups.{alike, row_is, uses_targets}
 use Rattle.order.proofs.Loop.{keep_among}
-use Rattle.order.proofs.Finding.{shown_at_lem, shown_past}
+use Rattle.order.proofs.Finding.{shown_at_lem, shown_past, place_within, finds_cases}
 
 -- ---- what a tp type refers to
 
@@ -106,12 +107,11 @@ module _ (t : List Row) (marks : List ℕ) where
       go false e f = clash f refl
 
   -- of a row found
-  found_left : (less : Bool) (tp : Option (List ℕ)) (n r : ℕ) (b : Bool) → Finds (target t less tp) n r → IsLeft marks n r b → any_among (listed (target t less tp)) (left_in t marks) ≡ b
+  found_left : (less : Bool) (tp : Option (List ℕ)) (n : ℕ) (r : Maybe ℕ) (b : Bool) → Finds (target t less tp) n r → IsLeft marks r b → any_among (listed (target t less tp)) (left_in t marks) ≡ b
   found_left less tp n r b f l =
-      below r n
-      (λ h. let e = f.some h in
-      rw (e, left_among r, target_listed t less tp r e) (whole (unmarked marks r) ∙ sym (l.some h)))
-      (λ h. rw (f.none h) (sym (l.none h)))
+      finds_cases f
+      (λ i e o. rw (o, left_among i, target_listed t less tp i o) (whole (unmarked marks i) ∙ sym (l.some i e)))
+      (λ e o. rw o (sym (l.none e)))
     where
       whole : (a : Bool) → if a true false ≡ a
       whole true = refl
@@ -125,17 +125,17 @@ any_append (x ∷ a) b l = go (among x l) (any_append a b l)
     go true h = refl
     go false h = h
 
-referred_left : (t : List Row) (marks : List ℕ) (tp : Option (List ℕ)) (n r : ℕ) (b : Bool) → Finds (target t false tp) n r → IsLeft marks n r b → any_among (referred_by t tp) (left_in t marks) ≡ if b true (any_among (listed (target t true tp)) (left_in t marks))
+referred_left : (t : List Row) (marks : List ℕ) (tp : Option (List ℕ)) (n : ℕ) (r : Maybe ℕ) (b : Bool) → Finds (target t false tp) n r → IsLeft marks r b → any_among (referred_by t tp) (left_in t marks) ≡ if b true (any_among (listed (target t true tp)) (left_in t marks))
 referred_left t marks tp n r b f l =
     ap (λ (js : List ℕ). any_among js (left_in t marks)) (referred_targets t tp)
     ∙ any_append (listed (target t false tp)) (listed (target t true tp)) (left_in t marks)
     ∙ ap (λ (c : Bool). if c true (any_among (listed (target t true tp)) (left_in t marks))) (found_left t marks false tp n r b f l)
 
-module _ {d x ws marks : List ℕ} {n m r : ℕ} {b : Bool} (f : Target d x ws n false m r) (l : IsLeft marks n r b) where
+module _ {d x ws marks : List ℕ} {n m : ℕ} {r : Maybe ℕ} {b : Bool} (f : Target d x ws n false m r) (l : IsLeft marks r b) where
   pub member_whole : b ≡ true → MemberWaits d x ws n marks m true
   member_whole e = record { is = sym (referred_left (rows_shown d x ws n) marks (shown_at d x ws m).tp n r b f.finds l ∙ rw e) }
 
-  pub member_less : {s : ℕ} {c : Bool} → b ≡ false → Target d x ws n true m s → IsLeft marks n s c → MemberWaits d x ws n marks m c
+  pub member_less : {s : Maybe ℕ} {c : Bool} → b ≡ false → Target d x ws n true m s → IsLeft marks s c → MemberWaits d x ws n marks m c
   member_less {s} {c} e g k =
       let h = found_left (rows_shown d x ws n) marks true (shown_at d x ws m).tp n s c g.finds k in
       record { is = sym (referred_left (rows_shown d x ws n) marks (shown_at d x ws m).tp n r b f.finds l ∙ rw e h) }
@@ -143,34 +143,25 @@ module _ {d x ws marks : List ℕ} {n m r : ℕ} {b : Bool} (f : Target d x ws n
 pub row_held : {ws : List ℕ} {n i : ℕ} → Held ws n → i < n → i * 16 + 16 ≤ length ws
 row_held h l = omega (arith, h.held)
 
-pub left_past : {marks : List ℕ} {n i : ℕ} → n ≤ i → IsLeft marks n i false
-left_past l = record { some = λ h. absurd (omega arith); none = λ h. refl }
+module _ {marks : List ℕ} {r : Maybe ℕ} where
+  pub left_past : r ≡ None → IsLeft marks r false
+  left_past e = record { some = λ k q. absurd (cc); none = λ q. refl }
 
-pub left_here : {marks : List ℕ} {n i : ℕ} → i < n → IsLeft marks n i (eqb (get_or marks i 0) 0)
-left_here l = record { some = λ h. refl; none = λ h. absurd (omega arith) }
+  pub left_here : {i : ℕ} → r ≡ Some i → IsLeft marks r (eqb (get_or marks i 0) 0)
+  left_here {i} e = record { some = λ k q. let z : i ≡ k = cc in rw z; none = λ q. absurd (cc) }
 
-pub ruleset members = (left_past, left_here, member_whole, member_less, row_held, rules)
+pub ruleset lefts = (left_past, left_here, place_within, rules)
 
-module _ {d x ws marks : List ℕ} {n i k : ℕ} {b : Bool} (a : MemberIn d x ws i k b) where
-  pub in_member : {r : Bool} → b ≡ true → MemberWaits d x ws n marks k r → WaitsIn d x ws n marks i k r
-  in_member e w = record { is = w.is ∙ rw (sym a.is ∙ e) }
+-- a row found is one of the rows marked
+pub target_within : {d x ws : List ℕ} {n k m : ℕ} {less : Bool} {r : Maybe ℕ} → Target d x ws n less m r → n ≤ k → Within r k
+target_within f h = record { is = λ i e. omega (arith, f.finds.within.is i e) }
 
-  pub in_none : b ≡ false → WaitsIn d x ws n marks i k false
-  in_none e = record { is = rw (sym a.is ∙ e) }
+pub ruleset members = (target_within, member_whole, member_less, row_held, rules)
 
 pub held_few : {ws : List ℕ} {n i : ℕ} → Held ws n → i < n → i ≤ 262144
 held_few h l = omega (arith, h.few)
 
-pub ruleset inside = (in_member, in_none, row_held, held_few, rules)
-
 -- ---- whether a row waits
-
-pub record Waiting (d x ws : List ℕ) (n : ℕ) (marks : List ℕ) (i k : ℕ) : Type 0 where
-  pub same : any_among (targets (rows_shown d x ws n) i) (left_in (rows_shown d x ws n) marks) ≡ any_among (targets_in (rows_shown d x ws n) i (drop k (rows_shown d x ws n))) (left_in (rows_shown d x ws n) marks)
-
-pub waiting_begins : {d x ws marks : List ℕ} {n i : ℕ} → Waiting d x ws n marks i 0
-unfolding targets
-waiting_begins = record { same = refl }
 
 waiting_step : (t : List Row) (i : ℕ) (row : Row) (rest : List Row) (left : List ℕ) (b : Bool) → b ≡ if (member_in i row) (any_among (referred_by t row.tp) left) false → any_among (targets_in t i (row ∷ rest)) left ≡ if b true (any_among (targets_in t i rest) left)
 waiting_step t i row rest left b e = go (member_in i row) e
@@ -179,24 +170,32 @@ waiting_step t i row rest left b e = go (member_in i row) e
     go true e = rw e (any_append (referred_by t row.tp) (targets_in t i rest) left)
     go false e = rw e
 
-module _ {d x ws marks : List ℕ} {n i k : ℕ} (g : Waiting d x ws n marks i k) where
-  pub waiting_ends : n ≤ k → Waits d x ws n marks i false
-  waiting_ends h = record { is = sym (g.same ∙ rw (shown_past d x ws n k h)) }
+-- a row that is a member and waits, or none
+module _ (d x ws marks : List ℕ) (n i : ℕ) where
+  rest : ℕ → Bool
+  rest k = any_among (targets_in (rows_shown d x ws n) i (drop k (rows_shown d x ws n))) (left_in (rows_shown d x ws n) marks)
 
-  module _ {b : Bool} (l : k < n) (a : WaitsIn d x ws n marks i k b) where
-    step : any_among (targets (rows_shown d x ws n) i) (left_in (rows_shown d x ws n) marks) ≡ if b true (any_among (targets_in (rows_shown d x ws n) i (drop (suc k) (rows_shown d x ws n))) (left_in (rows_shown d x ws n) marks))
-    step =
-        g.same
-        ∙ ap (λ (rs : List Row). any_among (targets_in (rows_shown d x ws n) i rs) (left_in (rows_shown d x ws n) marks)) (shown_at_lem d x ws n k l)
-        ∙ waiting_step (rows_shown d x ws n) i (shown_at d x ws k) (drop (suc k) (rows_shown d x ws n)) (left_in (rows_shown d x ws n) marks) b a.is
+  waits_here : (k : ℕ) → k < n → (b : Bool) → WaitsIn d x ws n marks i k b → rest k ≡ if b true (rest (suc k))
+  unfolding rest
+  waits_here k l b a =
+      ap (λ (rs : List Row). any_among (targets_in (rows_shown d x ws n) i rs) (left_in (rows_shown d x ws n) marks)) (shown_at_lem d x ws n k l)
+      ∙ waiting_step (rows_shown d x ws n) i (shown_at d x ws k) (drop (suc k) (rows_shown d x ws n)) (left_in (rows_shown d x ws n) marks) b a.is
 
-    pub waiting_found : b ≡ true → Waits d x ws n marks i true
-    waiting_found e = record { is = sym (step ∙ rw e) }
+  waits_some : (f j k : ℕ) → f + j ≡ k → k < n → WaitsIn d x ws n marks i k true → rest j ≡ true
+  waits_some zero j k e l a = let z : k ≡ j = omega arith in waits_here j (omega arith) true (rw z at a)
+  waits_some (suc f) j k e l a =
+      let h = waits_some f (suc j) k (omega arith) l a in
+      waits_here j (omega arith) _ (record { is = refl }) ∙ second_true _ (rest (suc j)) h
 
-    pub waiting_more : b ≡ false → Waiting d x ws n marks i (k + 1)
-    waiting_more e = record { same = step ∙ rw (e, add-one) }
+  waits_none : (f j : ℕ) → f + j ≡ n → ((k : ℕ) → k < n → WaitsIn d x ws n marks i k false) → rest j ≡ false
+  unfolding rest
+  waits_none zero j e h = rw (shown_past d x ws n j (omega arith))
+  waits_none (suc f) j e h = waits_here j (omega arith) false (h j (omega arith)) ∙ waits_none f (suc j) (omega arith) h
 
-pub ruleset waiting = (waiting_begins, waiting_ends, waiting_found, waiting_more, rules)
+  pub waits_any : (r : Bool) → MatchBool r ((k : ℕ) × (k < length (range_with_len 0 n)) × HoldsAt (λ k. WaitsIn d x ws n marks i k true) (range_with_len 0 n) k) (AllWithin (λ k. WaitsIn d x ws n marks i k false) (range_with_len 0 n) 0 (length (range_with_len 0 n))) → Waits d x ws n marks i r
+  unfolding rest targets
+  waits_any true h = let z = some_below (λ k. WaitsIn d x ws n marks i k true) n h in record { is = sym (waits_some z.0 0 z.0 (omega arith) z.1 z.2) }
+  waits_any false h = record { is = sym (waits_none n 0 (omega arith) (each_below (λ k. WaitsIn d x ws n marks i k false) n h)) }
 
 -- ---- ready rows
 
@@ -233,58 +232,45 @@ left_is : (d x ws : List ℕ) (n : ℕ) (marks : List ℕ) (i : ℕ) (b : Bool) 
 left_is d x ws n marks i b l a = left_among (rows_shown d x ws n) marks i ∙ rw (defined_at d x ws n i l, ← a.is)
 
 module _ {d x ws marks : List ℕ} {n i : ℕ} {b : Bool} (l : i < n) (a : Defines d x ws i b) where
-  pub ready_other : not b ≡ true → IsReady d x ws n marks i false
-  ready_other e = record { is = rw (left_is d x ws n marks i b l a, not-true b e) }
+  pub ready_other : {r : Bool} → b ≡ false → r ≡ b → IsReady d x ws n marks i r
+  ready_other e q = record { is = q ∙ rw (left_is d x ws n marks i b l a, e) }
 
-  module _ (e : not b ≡ false) where
-    pub ready_given : (get_or marks i 0 ≡ 0 → ⊥) → IsReady d x ws n marks i false
-    ready_given f = record { is = rw (left_is d x ws n marks i b l a, not-false b e, ne_eqb (get_or marks i 0) 0 f) }
+  module _ (e : b ≡ true) where
+    pub ready_given : {r : Bool} → r ≡ eqb (get_or marks i 0) 0 → r ≡ false → IsReady d x ws n marks i r
+    ready_given q f = record { is = rw (f, left_is d x ws n marks i b l a, e, sym q ∙ f) }
 
-    pub ready_left : {w : Bool} → get_or marks i 0 ≡ 0 → Waits d x ws n marks i w → IsReady d x ws n marks i (not w)
-    ready_left f w = record {
-      is = rw (left_is d x ws n marks i b l a, not-false b e, eq-eqb (get_or marks i 0) 0 f, uses_any_lem (rows_shown d x ws n) i (left_in (rows_shown d x ws n) marks), ← w.is);
+    pub ready_left : {r w : Bool} → r ≡ eqb (get_or marks i 0) 0 → r ≡ true → Waits d x ws n marks i w → IsReady d x ws n marks i (not w)
+    ready_left q f w = record {
+      is = rw (left_is d x ws n marks i b l a, e, sym q ∙ f, uses_any_lem (rows_shown d x ws n) i (left_in (rows_shown d x ws n) marks), ← w.is);
     }
 
 pub ruleset readiness = (ready_other, ready_given, ready_left, row_held, rules)
 
 -- ---- the first ready row
 
-pub record Passed (d x ws : List ℕ) (n : ℕ) (marks : List ℕ) (k : ℕ) : Type 0 where
-  pub none : (j : ℕ) → j < k → among j (left_in (rows_shown d x ws n) marks) ≡ true → ready (uses (rows_shown d x ws n)) (left_in (rows_shown d x ws n) marks) j ≡ false
+-- no row before row k is left and ready
+passed_to : {d x ws marks : List ℕ} {n k : ℕ} → ((j : ℕ) → j < k → IsReady d x ws n marks j false) → (j : ℕ) → j < k → among j (left_in (rows_shown d x ws n) marks) ≡ true → ready (uses (rows_shown d x ws n)) (left_in (rows_shown d x ws n) marks) j ≡ false
+passed_to {d} {x} {ws} {marks} {n} f j l m = go (among j (left_in (rows_shown d x ws n) marks)) (ready (uses (rows_shown d x ws n)) (left_in (rows_shown d x ws n) marks) j) m (f j l).is
+  where
+    go : (c r : Bool) → c ≡ true → false ≡ if c r false → r ≡ false
+    go true r c f = sym f
+    go false r c f = clash c refl
 
-pub passed_begins : {d x ws marks : List ℕ} {n : ℕ} → Passed d x ws n marks 0
-passed_begins = record { none = λ j h. absurd (omega arith) }
-
-passed_here : (left : List ℕ) (p : ℕ → Bool) (k n : ℕ) → ((j : ℕ) → j < k → among j left ≡ true → p j ≡ false) → if (among k left) (p k) false ≡ true → First p left k
-passed_here left p k n g e = go (among k left) refl e
+passed_here : (left : List ℕ) (p : ℕ → Bool) (k : ℕ) → ((j : ℕ) → j < k → among j left ≡ true → p j ≡ false) → true ≡ if (among k left) (p k) false → First p left k
+passed_here left p k g e = go (among k left) refl (sym e)
   where
     go : (c : Bool) → among k left ≡ c → if c (p k) false ≡ true → First p left k
     go false c f = clash f refl
     go true c f = record { listed = c; holds = f; least = λ j m q. below j k (λ o. clash q (g j o m)) (λ o. o) }
 
-module _ {d x ws marks : List ℕ} {n k : ℕ} (g : Passed d x ws n marks k) where
-  pub passed_ends : n ≤ k → NextReady (rows_shown d x ws n) n marks None
-  passed_ends h = record {
-    some = λ i e. apart e;
-    within = λ i e. apart e;
-    none = λ e j m. g.none j (omega (arith, defined_below d x ws n j (left_listed (rows_shown d x ws n) marks j m))) m;
-  }
-
-  module _ {b : Bool} (l : k < n) (a : IsReady d x ws n marks k b) where
-    pub passed_found : b ≡ true → NextReady (rows_shown d x ws n) n marks (Some k)
-    passed_found e =
-        let f : First (ready (uses (rows_shown d x ws n)) (left_in (rows_shown d x ws n) marks)) (left_in (rows_shown d x ws n) marks) k = passed_here (left_in (rows_shown d x ws n) marks) (ready (uses (rows_shown d x ws n)) (left_in (rows_shown d x ws n) marks)) k n g.none (sym a.is ∙ e) in
-        record { some = λ i h. rw (same_some h) at f; within = λ i h. omega (arith, same_some h); none = λ h. apart (sym h) }
-
-    pub passed_more : b ≡ false → Passed d x ws n marks (k + 1)
-    passed_more e = record {
-      none = λ j h m. below j k (λ o. g.none j o m) (λ o.
-          let z : j ≡ k = omega arith in
-          rw z (go (among k (left_in (rows_shown d x ws n) marks)) (ready (uses (rows_shown d x ws n)) (left_in (rows_shown d x ws n) marks) k) (rw z at m) (sym a.is ∙ e)));
-    }
-      where
-        go : (c r : Bool) → c ≡ true → if c r false ≡ false → r ≡ false
-        go true r c f = f
-        go false r c f = clash c refl
-
-pub ruleset nexts = (passed_begins, passed_ends, passed_found, passed_more, rules)
+-- the first of n rows that is left and ready, or none
+pub ready_first : (d x ws marks : List ℕ) (n : ℕ) (r : Maybe ℕ) → MatchOption r ((k : ℕ) → 0 ≤ k → k < n → IsReady d x ws n marks k false) (λ i. (0 ≤ i) × (i < n) × IsReady d x ws n marks i true × ((k : ℕ) → 0 ≤ k → k < i → IsReady d x ws n marks k false)) → NextReady (rows_shown d x ws n) n marks r
+ready_first d x ws marks n None h = record {
+  some = λ i e. absurd (cc);
+  within = λ i e. absurd (cc);
+  none = λ e j m. passed_to (λ k l. h k (omega arith) l) j (defined_below d x ws n j (left_listed (rows_shown d x ws n) marks j m)) m;
+}
+ready_first d x ws marks n (Some i) h =
+    let f : First (ready (uses (rows_shown d x ws n)) (left_in (rows_shown d x ws n) marks)) (left_in (rows_shown d x ws n) marks) i =
+    passed_here (left_in (rows_shown d x ws n) marks) (ready (uses (rows_shown d x ws n)) (left_in (rows_shown d x ws n) marks)) i (passed_to (λ k l. h.3 k (omega arith) l)) h.2.is in
+    record { some = λ k e. rw (same_some e) at f; within = λ k e. omega (arith, same_some e, h.1); none = λ e. absurd (cc) }

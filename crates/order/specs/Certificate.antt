@@ -26,6 +26,11 @@ pub record Kept (k : ℕ) (before after : List ℕ) : Type 0 where
   pub long : length after ≡ length before
   pub below : (j : ℕ) → j < k → get_or after j 0 ≡ get_or before j 0
 
+-- r is the row that row m is in, one of n rows; or none
+pub record IsParent (d x ws : List ℕ) (n m : ℕ) (r : Option ℕ) : Type 0 where
+  pub is : (i : ℕ) → r ≡ Some i → (shown_at d x ws m).parent ≡ i + 1
+  pub within : (i : ℕ) → r ≡ Some i → i < n
+
 -- the member of an edge, and whether the edge is of what stands before `[]`
 abbrev pub member_of : ℕ → ℕ
 member_of e = (e - 1) / 2
@@ -55,10 +60,10 @@ pub record RunIs (n : ℕ) (work : List ℕ) (r s : ℕ) : Type 0 where
   pub is : s ≡ run_of n work r
   pub most : s ≤ 4294967295
 
--- edge e of row i leads to row j, or to none of n rows; if it is the one noted, and p is n, row j is given out just before row i's run or later
-pub record EdgeFalls (n : ℕ) (work : List ℕ) (p i e j : ℕ) (b : Bool) : Type 0 where
-  pub falls : b ≡ true → j < n → Falls n work p i j
-  pub noted : b ≡ true → n ≤ p → get_or work (n + n + i) 0 ≡ e → (j < n) × (run_of n work i ≤ number n work j + 1)
+-- edge e of row i leads to row j, or to none; if it is the one noted, and p is n, row j is given out just before row i's run or later
+pub record EdgeFalls (n : ℕ) (work : List ℕ) (p i e : ℕ) (j : Option ℕ) (b : Bool) : Type 0 where
+  pub falls : b ≡ true → (k : ℕ) → j ≡ Some k → Falls n work p i k
+  pub noted : b ≡ true → n ≤ p → get_or work (n + n + i) 0 ≡ e → (k : ℕ) × (j ≡ Some k) × (run_of n work i ≤ number n work k + 1)
 
 -- where all that row i uses has numbers below k, its run begins no later than there
 abbrev pub Late : List Row → ℕ → List ℕ → ℕ → Type 0
@@ -100,10 +105,10 @@ pub record Members (d x ws : List ℕ) (n : ℕ) (work : List ℕ) (p : ℕ) (r 
 
 -- ---- a circle
 
--- row r uses row j, if that is one of n rows
-pub record Follows (t : List Row) (n r j : ℕ) : Type 0 where
-  pub is : j < n → uses t r j ≡ true
-  pub within : j ≤ n
+-- row r uses row j, one of n rows; or there is none
+pub record Follows (t : List Row) (n r : ℕ) (j : Option ℕ) : Type 0 where
+  pub is : (k : ℕ) → j ≡ Some k → uses t r k ≡ true
+  pub within : (k : ℕ) → j ≡ Some k → k < n
 
 pub record IsCircle (t : List Row) (p : ℕ) (b : Bool) : Type 0 where
   pub is : b ≡ true → Chain (uses t) p p
@@ -117,6 +122,10 @@ pub record IsFirst (t : List Row) (p : ℕ) (b : Bool) : Type 0 where
 -- the rows of a run are smaller than the row at its end: for each place before k
 pub record Runs (n : ℕ) (work out : List ℕ) (k : ℕ) : Type 0 where
   pub is : (i : ℕ) → i < k → (j : ℕ) → run_of n work (get_or out i 0) ≤ j → j < i → get_or out j 0 < get_or out i 0
+
+-- from place s on to place k the rows are smaller than row r, if those of the runs before place k are
+pub record RunBefore (n : ℕ) (work out : List ℕ) (k r s : ℕ) : Type 0 where
+  pub is : Runs n work out k → (j : ℕ) → s ≤ j → j < k → get_or out j 0 < r
 
 pub record Above (out : List ℕ) (k r from : ℕ) (b : Bool) : Type 0 where
   pub is : b ≡ true → (j : ℕ) → from ≤ j → j < k → get_or out j 0 < r

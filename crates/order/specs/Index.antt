@@ -1,7 +1,7 @@
 -- An index of type definitions by a hash of their names: for each bucket a word for its first row, for each definition a word for the next
 -- row of its bucket; and what the functions that make it and look names up in it say.
 -- Assumes nothing.
-use Rattle.std.specs.Prelude.{ℕ, suc, ◌+◌, ◌*◌, ◌/◌, ◌%◌, ◌≤◌, ◌<◌, ◌≡◌, List, [], ◌∷◌, true, ◌&&◌, eqb, length, get_or, drop}
+use Rattle.std.specs.Prelude.{ℕ, suc, ◌+◌, ◌*◌, ◌/◌, ◌%◌, ◌≤◌, ◌<◌, ◌≡◌, List, [], ◌∷◌, true, ◌&&◌, eqb, length, get_or, drop, Option as Maybe, None, Some}
 use Rattle.std.proofs.Math.Option.{Option, none, some}
 use Rattle.slices.specs.Bytes.{if}
 use Rattle.slices.specs.Hash.{hash_of}
@@ -46,10 +46,10 @@ pub record Spread (f m r : ℕ) : Type 0 where
 pub record WordIs (k f r : ℕ) : Type 0 where
   pub is : r ≡ suc k + f / 524288 * 524288
 
--- r is the row that word w stands for, or n; w has the first bits of the hash of row k's name
-pub record RowOf (w n r : ℕ) : Type 0 where
-  pub some : 0 < w % 524288 → suc r ≡ w % 524288
-  pub none : w % 524288 ≡ 0 → r ≡ n
+-- r is the row that word w stands for, or none; w has the first bits of the hash of row k's name
+pub record RowOf (w : ℕ) (r : Maybe ℕ) : Type 0 where
+  pub some : (k : ℕ) → r ≡ Some k → w % 524288 ≡ suc k
+  pub none : r ≡ None → w % 524288 ≡ 0
 
 pub record Tagged (d x ws : List ℕ) (k w : ℕ) : Type 0 where
   pub is : w / 524288 ≡ tag_at d x ws k

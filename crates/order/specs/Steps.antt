@@ -1,6 +1,6 @@
 -- What the functions that look names up and give rows out say.
 -- Assumes nothing.
-use Rattle.std.specs.Prelude.{ℕ, ◌+◌, ◌*◌, ◌-◌, ◌≤◌, ◌<◌, ◌≡◌, List, [], ◌∷◌, Bool, true, false, ◌&&◌, eqb, length, get_or, set, drop, replicate, Result, Option as Maybe, Some, None}
+use Rattle.std.specs.Prelude.{ℕ, ◌+◌, ◌*◌, ◌-◌, ◌≤◌, ◌<◌, ◌≡◌, List, [], ◌∷◌, Bool, true, false, not, ◌&&◌, eqb, length, get_or, set, drop, replicate, Result, Option as Maybe, Some, None}
 use Rattle.std.proofs.Math.Option.{Option, none, some}
 use Rattle.slices.specs.Bytes.{if, same}
 use Rattle.tables.specs.Table.{Rep}
@@ -8,7 +8,7 @@ use Rattle.document.specs.Elements.{among}
 use Rattle.items.specs.Words.{row_of, viewed, rows_shown}
 use Rattle.items.specs.Content.{Row, present}
 use Rattle.order.specs.Relation.{order, ready, Chain, FirstOnCircle}
-use Rattle.order.specs.Types.{defines, definitions, first_named, member_in, uses, is_undefined, undefined}
+use Rattle.order.specs.Types.{defines, definitions, first_named, member_in, uses, typed, defined, is_undefined, undefined}
 use Rattle.order.specs.Lookup.{of_array, element, referred_by, targets}
 use Rattle.order.specs.Ordering.{types_ordered, ordering, Says}
 use Rattle.faults.specs.declared.Fault.{Fault}
@@ -33,11 +33,19 @@ pub record HasName (d x ws : List ℕ) (i : ℕ) (s : List ℕ) (r : Bool) : Typ
 pub record MemberIn (d x ws : List ℕ) (p i : ℕ) (r : Bool) : Type 0 where
   pub is : r ≡ member_in p (shown_at d x ws i)
 
--- r is the row found among n rows, or n
-pub record Finds (o : Option ℕ) (n r : ℕ) : Type 0 where
-  pub some : r < n → o ≡ some r
-  pub none : n ≤ r → o ≡ none
-  pub within : r ≤ n
+-- a row, if there is one, is one of n rows
+pub record Within (r : Maybe ℕ) (n : ℕ) : Type 0 where
+  pub is : (i : ℕ) → r ≡ Some i → i < n
+
+-- a row found, as code answers it
+abbrev pub found : Option ℕ → Maybe ℕ
+found none = None
+found (some i) = Some i
+
+-- r is the row found, which is one of n rows, or none
+pub record Finds (o : Option ℕ) (n : ℕ) (r : Maybe ℕ) : Type 0 where
+  pub is : r ≡ found o
+  pub within : Within r n
 
 -- the row that a tp type names as it is, or less the `[]` at its end
 abbrev pub inner : List Row → List ℕ → Option ℕ
@@ -62,17 +70,26 @@ pub record IsArray (s : List ℕ) (r : Bool) : Type 0 where
 pub record ElementIs (s r : List ℕ) : Type 0 where
   pub is : r ≡ element s
 
--- what looking it up among n rows finds: a name; a type less `[]`; either; the tp type of row m
-pub record FirstNamed (t : List Row) (s : List ℕ) (n r : ℕ) : Type 0 where
+-- s is what stands before the `[]` at the end of a type; it does not end so
+pub record Before (tp s : List ℕ) : Type 0 where
+  pub array : of_array tp ≡ true
+  pub is : s ≡ element tp
+
+pub record NoArray (tp : List ℕ) : Type 0 where
+  pub is : of_array tp ≡ false
+
+-- what the tp type of row m names, as it is or less the `[]` at its end, is the first row of name s; it names none: in any table
+pub record IsSought (d x ws : List ℕ) (less : Bool) (m : ℕ) (s : List ℕ) : Type 0 where
+  pub is : (t : List Row) → target t less (shown_at d x ws m).tp ≡ first_named s 0 t
+
+pub record NoneSought (d x ws : List ℕ) (less : Bool) (m : ℕ) : Type 0 where
+  pub is : (t : List Row) → target t less (shown_at d x ws m).tp ≡ none
+
+-- what looking it up among n rows finds: a name; the tp type of row m
+pub record FirstNamed (t : List Row) (s : List ℕ) (n : ℕ) (r : Maybe ℕ) : Type 0 where
   pub finds : Finds (first_named s 0 t) n r
 
-pub record FirstElement (t : List Row) (s : List ℕ) (n r : ℕ) : Type 0 where
-  pub finds : Finds (inner t s) n r
-
-pub record Named (t : List Row) (less : Bool) (s : List ℕ) (n r : ℕ) : Type 0 where
-  pub finds : Finds (named t less s) n r
-
-pub record Target (d x ws : List ℕ) (n : ℕ) (less : Bool) (m r : ℕ) : Type 0 where
+pub record Target (d x ws : List ℕ) (n : ℕ) (less : Bool) (m : ℕ) (r : Maybe ℕ) : Type 0 where
   pub finds : Finds (target (rows_shown d x ws n) less (shown_at d x ws m).tp) n r
 
 -- ---- the rows left
@@ -93,10 +110,10 @@ abbrev pub any_among : List ℕ → List ℕ → Bool
 any_among [] left = false
 any_among (j ∷ js) left = let r = any_among js left in if (among j left) true r
 
--- whether row i is left, if it is one of n rows; whether member m, row k as a member of row i, or row i waits for a row left
-pub record IsLeft (marks : List ℕ) (n i : ℕ) (r : Bool) : Type 0 where
-  pub some : i < n → r ≡ unmarked marks i
-  pub none : n ≤ i → r ≡ false
+-- whether row i, if there is one, is left; whether member m, row k as a member of row i, or row i waits for a row left
+pub record IsLeft (marks : List ℕ) (i : Maybe ℕ) (r : Bool) : Type 0 where
+  pub some : (k : ℕ) → i ≡ Some k → r ≡ unmarked marks k
+  pub none : i ≡ None → r ≡ false
 
 pub record MemberWaits (d x ws : List ℕ) (n : ℕ) (marks : List ℕ) (m : ℕ) (r : Bool) : Type 0 where
   pub is : r ≡ any_among (referred_by (rows_shown d x ws n) (shown_at d x ws m).tp) (left_in (rows_shown d x ws n) marks)
@@ -146,6 +163,10 @@ pub record GivenOut (t : List Row) (marks out : List ℕ) (c : ℕ) : Type 0 whe
 pub record Adds (c : ℕ) (b : Bool) (r : ℕ) : Type 0 where
   pub is : r ≡ c + if b 1 0
 
+-- whether row m has a tp type that bears the name of no row; whether it also is a member
+pub record BearsNone (d x ws : List ℕ) (n m : ℕ) (r : Bool) : Type 0 where
+  pub is : r ≡ typed (λ tp. not (defined (rows_shown d x ws n) tp)) (shown_at d x ws m).tp
+
 pub record IsUndefined (d x ws : List ℕ) (n m : ℕ) (r : Bool) : Type 0 where
   pub is : r ≡ is_undefined (rows_shown d x ws n) (shown_at d x ws m)
 
@@ -171,11 +192,11 @@ pub record Marked (js before after : List ℕ) : Type 0 where
   pub is : (k : ℕ) → get_or after k 0 ≡ if (among k js) (reached (get_or before k 0)) (get_or before k 0)
   pub less : todo after ≤ todo before
 
--- row j is reached, if it is one of n rows; the rows that member m refers to are; those that it refers to as a member of row i; those
+-- row j, if there is one, is reached; the rows that member m refers to are; those that it refers to as a member of row i; those
 -- that row i uses
-pub record Reached (n j : ℕ) (before after : List ℕ) : Type 0 where
-  pub some : j < n → Marked (j ∷ []) before after
-  pub none : n ≤ j → Marked [] before after
+pub record Reached (j : Maybe ℕ) (before after : List ℕ) : Type 0 where
+  pub some : (k : ℕ) → j ≡ Some k → Marked (k ∷ []) before after
+  pub none : j ≡ None → Marked [] before after
 
 pub record MemberReached (d x ws : List ℕ) (n m : ℕ) (before after : List ℕ) : Type 0 where
   pub is : Marked (referred_by (rows_shown d x ws n) (shown_at d x ws m).tp) before after

@@ -1,5 +1,6 @@
 // A candidate order of type definitions. Nothing is proved of it but that it is safe and ends: certificate.rt checks what it leaves.
-// An edge is 2 * member + which + 1; `which` is 0 for the member's tp type as it is, 1 for what stands before its `[]`; 0 is no edge.
+// An edge is 2 * member + which + 1; `which` is 0 for the member's tp type as it is, 1 for what stands before its `[]`; 0 is no edge, since a
+// word lent for work holds a number alone.
 // The words for work, by row: of a definition, work[r] is 1 once it is given out, work[n + r] the first edge that leads to it and then its
 // number, work[2n + r] the edges that it waits for and then the last of them; of a member, work[n + r] and work[2n + r] are the edges that
 // come after its own in the lists that these are in, and then work[n + r] is where the row's run begins.
@@ -62,13 +63,13 @@ fn take(ready: &mut [u64; 4161]) -> Option<usize> {
 
 // ---- edges
 
-// Adds edge e of row i to the list of row j, if it is one of n rows.
-fn link(work: &mut [u32], n: usize, i: usize, j: usize, e: usize)
+// Adds edge e of row i to the list of the row that it leads to, if there is one.
+fn link(work: &mut [u32], n: usize, i: usize, target: Option<usize>, e: usize)
     ensures { Kept n work.old work.new }
 {
-    if n <= j {
+    let Some(j) = target else {
         return;
-    }
+    };
     let head = words::get_at(work, n, Word::Second, j);
     words::put_after(work, n, e, head);
     words::put_at(work, n, Word::Second, j, e);
@@ -85,10 +86,9 @@ fn link_member(table: &Table, heads: &[u32], work: &mut [u32], m: usize)
     if items::word(table.rows, m, 0) != kinds::MEMBER {
         return;
     }
-    let i = words::parent(table, m);
-    if table.n <= i {
+    let Some(i) = words::parent(table, m) else {
         return;
-    }
+    };
     let by_name = Index {
         table: &*table,
         heads: &*heads,
@@ -115,13 +115,13 @@ fn link_all(table: &Table, heads: &[u32], work: &mut [u32])
 fn start_row(table: &Table, work: &mut [u32], ready: &mut [u64; 4161], r: usize)
     requires { r < table.now.n }
 {
-    if !definitions::is_definition(table, r) {
-        words::put(work, r, words::parent(table, r));
-        return;
-    }
-    words::put(work, r, 0);
-    if words::get_at(work, table.n, Word::Third, r) == 0 {
-        mark(ready, r);
+    if definitions::is_definition(table, r) {
+        words::put(work, r, 0);
+        if words::get_at(work, table.n, Word::Third, r) == 0 {
+            mark(ready, r);
+        }
+    } else if let Some(i) = words::parent(table, r) {
+        words::put(work, r, i);
     }
 }
 
@@ -177,6 +177,7 @@ fn give(
 
 // Gives out rows while some are ready, always the first, and says how many.
 fn give_out(table: &Table, work: &mut [u32], ready: &mut [u64; 4161], out: &mut [u32]) -> usize {
+    // The next row is what is taken, and giving it out makes more rows ready.
     for k in 0..table.n {
         match take(ready) {
             Some(r) if r < table.n => give(table, work, ready, out, k, r),
@@ -188,25 +189,6 @@ fn give_out(table: &Table, work: &mut [u32], ready: &mut [u64; 4161], out: &mut 
 
 // ---- runs of smaller rows
 
-// Where the run of rows before place k that are smaller than row r begins.
-fn run_before(work: &[u32], n: usize, out: &[u32], k: usize, r: usize) -> usize
-    requires { n ≤ 262144 }
-{
-    let mut j = k;
-    while 0 < j {
-        let x = words::get(out, j - 1);
-        if r <= x {
-            return j;
-        }
-        let next = certificate::run(work, n, x);
-        if j <= next {
-            return j;
-        }
-        j = next;
-    }
-    0
-}
-
 // Notes where the run before place k begins.
 fn note_run(work: &mut [u32], n: usize, out: &[u32], k: usize)
     requires { n ≤ 262144 }
@@ -216,7 +198,7 @@ fn note_run(work: &mut [u32], n: usize, out: &[u32], k: usize)
     if e == 0 {
         return;
     }
-    let from = run_before(work, n, out, k, r);
+    let from = certificate::run_before(work, n, out, k, r);
     words::put_at(work, n, Word::Second, words::member(e), from);
 }
 

@@ -1,11 +1,11 @@
 // A check of what candidate.rt and components.rt leave: a number for each definition, an order, or a circle. What it says is proved.
 // For n rows: work[n + r] is the number of row r. work[2n + r] is an edge of row r (candidate.rt): on a circle the one that leads on, in an
-// order the one that the row waited for last, 0 for none; then work[n + m] of that edge's member m is where the run of smaller rows begins
-// that stands before row r.
+// order the one that the row waited for last, 0 for none (a word holds a number alone); then work[n + m] of that edge's member m is where the
+// run of smaller rows begins that stands before row r.
 ghost use Rattle.std.specs.Prelude.{◌+◌, ◌*◌, ◌≤◌, ◌<◌, true, false, length};
 ghost use Rattle.order.specs.Table.{of, over, shown_rows};
-ghost use Rattle.order.specs.Steps.{Target, IsUndefined};
-ghost use Rattle.order.specs.Certificate.{EdgeFalls, RowFalls, Members, Follows, IsCircle, RunIs, Runs, Above, IsNoted, IsNext, PlacedBefore, IsAscending, IsPlaced, ArePlaced, IsOrder};
+ghost use Rattle.order.specs.Steps.{Within};
+ghost use Rattle.order.specs.Certificate.{EdgeFalls, RowFalls, Members, Follows, IsCircle, RunIs, Runs, RunBefore, Above, IsNoted, IsNext, PlacedBefore, IsAscending, IsPlaced, ArePlaced, IsOrder};
 
 use super::index::Index;
 use super::table::Table;
@@ -14,56 +14,24 @@ use document::kinds;
 
 // ---- numbers
 
-// Whether edge e of row i, which leads to row j or to n for none, leads to a smaller number, or to an equal one where i is p or greater. Where p
-// is n, the edge that is noted for row i also has to lead to a row no place before the run of row i.
-fn edge_falls(n: usize, work: &[u32], p: usize, i: usize, e: usize, j: usize) -> bool
+// Whether edge e of row i, if it leads to a row, leads to a smaller number, or to an equal one where i is p or greater. Where p is n, the edge
+// that is noted for row i also has to lead to a row no place before the run of row i.
+fn edge_falls(n: usize, work: &[u32], p: usize, i: usize, e: usize, target: Option<usize>) -> bool
     requires few { n ≤ 262144 }
     requires row { i < n }
-    requires target { j ≤ n }
-    ensures { EdgeFalls n work.now p i e j result }
+    requires target { Within target n }
+    ensures { EdgeFalls n work.now p i e target result }
 {
     let noted = words::get(work, n + n + i);
-    if n <= j {
+    let Some(j) = target else {
         return noted != e;
-    }
+    };
     let below = words::get(work, n + j);
     let own = words::get(work, n + i);
-    if own < below {
-        return false;
-    }
     if p < n {
-        if i < p {
-            return below < own;
-        }
-        return true;
+        return below < own || (p <= i && below == own);
     }
-    if noted != e {
-        return below < own;
-    }
-    if run(work, n, i) <= below + 1 {
-        return below < own;
-    }
-    false
-}
-
-// Whether row m is a member whose tp type bears the name of no row, which is told by the rows that it refers to.
-#[tactic(auto, using(crate::proofs::Checking::tellings))]
-fn told(table: &Table, m: usize, whole: usize, less: usize) -> bool
-    requires held { m * 16 + 16 ≤ length table.now.rows.now }
-    requires whole { over Target table.now false m whole }
-    requires less { over Target table.now true m less }
-    ensures { over IsUndefined table.now m result }
-{
-    if items::word(table.rows, m, 0) != kinds::MEMBER {
-        return false;
-    }
-    if items::is_absent(items::triple(table.rows, m, 8)) {
-        return false;
-    }
-    if whole < table.n {
-        return false;
-    }
-    table.n <= less
+    below < own && (noted != e || run(work, n, i) <= below + 1)
 }
 
 // If both edges of row m, if it is a member, lead so: whether its tp type bears the name of no row.
@@ -72,27 +40,19 @@ fn row_falls(by_name: &Index, p: usize, m: usize) -> Option<bool>
     requires { m < by_name.now.table.now.n }
     ensures { over RowFalls by_name.now.table.now by_name.now.work.now p m result }
 {
-    let first = m + m + 1;
-    let second = m + m + 2;
     if items::word(by_name.table.rows, m, 0) != kinds::MEMBER {
         return Some(false);
     }
-    let up = words::wide(items::word(by_name.table.rows, m, 1));
-    if up == 0 {
-        return None;
-    }
-    if by_name.table.n < up {
-        return None;
-    }
+    let i = words::parent(by_name.table, m)?;
     let whole = index::find_target(by_name, false, m);
     let less = index::find_target(by_name, true, m);
-    if !edge_falls(by_name.table.n, by_name.work, p, up - 1, first, whole) {
+    if !edge_falls(by_name.table.n, by_name.work, p, i, m + m + 1, whole) {
         return None;
     }
-    if !edge_falls(by_name.table.n, by_name.work, p, up - 1, second, less) {
+    if !edge_falls(by_name.table.n, by_name.work, p, i, m + m + 2, less) {
         return None;
     }
-    Some(told(by_name.table, m, whole, less))
+    Some(counts::bears_none(by_name.table, m, whole, less))
 }
 
 // The number of members whose tp type bears the name of no row, if the numbers are as said.
@@ -110,20 +70,18 @@ pub fn check_members(by_name: &Index, p: usize) -> Option<usize>
 
 // ---- a circle
 
-// The row to which the edge of row r leads, or n.
-fn follow(by_name: &Index, r: usize) -> usize
+// The row to which the edge of row r leads.
+fn follow(by_name: &Index, r: usize) -> Option<usize>
     requires { r < by_name.now.table.now.n }
     ensures { Follows (shown_rows by_name.now.table.now) by_name.now.table.now.n r result }
 {
     let e = words::get(by_name.work, by_name.table.n + by_name.table.n + r);
     let m = words::member(e);
-    if by_name.table.n <= m {
-        return by_name.table.n;
+    if m < by_name.table.n && definitions::is_member(by_name.table, r, m) {
+        index::find_target(by_name, words::is_less(e), m)
+    } else {
+        None
     }
-    if !definitions::is_member(by_name.table, r, m) {
-        return by_name.table.n;
-    }
-    index::find_target(by_name, words::is_less(e), m)
 }
 
 // Whether the edges lead from row p to itself.
@@ -133,12 +91,10 @@ pub fn is_circle(by_name: &Index, p: usize) -> bool
 {
     let mut r = p;
     for _ in 0..by_name.table.n {
-        r = follow(by_name, r);
-        if by_name.table.n <= r {
-            return false;
-        }
-        if r == p {
-            return true;
+        match follow(by_name, r) {
+            Some(next) if next == p => return true,
+            Some(next) => r = next,
+            None => return false,
         }
     }
     false
@@ -146,7 +102,7 @@ pub fn is_circle(by_name: &Index, p: usize) -> bool
 
 // ---- an order
 
-// Where the run of smaller rows before row r begins, as it is noted.
+// Where the run of smaller rows before row r begins, as it is noted: at the first place if no edge is.
 #[tactic(auto, using(crate::proofs::Keeping::runs))]
 pub fn run(work: &[u32], n: usize, r: usize) -> usize
     requires few { n ≤ 262144 }
@@ -160,25 +116,36 @@ pub fn run(work: &[u32], n: usize, r: usize) -> usize
     words::get(work, n + words::member(e))
 }
 
+// Where the run of rows before place k that are smaller than row r begins.
+#[tactic(auto, using(crate::proofs::Checking::rising))]
+pub fn run_before(work: &[u32], n: usize, out: &[u32], k: usize, r: usize) -> usize
+    requires { n ≤ 262144 }
+    ensures { RunBefore n work.now out.now k r result }
+{
+    let mut j = k;
+    // A cursor: the next place is where the run of the row before this one begins.
+    while 0 < j {
+        let x = words::get(out, j - 1);
+        // Two tests and not one: the run of a row that is not smaller is not read.
+        if r <= x {
+            return j;
+        }
+        let next = run(work, n, x);
+        if j <= next {
+            return j;
+        }
+        j = next;
+    }
+    0
+}
+
 // Whether the rows from a place on to place k are smaller than row r.
 fn is_above(work: &[u32], n: usize, out: &[u32], k: usize, r: usize, from: usize) -> bool
     requires few { n ≤ 262144 }
     requires runs { Runs n work.now out.now k }
     ensures { Above out.now k r from result }
 {
-    let mut j = k;
-    while from < j {
-        let x = words::get(out, j - 1);
-        if r <= x {
-            return false;
-        }
-        let next = run(work, n, x);
-        if j <= next {
-            return false;
-        }
-        j = next;
-    }
-    true
+    run_before(work, n, out, k, r) <= from
 }
 
 // Whether the edge that is noted for row r is one of its own, if its run does not begin at the first place.
@@ -186,14 +153,8 @@ fn is_noted(table: &Table, work: &[u32], r: usize, from: usize) -> bool
     requires { r < table.now.n }
     ensures { over IsNoted table.now work.now r from result }
 {
-    if from == 0 {
-        return true;
-    }
     let m = words::member(words::get(work, table.n + table.n + r));
-    if table.n <= m {
-        return false;
-    }
-    definitions::is_member(table, r, m)
+    from == 0 || (m < table.n && definitions::is_member(table, r, m))
 }
 
 // Whether the row at place k is a definition, has that number, and could not be given out before a greater one.
@@ -202,20 +163,11 @@ fn is_next(table: &Table, work: &[u32], out: &[u32], k: usize) -> bool
     ensures { over IsNext table.now work.now out.now k result }
 {
     let r = words::get(out, k);
-    if table.n <= r {
-        return false;
-    }
-    if !definitions::is_definition(table, r) {
-        return false;
-    }
-    if words::get(work, table.n + r) != k {
+    if table.n <= r || !definitions::is_definition(table, r) || words::get(work, table.n + r) != k {
         return false;
     }
     let from = run(work, table.n, r);
-    if !is_noted(table, work, r, from) {
-        return false;
-    }
-    is_above(work, table.n, out, k, r, from)
+    is_noted(table, work, r, from) && is_above(work, table.n, out, k, r, from)
 }
 
 // The same for all places.
@@ -235,35 +187,20 @@ fn is_placed(table: &Table, work: &[u32], out: &[u32], count: usize, r: usize) -
     requires { r < table.now.n }
     ensures { IsPlaced (shown_rows table.now) table.now.n work.now out.now count r result }
 {
-    if !definitions::is_definition(table, r) {
-        return true;
-    }
     let k = words::get(work, table.n + r);
-    if count <= k {
-        return false;
-    }
-    words::get(out, k) == r
+    !definitions::is_definition(table, r) || (k < count && words::get(out, k) == r)
 }
 
 // The same for all rows.
-#[tactic(auto, using(crate::proofs::Checking::placings))]
 fn are_placed(table: &Table, work: &[u32], out: &[u32], count: usize) -> bool
     ensures { ArePlaced (shown_rows table.now) table.now.n work.now out.now count result }
 {
-    for r in 0..table.n {
-        if !is_placed(table, work, out, count, r) {
-            return false;
-        }
-    }
-    true
+    (0..table.n).all(|r| is_placed(table, work, out, count, r))
 }
 
 // Whether the rows at the first places are the order.
 pub fn is_order(table: &Table, work: &[u32], out: &[u32], count: usize) -> bool
     ensures { over IsOrder table.now work.now out.now count result }
 {
-    if !are_placed(table, work, out, count) {
-        return false;
-    }
-    is_ascending(table, work, out, count)
+    are_placed(table, work, out, count) && is_ascending(table, work, out, count)
 }

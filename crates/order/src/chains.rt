@@ -1,23 +1,21 @@
 // The first row on a circle, by a search from each row: marks are 1 for a row that is reached, 2 for one whose targets are reached too.
 ghost use Rattle.std.specs.Prelude.{◌+◌, ◌*◌, ◌≤◌, ◌<◌, length};
 ghost use Rattle.order.specs.Table.{of, over, shown_rows};
-ghost use Rattle.order.specs.Steps.{Blank, Reached, MemberReached, ReachedIn, TargetsReached, NextReached, OnCircle, Clear, CircleFound};
+ghost use Rattle.order.specs.Steps.{Within, Blank, Reached, MemberReached, ReachedIn, TargetsReached, NextReached, OnCircle, Clear, CircleFound};
 
 use super::definitions;
 use super::table::Table;
 
-// Marks row j as reached, if it is one of n rows.
+// Marks a row, if there is one, as reached.
 #[tactic(auto, using(crate::proofs::Reaching::reach))]
-fn reach(marks: &mut [u8], n: usize, j: usize)
-    requires { n ≤ length marks.old }
-    ensures { Reached n j marks.old marks.new }
+fn reach(marks: &mut [u8], row: Option<usize>)
+    requires { Within row (length marks.old) }
+    ensures { Reached row marks.old marks.new }
 {
-    if n <= j {
-        return;
-    }
-    if marks[j] == 0 {
+    if let Some(j) = row
+        && marks[j] == 0
+    {
         marks[j] = 1;
-        return;
     }
 }
 
@@ -30,8 +28,8 @@ fn reach_member(table: &Table, marks: &mut [u8], m: usize)
 {
     let whole = definitions::find_target(table, false, m);
     let less = definitions::find_target(table, true, m);
-    reach(marks, table.n, whole);
-    reach(marks, table.n, less);
+    reach(marks, whole);
+    reach(marks, less);
 }
 
 // The same, if row m is a member of row i.
@@ -59,17 +57,11 @@ fn reach_targets(table: &Table, marks: &mut [u8], i: usize)
 }
 
 // The first of n rows with mark 1.
-#[tactic(auto, using(crate::proofs::Reaching::scans))]
 fn next_reached(marks: &[u8], n: usize) -> Option<usize>
     requires { n ≤ length marks.now }
     ensures { NextReached marks.now n result }
 {
-    for k in 0..n {
-        if marks[k] == 1 {
-            return Some(k);
-        }
-    }
-    None
+    (0..n).find(|&k| marks[k] == 1)
 }
 
 // Whether a chain of uses leads from row p to itself.
@@ -80,6 +72,7 @@ fn search(table: &Table, marks: &mut [u8], p: usize) -> bool
     ensures { OnCircle (shown_rows table.now) p result }
 {
     reach_targets(table, marks, p);
+    // No range: each turn marks more rows, and the next one is sought anew.
     while let Some(k) = next_reached(marks, table.n) {
         marks[k] = 2;
         reach_targets(table, marks, k);
@@ -110,26 +103,14 @@ fn is_left_on_circle(table: &Table, given: &[u8], p: usize) -> bool
     requires row { p < table.now.n }
     ensures { OnCircle (shown_rows table.now) p result }
 {
-    if !definitions::is_definition(table, p) {
-        return false;
-    }
-    if given[p] != 0 {
-        return false;
-    }
-    is_on_circle(table, p)
+    definitions::is_definition(table, p) && given[p] == 0 && is_on_circle(table, p)
 }
 
 // The first row on a circle.
-#[tactic(auto, using(crate::proofs::Reaching::circles))]
 pub fn first_on_circle(table: &Table, given: &[u8]) -> Option<usize>
     requires marked { table.now.n ≤ length given.now }
     requires clear { Clear (shown_rows table.now) given.now }
     ensures { CircleFound (shown_rows table.now) result }
 {
-    for p in 0..table.n {
-        if is_left_on_circle(table, given, p) {
-            return Some(p);
-        }
-    }
-    None
+    (0..table.n).find(|&p| is_left_on_circle(table, given, p))
 }

@@ -3,7 +3,7 @@
 // Rows that use each other get one number, and a row's number is greater than those of the other rows that it uses: strongly connected
 // components by Pearce's form of Tarjan's algorithm, over the lists of edges that lead to a row. work[r] is the row's index, and then its
 // component's number; work[2n + r] is twice the edge by which the search came to the row, and one more where the row leads back; and then the
-// next row of the stack. work[m] of that edge's member m is the row that it leads to.
+// next row of the stack plus one, 0 for none (a word holds a number alone). work[m] of that edge's member m is the row that it leads to.
 ghost use Rattle.std.specs.Prelude.{◌≡◌, ◌+◌, ◌*◌, ◌≤◌, ◌<◌, length};
 
 use super::table::Table;
@@ -49,11 +49,12 @@ fn lead(work: &mut [u32], n: usize, r: usize, u: usize) {
 // Looks at an edge.
 fn look(table: &Table, work: &mut [u32], w: Walk) -> Walk {
     let e = w.edge;
-    let u = words::parent(table, words::member(e));
-    if words::get(work, u) == 0 {
-        return enter(work, table.n, w, u, e);
+    if let Some(u) = words::parent(table, words::member(e)) {
+        if words::get(work, u) == 0 {
+            return enter(work, table.n, w, u, e);
+        }
+        lead(work, table.n, w.row, u);
     }
-    lead(work, table.n, w.row, u);
     Walk {
         edge: words::after(work, table.n, e),
         ..w
@@ -166,29 +167,31 @@ fn is_used(table: &Table, work: &[u32], r: usize) -> bool {
         if e == 0 {
             return false;
         }
-        if words::get(work, words::parent(table, words::member(e))) == own {
-            return true;
+        match words::parent(table, words::member(e)) {
+            Some(u) if words::get(work, u) == own => return true,
+            _ => e = words::after(work, table.n, e),
         }
-        e = words::after(work, table.n, e);
     }
     false
+}
+
+// Whether row r is a definition that was not given out.
+fn is_left(table: &Table, work: &[u32], r: usize) -> bool
+    requires { r < table.now.n }
+{
+    definitions::is_definition(table, r) && words::get(work, r) != 1
 }
 
 // Whether row r is on a circle.
 fn is_on_circle(table: &Table, work: &[u32], r: usize) -> bool
     requires { r < table.now.n }
 {
-    definitions::is_definition(table, r) && words::get(work, r) != 1 && is_used(table, work, r)
+    is_left(table, work, r) && is_used(table, work, r)
 }
 
 // The first such row.
 fn first_on_circle(table: &Table, work: &[u32]) -> Option<usize> {
-    for r in 0..table.n {
-        if is_on_circle(table, work, r) {
-            return Some(r);
-        }
-    }
-    None
+    (0..table.n).find(|&r| is_on_circle(table, work, r))
 }
 
 // ---- a circle through it
@@ -211,8 +214,9 @@ fn reach_all(table: &Table, work: &mut [u32], own: usize, x: usize, stack: usize
         if e == 0 {
             return top;
         }
-        let u = words::parent(table, words::member(e));
-        top = reach(work, table.n, own, u, e, top);
+        if let Some(u) = words::parent(table, words::member(e)) {
+            top = reach(work, table.n, own, u, e, top);
+        }
         e = words::after(work, table.n, e);
     }
     top
@@ -243,47 +247,34 @@ fn note_circle(table: &Table, work: &mut [u32], p: usize) {
 
 // ---- what is left for the check
 
-// No edge of row r is noted, if it was not given out.
-fn forget(table: &Table, work: &mut [u32], r: usize)
-    requires { r < table.now.n }
+// Calls f for each definition that was not given out.
+fn for_each_left<F: Fn(&mut [u32], usize)>(table: &Table, work: &mut [u32], f: F)
+    requires { F.IsAlwaysCallable f }
 {
-    if definitions::is_definition(table, r) && words::get(work, r) != 1 {
-        words::put_at(work, table.n, Word::Third, r, 0);
-    }
-}
-
-fn forget_all(table: &Table, work: &mut [u32]) {
     for r in 0..table.n {
-        forget(table, work, r);
-    }
-}
-
-// The number of row r, if it was not given out, where the check looks for it.
-fn settle(table: &Table, work: &mut [u32], r: usize)
-    requires { r < table.now.n }
-{
-    if definitions::is_definition(table, r) {
-        let number = words::get(work, r);
-        if number != 1 {
-            words::put_at(work, table.n, Word::Second, r, number);
+        if is_left(table, work, r) {
+            f(work, r);
         }
     }
 }
 
-fn settle_all(table: &Table, work: &mut [u32]) {
-    for r in 0..table.n {
-        settle(table, work, r);
-    }
-}
-
-// Numbers the rows that are not given out, notes a circle through the first row on one, and says which that is.
+// Numbers the rows that are not given out, notes a circle through the first row on one, and says which that is. No edge is noted for a row
+// on none, and each row's number stands where the check looks for it.
 pub fn number(table: &Table, work: &mut [u32]) -> Option<usize> {
     search_all(table, work);
     let circled = first_on_circle(table, work);
-    forget_all(table, work);
+    let n = table.n;
+    for_each_left(
+        table,
+        work,
+        |work, r| words::put_at(work, n, Word::Third, r, 0),
+    );
     if let Some(p) = circled {
         note_circle(table, work, p);
     }
-    settle_all(table, work);
+    for_each_left(table, work, |work, r| {
+        let own = words::get(work, r);
+        words::put_at(work, n, Word::Second, r, own);
+    });
     circled
 }

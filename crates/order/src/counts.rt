@@ -1,7 +1,7 @@
 // How many type definitions there are, and how many members bear names of no row.
-ghost use Rattle.std.specs.Prelude.{◌*◌, ◌+◌, ◌≤◌, ◌<◌, length};
+ghost use Rattle.std.specs.Prelude.{◌*◌, ◌+◌, ◌≤◌, ◌<◌, true, false, length};
 ghost use Rattle.order.specs.Table.{of, over, shown_rows};
-ghost use Rattle.order.specs.Steps.{IsUndefined, Adds, CountsUndefined, CountsDefinitions};
+ghost use Rattle.order.specs.Steps.{Target, BearsNone, IsUndefined, Adds, CountsUndefined, CountsDefinitions};
 
 use super::definitions;
 use super::table::Table;
@@ -30,6 +30,17 @@ pub fn count_definitions(table: &Table) -> usize
     count
 }
 
+// Whether row m has a tp type that bears the name of no row, as the rows tell that it names.
+#[tactic(auto, using(crate::proofs::Counting::bearing))]
+pub fn bears_none(table: &Table, m: usize, whole: Option<usize>, less: Option<usize>) -> bool
+    requires held { m * 16 + 16 ≤ length table.now.rows.now }
+    requires whole { over Target table.now false m whole }
+    requires less { over Target table.now true m less }
+    ensures { over BearsNone table.now m result }
+{
+    !items::is_absent(items::triple(table.rows, m, 8)) && whole.is_none() && less.is_none()
+}
+
 // Whether row m is a member with a tp type that bears the name of no row.
 #[tactic(auto, using(crate::proofs::Counting::undefineds))]
 fn is_undefined(table: &Table, m: usize) -> bool
@@ -39,14 +50,9 @@ fn is_undefined(table: &Table, m: usize) -> bool
     if items::word(table.rows, m, 0) != kinds::MEMBER {
         return false;
     }
-    let tp = items::triple(table.rows, m, 8);
-    if items::is_absent(tp) {
-        return false;
-    }
-    if definitions::find_target(table, false, m) < table.n {
-        return false;
-    }
-    table.n <= definitions::find_target(table, true, m)
+    let whole = definitions::find_target(table, false, m);
+    let less = definitions::find_target(table, true, m);
+    bears_none(table, m, whole, less)
 }
 
 // The number of such members.

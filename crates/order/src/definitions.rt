@@ -1,7 +1,7 @@
 // Type definitions and members of a table, and looking names up.
-ghost use Rattle.std.specs.Prelude.{◌+◌, ◌*◌, ◌≤◌, length};
+ghost use Rattle.std.specs.Prelude.{◌+◌, ◌*◌, ◌≤◌, length, IfSome, IfNone};
 ghost use Rattle.order.specs.Table.{of, over, shown_rows};
-ghost use Rattle.order.specs.Steps.{Defines, HasName, MemberIn, LastTwo, IsArray, ElementIs, FirstNamed, FirstElement, Named, Target};
+ghost use Rattle.order.specs.Steps.{Defines, HasName, MemberIn, FirstNamed, LastTwo, IsArray, ElementIs, Before, NoArray, IsSought, NoneSought, Target};
 
 use super::table::Table;
 use document::kinds;
@@ -22,30 +22,22 @@ pub fn has_name(table: &Table, i: usize, name: &[u8]) -> bool
     requires { i * 16 + 16 ≤ length table.now.rows.now }
     ensures { of HasName table.now i name.now result }
 {
-    if !is_definition(table, i) {
-        return false;
-    }
-    slices::equal(
-        name,
-        tables::lookup(table.document, table.text, items::triple(table.rows, i, 2)),
-    )
+    is_definition(table, i)
+        && slices::equal(
+            name,
+            tables::lookup(table.document, table.text, items::triple(table.rows, i, 2)),
+        )
 }
 
-// The first of n rows that is a type definition of a name, or n.
-#[tactic(auto, using(crate::proofs::Finding::seeks))]
-fn first_named(table: &Table, name: &[u8]) -> usize
+// The first row that is a type definition of a name.
+fn first_named(table: &Table, name: &[u8]) -> Option<usize>
     ensures { FirstNamed (shown_rows table.now) name.now table.now.n result }
 {
-    for k in 0..table.n {
-        if has_name(table, k, name) {
-            return k;
-        }
-    }
-    table.n
+    (0..table.n).find(|&k| has_name(table, k, name))
 }
 
 // Where the last two bytes of a type begin.
-pub fn last_two(tp: &[u8]) -> usize
+fn last_two(tp: &[u8]) -> usize
     ensures { LastTwo tp.now result }
 {
     if tp.len() < 2 {
@@ -56,7 +48,7 @@ pub fn last_two(tp: &[u8]) -> usize
 
 // Whether a type ends in `[]`.
 #[tactic(auto, using(crate::proofs::Finding::parts))]
-pub fn is_array(tp: &[u8], end: usize) -> bool
+fn is_array(tp: &[u8], end: usize) -> bool
     requires { LastTwo tp.now end }
     ensures { IsArray tp.now result }
 {
@@ -64,45 +56,55 @@ pub fn is_array(tp: &[u8], end: usize) -> bool
 }
 
 // What stands before that.
-pub fn element<'a>(tp: &'a [u8], end: usize) -> &'a [u8]
+fn element<'a>(tp: &'a [u8], end: usize) -> &'a [u8]
     requires { LastTwo tp.now end }
     ensures { ElementIs tp.now result.now }
 {
     &tp[..end]
 }
 
-// The same row for what stands before the `[]` at the end of a type.
-fn first_element(table: &Table, tp: &[u8]) -> usize
-    ensures { FirstElement (shown_rows table.now) tp.now table.now.n result }
+// What stands before the `[]` at the end of a type that ends so.
+fn before_brackets<'a>(tp: &'a [u8]) -> Option<&'a [u8]>
+    ensures some { IfSome result (λ s. Before tp.now s.now) }
+    ensures none { IfNone result (NoArray tp.now) }
 {
     let end = last_two(tp);
     if is_array(tp, end) {
-        return first_named(table, element(tp, end));
+        Some(element(tp, end))
+    } else {
+        None
     }
-    table.n
 }
 
-// The row that a type names as it is, or less the `[]` at its end.
-fn find(table: &Table, less: bool, tp: &[u8]) -> usize
-    ensures { Named (shown_rows table.now) less tp.now table.now.n result }
-{
-    if less {
-        return first_element(table, tp);
-    }
-    first_named(table, tp)
-}
-
-// The same for the tp type of row m, if it has one.
+// The name that the tp type of row m is looked up by, as it is or less the `[]` at its end.
+// Inlined, as the two lookups by it are, since a name is sought twice for each member.
+#[inline(always)]
 #[tactic(auto, using(crate::proofs::Finding::tps))]
-pub fn find_target(table: &Table, less: bool, m: usize) -> usize
+pub fn name_sought<'a>(table: &Table<'a>, less: bool, m: usize) -> Option<&'a [u8]>
     requires { m * 16 + 16 ≤ length table.now.rows.now }
-    ensures { over Target table.now less m result }
+    ensures some { IfSome result (λ s. of IsSought table.now less m s.now) }
+    ensures none { IfNone result (of NoneSought table.now less m) }
 {
     let tp = items::triple(table.rows, m, 8);
     if items::is_absent(tp) {
-        return table.n;
+        return None;
     }
-    find(table, less, tables::lookup(table.document, table.text, tp))
+    let name = tables::lookup(table.document, table.text, tp);
+    if less {
+        before_brackets(name)
+    } else {
+        Some(name)
+    }
+}
+
+// The row that the tp type of row m names, as it is or less the `[]` at its end.
+#[tactic(auto, using(crate::proofs::Finding::targets))]
+pub fn find_target(table: &Table, less: bool, m: usize) -> Option<usize>
+    requires { m * 16 + 16 ≤ length table.now.rows.now }
+    ensures { over Target table.now less m result }
+{
+    let name = name_sought(table, less, m)?;
+    first_named(table, name)
 }
 
 // Whether row m is a member of the definition in row i.
@@ -111,8 +113,6 @@ pub fn is_member(table: &Table, i: usize, m: usize) -> bool
     requires held { m * 16 + 16 ≤ length table.now.rows.now }
     ensures { of MemberIn table.now i m result }
 {
-    if items::word(table.rows, m, 0) != kinds::MEMBER {
-        return false;
-    }
-    items::word(table.rows, m, 1) as usize == i + 1
+    items::word(table.rows, m, 0) == kinds::MEMBER
+        && items::word(table.rows, m, 1) as usize == i + 1
 }

@@ -1,10 +1,11 @@
 // An index of type definitions by a hash of their names, and looking names up in it. A word for each bucket stands for its first row, a word
 // for each definition for the next row of its bucket: the row plus one in the low 19 bits, the first 13 bits of its name's hash in the others;
-// 0 for none. Each chain of rows ascends. The bits of the hash spare most looks at rows of other names.
+// 0 for none, since a word lent for work holds a number alone. Each chain of rows ascends. The bits of the hash spare most looks at rows of
+// other names.
 ghost use Rattle.std.specs.Prelude.{◌+◌, ◌*◌, ◌≤◌, ◌<◌, ◌≡◌, length};
 ghost use Rattle.slices.specs.Hash.{HashIs};
 ghost use Rattle.order.specs.Table.{of, over, shown_rows};
-ghost use Rattle.order.specs.Steps.{HasName, FirstNamed, FirstElement, Named, Target};
+ghost use Rattle.order.specs.Steps.{HasName, FirstNamed, Target};
 ghost use Rattle.order.specs.Index.{HashAt, Spread, WordIs, RowOf, Tagged, IndexedFrom, Indexed, Built};
 
 use super::definitions;
@@ -67,22 +68,17 @@ pub fn build(table: &Table, heads: &mut [u32], work: &mut [u32])
     ensures { over Built table.now 0 heads.old work.old heads.new work.new }
 {
     tables::clear_words(heads, 0);
-    let mut k = table.n;
-    while 0 < k {
-        k -= 1;
+    for k in (0..table.n).rev() {
         enter(table, heads, work, k);
     }
 }
 
-// The row that a word stands for, or n.
-fn row_of(word: u32, n: usize) -> usize
-    ensures { RowOf word n result }
+// The row that a word stands for.
+#[tactic(auto, using(crate::proofs::Indexing::standing))]
+fn row_of(word: u32) -> Option<usize>
+    ensures { RowOf word result }
 {
-    let row = word as usize % 524288;
-    if row == 0 {
-        return n;
-    }
-    row - 1
+    (word as usize % 524288).checked_sub(1)
 }
 
 // Whether row k is a type definition of a name, of hash f: the word for the row tells most others.
@@ -99,59 +95,33 @@ fn is_named(table: &Table, k: usize, word: u32, f: u32, name: &[u8]) -> bool
     definitions::has_name(table, k, name)
 }
 
-// The first of n rows that is a type definition of a name, or n: along the rows of the name's bucket.
+// The first row that is a type definition of a name: along the rows of the name's bucket.
+#[inline(always)]
 #[tactic(auto, using(crate::proofs::Indexing::follows))]
-fn first_named(by_name: &Index, name: &[u8]) -> usize
+fn first_named(by_name: &Index, name: &[u8]) -> Option<usize>
     ensures { FirstNamed (shown_rows by_name.now.table.now) name.now by_name.now.table.now.n result }
 {
     let f = slices::hash(name);
     let h = bucket(f, by_name.heads.len());
     let mut word = by_name.heads[h];
-    let mut k = row_of(word, by_name.table.n);
-    while k < by_name.table.n {
+    // A cursor: the next row is the one that the word of this one stands for.
+    while let Some(k) = row_of(word) {
         if is_named(by_name.table, k, word, f, name) {
-            return k;
+            return Some(k);
         }
         word = by_name.work[k];
-        k = row_of(word, by_name.table.n);
     }
-    by_name.table.n
+    None
 }
 
-// The same row for what stands before the `[]` at the end of a type.
-fn first_element(by_name: &Index, tp: &[u8]) -> usize
-    ensures { FirstElement (shown_rows by_name.now.table.now) tp.now by_name.now.table.now.n result }
-{
-    let end = definitions::last_two(tp);
-    if definitions::is_array(tp, end) {
-        return first_named(by_name, definitions::element(tp, end));
-    }
-    by_name.table.n
-}
-
-// The row that a type names as it is, or less the `[]` at its end.
-fn find(by_name: &Index, less: bool, tp: &[u8]) -> usize
-    ensures { Named (shown_rows by_name.now.table.now) less tp.now by_name.now.table.now.n result }
-{
-    if less {
-        return first_element(by_name, tp);
-    }
-    first_named(by_name, tp)
-}
-
-// The same for the tp type of row m, if it has one.
-#[tactic(auto, using(crate::proofs::Finding::tps))]
-pub fn find_target(by_name: &Index, less: bool, m: usize) -> usize
+// The row that the tp type of row m names, as it is or less the `[]` at its end.
+// Beside definitions' `find_target` it shares `name_sought`; a trait over the two searches would be longer than the two lines here.
+#[inline(always)]
+#[tactic(auto, using(crate::proofs::Finding::targets))]
+pub fn find_target(by_name: &Index, less: bool, m: usize) -> Option<usize>
     requires { m * 16 + 16 ≤ length by_name.now.table.now.rows.now }
     ensures { over Target by_name.now.table.now less m result }
 {
-    let tp = items::triple(by_name.table.rows, m, 8);
-    if items::is_absent(tp) {
-        return by_name.table.n;
-    }
-    find(
-        by_name,
-        less,
-        tables::lookup(by_name.table.document, by_name.table.text, tp),
-    )
+    let name = definitions::name_sought(by_name.table, less, m)?;
+    first_named(by_name, name)
 }

@@ -2,20 +2,21 @@
 ghost use Rattle.std.specs.Prelude.{◌+◌, ◌*◌, ◌≤◌, ◌<◌, [], ◌∷◌, length};
 ghost use Rattle.tables.specs.Table.{Put};
 ghost use Rattle.order.specs.Table.{of, over, shown_rows};
-ghost use Rattle.order.specs.Steps.{IsLeft, MemberWaits, WaitsIn, Waits, IsReady, NextReady, Blank, Marks, GivenOut};
+ghost use Rattle.order.specs.Steps.{Within, IsLeft, MemberWaits, WaitsIn, Waits, IsReady, NextReady, Blank, Marks, GivenOut};
 
 use super::definitions;
 use super::table::Table;
 
-// Whether row i is not given out, if it is one of n rows.
-fn is_left(given: &[u8], n: usize, i: usize) -> bool
-    requires { n ≤ length given.now }
-    ensures { IsLeft given.now n i result }
+// Whether there is a row, and it is not given out.
+#[tactic(auto, using(crate::proofs::Waiting::lefts))]
+fn is_left(given: &[u8], row: Option<usize>) -> bool
+    requires { Within row (length given.now) }
+    ensures { IsLeft given.now row result }
 {
-    if n <= i {
-        return false;
+    match row {
+        Some(i) => given[i] == 0,
+        None => false,
     }
-    given[i] == 0
 }
 
 // Whether member m refers to a row that is not given out.
@@ -25,12 +26,8 @@ fn member_waits(table: &Table, given: &[u8], m: usize) -> bool
     requires member { m < table.now.n }
     ensures { over MemberWaits table.now given.now m result }
 {
-    let whole = definitions::find_target(table, false, m);
-    if is_left(given, table.n, whole) {
-        return true;
-    }
-    let less = definitions::find_target(table, true, m);
-    is_left(given, table.n, less)
+    is_left(given, definitions::find_target(table, false, m))
+        || is_left(given, definitions::find_target(table, true, m))
 }
 
 // Whether row k is a member of row i and refers to such a row.
@@ -40,25 +37,16 @@ fn waits_in(table: &Table, given: &[u8], i: usize, k: usize) -> bool
     requires member { k < table.now.n }
     ensures { over WaitsIn table.now given.now i k result }
 {
-    if definitions::is_member(table, i, k) {
-        return member_waits(table, given, k);
-    }
-    false
+    definitions::is_member(table, i, k) && member_waits(table, given, k)
 }
 
 // Whether row i uses a row that is not given out.
-#[tactic(auto, using(crate::proofs::Waiting::waiting))]
 fn waits(table: &Table, given: &[u8], i: usize) -> bool
     requires marked { table.now.n ≤ length given.now }
     requires row { i < table.now.n }
     ensures { over Waits table.now given.now i result }
 {
-    for k in 0..table.n {
-        if waits_in(table, given, i, k) {
-            return true;
-        }
-    }
-    false
+    (0..table.n).any(|k| waits_in(table, given, i, k))
 }
 
 // Whether row i is a definition that is not given out and is ready.
@@ -68,27 +56,16 @@ fn is_ready(table: &Table, given: &[u8], i: usize) -> bool
     requires row { i < table.now.n }
     ensures { over IsReady table.now given.now i result }
 {
-    if !definitions::is_definition(table, i) {
-        return false;
-    }
-    if given[i] != 0 {
-        return false;
-    }
-    !waits(table, given, i)
+    let unmarked = given[i] == 0;
+    definitions::is_definition(table, i) && unmarked && !waits(table, given, i)
 }
 
 // The first such row.
-#[tactic(auto, using(crate::proofs::Waiting::nexts))]
 fn next_ready(table: &Table, given: &[u8]) -> Option<usize>
     requires { table.now.n ≤ length given.now }
     ensures { NextReady (shown_rows table.now) table.now.n given.now result }
 {
-    for k in 0..table.n {
-        if is_ready(table, given, k) {
-            return Some(k);
-        }
-    }
-    None
+    (0..table.n).find(|&k| is_ready(table, given, k))
 }
 
 // Adds a row's number where there is room, and counts it in any case.
@@ -119,6 +96,7 @@ pub fn give_out(table: &Table, given: &mut [u8], out: &mut [u32]) -> usize
     ensures { GivenOut (shown_rows table.now) given.new out.new result }
 {
     let mut count = 0;
+    // No range: each turn makes more rows ready, and the first one is sought anew.
     while let Some(row) = next_ready(table, given) {
         count = put_row(out, count, row);
         mark(given, row);

@@ -1,6 +1,7 @@
 // Words lent for work, read and written with no demand on places, and edges in them (candidate.rt says what an edge is).
 ghost use Rattle.std.specs.Prelude.{◌≡◌, ◌≤◌, ◌<◌, length};
-ghost use Rattle.order.specs.Certificate.{Wide, Got, Kept, MemberOf, LessOf};
+ghost use Rattle.order.specs.Table.{over};
+ghost use Rattle.order.specs.Certificate.{Wide, Got, Kept, IsParent, MemberOf, LessOf};
 
 use super::table::Table;
 
@@ -11,7 +12,7 @@ pub fn wide(x: u32) -> usize
     x as usize
 }
 
-// One more, if that is a word.
+// One more if that is a word, else 0.
 pub fn more(x: usize) -> usize
     ensures { result ≤ 4294967295 }
 {
@@ -21,7 +22,7 @@ pub fn more(x: usize) -> usize
     0
 }
 
-// Twice as much, if that is a word.
+// Twice as much if that is a word, else 0.
 pub fn double(x: usize) -> usize
     ensures { result ≤ 4294967295 }
 {
@@ -31,7 +32,7 @@ pub fn double(x: usize) -> usize
     0
 }
 
-// Word k, or 0 past the end.
+// Word k, or 0 past the end: no Option, since `get_or`, which the laws are over, answers so.
 pub fn get(work: &[u32], k: usize) -> usize
     ensures { Got work.now k result }
 {
@@ -84,18 +85,16 @@ pub fn put_at(work: &mut [u32], n: usize, word: Word, r: usize, v: usize)
     put(work, place(n, word, r), v);
 }
 
-// The row that row m is in, or n.
-pub fn parent(table: &Table, m: usize) -> usize
-    ensures { result ≤ table.now.n }
+// The row that row m is in.
+#[tactic(auto, using(crate::proofs::Keeping::parents))]
+pub fn parent(table: &Table, m: usize) -> Option<usize>
+    ensures { over IsParent table.now m result }
 {
     if table.n <= m {
-        return table.n;
+        return None;
     }
-    let up = wide(items::word(table.rows, m, 1));
-    if up == 0 || table.n < up {
-        return table.n;
-    }
-    up - 1
+    let up = wide(items::word(table.rows, m, 1)).checked_sub(1)?;
+    if up < table.n { Some(up) } else { None }
 }
 
 // The member of an edge.

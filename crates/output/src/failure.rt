@@ -1,4 +1,5 @@
 // What a program could not do, told on standard error.
+use crate::input::Stopped;
 use std::io::{Error, Write};
 
 // What failed, and why.
@@ -6,6 +7,12 @@ use std::io::{Error, Write};
 pub enum Failure {
     Reading(Error),
     Writing(Error),
+}
+
+impl From<Stopped> for Failure {
+    fn from(stopped: Stopped) -> Failure {
+        Failure::Reading(stopped.why)
+    }
 }
 
 impl Failure {

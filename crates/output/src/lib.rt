@@ -8,7 +8,8 @@ use std::io::{Result, Write};
 pub mod failure;
 pub mod input;
 
-// An array of one item over and over. A proof about a caller then has its length, and does not look at the items one by one.
+// An array of one item over and over. The clause tells the length and not the items: by those the proof about a program with a large array
+// comes to look at each, and runs out of the checker's stack.
 pub fn filled<T: Copy, const N: usize>(item: T) -> [T; N]
     ensures { N ≡ length result }
 {

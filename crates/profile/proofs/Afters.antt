@@ -21,15 +21,6 @@ use Rattle.faults.specs.declared.Fault.{Fault}
 use Rattle.profile.specs.Profile.{comment_fault}
 use Rattle.profile.specs.After.{space, space_first, instruction, comment, misc, further, after_from, after_fault, Tells}
 
--- [3]
-pub space-one : (b k : ℕ) → b ≡ k → space k ≡ true → true ≡ space b
-space-one b k e t = rw e (sym t)
-
-pub space_last : (b : ℕ) → (b ≡ 0x20 → ⊥) → (b ≡ 0x9 → ⊥) → (b ≡ 0xd → ⊥) → eqb b 0xa ≡ space b
-space_last b i j k = rw (ne_eqb b 0x20 i, ne_eqb b 0x9 j, ne_eqb b 0xd k)
-
-pub ruleset spaces = (space-one, space_last, rules)
-
 -- a key that is found has room before the end
 seek_far : (n : ℕ) (key : List ℕ) (c : ℕ) (l : List ℕ) (p q : ℕ) → seek n key c l p ≡ Ok q → p + length key ≤ q
 seek_far n key c [] p q e = let z : ◌≡◌ {A = ℕ} 0 1 = cc in absurd (omega arith)

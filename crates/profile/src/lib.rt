@@ -50,6 +50,7 @@ fn doubtful(s: &[u8], from: usize) -> bool
     requires { from + 32 ≤ length s.now }
     ensures { Clear s.now from 32 result }
 {
+    // Every byte is looked at, with no way out, so that the compiler makes vectors of the loop.
     let mut hit = false;
     for i in 0..32 {
         if doubt(s[from + i]) {
@@ -73,6 +74,7 @@ fn next_doubt(s: &[u8], from: usize) -> usize
     ensures { Free no_char s.now from result }
 {
     let start = blocks(s, from);
+    // Not `run_end`, whose test is a class of bytes: `doubt` says what follows where it is false alone.
     for at in start..s.len() {
         if doubt(s[at]) {
             return at;
@@ -81,12 +83,13 @@ fn next_doubt(s: &[u8], from: usize) -> usize
     s.len()
 }
 
-// The place of the first byte at which a character begins that is no Char, or the length.
+// The place of the first byte at which a character begins that is no Char, or the length, as the definition answers.
 #[tactic(auto, using(crate::proofs::Going::goings))]
 fn first_no_char(s: &[u8]) -> usize
     ensures { result ≡ first_place no_char s.now }
 {
     let mut at = next_doubt(s, 0);
+    // The next place is what the call found, so no range has it.
     while at < s.len() {
         if no_char(s, at) {
             return at;
@@ -96,7 +99,7 @@ fn first_no_char(s: &[u8]) -> usize
     at
 }
 
-// The place of the first character of a text that is no Char, or the length.
+// The place of the first character of a text that is no Char, or the length, as the definition answers.
 #[tactic(auto, using(crate::proofs::NoChars::chars))]
 pub fn char_fault(s: &[u8]) -> usize
     requires { ill_formed s.now ≡ length s.now }
@@ -114,12 +117,13 @@ fn is_hyphens(s: &[u8], at: usize) -> bool
     s[at] == b'-' && (s.len() - at == 1 || s[at + 1] == b'-')
 }
 
-// The place of the first hyphen of a comment's inside that stands before another, or at the end; or the length.
+// The place of the first hyphen of a comment's inside that stands before another, or at the end; or the length, as the definition answers.
 #[tactic(auto, using(crate::proofs::Marks::comments))]
 pub fn comment_fault(s: &[u8]) -> usize
     ensures { result ≡ comment_fault s.now }
 {
     let mut at = slices::find(s, 0, b'-');
+    // The next place is what the call found, so no range has it.
     while at < s.len() {
         if is_hyphens(s, at) {
             return at;
@@ -138,7 +142,7 @@ fn is_raw(s: &[u8], at: usize) -> bool
     s[at] == b'<' || slices::starts_at(s, at, b"&#X")
 }
 
-// The place of the first `<` or `&#X` of a value, or the length.
+// The place of the first `<` or `&#X` of a value, or the length, as the definition answers.
 #[tactic(auto, using(crate::proofs::Going::goings))]
 pub fn value_fault(s: &[u8]) -> usize
     ensures { result ≡ value_fault s.now }
@@ -151,33 +155,22 @@ pub fn value_fault(s: &[u8]) -> usize
     s.len()
 }
 
-// Whether a name may begin with an ASCII character.
+// Whether a name may begin with a character.
 #[tactic(auto, unfolding(crate::specs::Names::name_start_char))]
-fn ascii_start(c: u32) -> bool
-    requires { c < 0x80 }
-    ensures { result ≡ name_start_char c }
-{
-    matches!(c, 0x3a | 0x41..=0x5a | 0x5f | 0x61..=0x7a)
-}
-
-// The same of the characters up to U+1FFF.
-#[tactic(auto, unfolding(crate::specs::Names::name_start_char))]
-fn middle_start(c: u32) -> bool
-    requires { (0x80 ≤ c) × (c < 0x2000) }
-    ensures { result ≡ name_start_char c }
-{
-    matches!(c, 0xc0..=0xd6 | 0xd8..=0xf6 | 0xf8..=0x2ff | 0x370..=0x37d | 0x37f..=0x1fff)
-}
-
-// The same of those that follow.
-#[tactic(auto, unfolding(crate::specs::Names::name_start_char))]
-fn wide_start(c: u32) -> bool
-    requires { 0x2000 ≤ c }
+fn name_start(c: u32) -> bool
     ensures { result ≡ name_start_char c }
 {
     matches!(
         c,
-        0x200c..=0x200d
+        0x3a | 0x41..=0x5a
+            | 0x5f
+            | 0x61..=0x7a
+            | 0xc0..=0xd6
+            | 0xd8..=0xf6
+            | 0xf8..=0x2ff
+            | 0x370..=0x37d
+            | 0x37f..=0x1fff
+            | 0x200c..=0x200d
             | 0x2070..=0x218f
             | 0x2c00..=0x2fef
             | 0x3001..=0xd7ff
@@ -185,19 +178,6 @@ fn wide_start(c: u32) -> bool
             | 0xfdf0..=0xfffd
             | 0x10000..=0xeffff
     )
-}
-
-// Whether a name may begin with a character.
-fn name_start(c: u32) -> bool
-    ensures { result ≡ name_start_char c }
-{
-    if c < 0x80 {
-        return ascii_start(c);
-    }
-    if c < 0x2000 {
-        return middle_start(c);
-    }
-    wide_start(c)
 }
 
 // Whether a character is one of those that may stand in a name, and at its start may not.
@@ -219,7 +199,8 @@ fn name_char(c: u32) -> bool
 // The character at a place where one begins.
 #[tactic(auto, using(crate::proofs::Points::points))]
 fn character_at(s: &[u8], at: usize) -> Character
-    requires { (at < length s.now) × (ill_formed (drop at s.now) ≡ length (drop at s.now)) }
+    requires inside { at < length s.now }
+    requires formed { ill_formed (drop at s.now) ≡ length (drop at s.now) }
     ensures { Reads s.now at result }
 {
     let a = s[at];
@@ -249,7 +230,7 @@ fn character_at(s: &[u8], at: usize) -> Character
     }
 }
 
-// The place of the first character of a name that may not stand there, or the length.
+// The place of the first character of a name that may not stand there, or the length, as the definition answers.
 #[tactic(auto, using(crate::proofs::Naming::naming))]
 pub fn name_fault(s: &[u8]) -> usize
     requires { ill_formed s.now ≡ length s.now }
@@ -263,6 +244,7 @@ pub fn name_fault(s: &[u8]) -> usize
         return 0;
     }
     let mut at = first.size;
+    // The next place is what the call found, so no range has it.
     while at < s.len() {
         let next = character_at(s, at);
         if !name_char(next.code) {
@@ -337,13 +319,15 @@ fn misc_at(s: &[u8], at: usize) -> Result<usize, Fault>
     Err(breach(at))
 }
 
-// The place of the first breach from a place on, where nothing but comments, instructions and white space may stand; or the length.
+// The place of the first breach from a place on, where nothing but comments, instructions and white space
+// may stand; or the length, as the definition answers.
 #[tactic(auto, using(crate::proofs::Afters::afters))]
 pub fn after_fault(s: &[u8], from: usize) -> usize
     requires { from ≤ length s.now }
     ensures { result ≡ after_fault (drop from s.now) from }
 {
     let mut at = from;
+    // The next place is what the call found, so no range has it.
     while at < s.len() {
         match misc_at(s, at) {
             Ok(end) => at = end,

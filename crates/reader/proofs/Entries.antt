@@ -9,6 +9,7 @@ use borrow.Author.Tests.{lt-ltb, le-ltb, ltb-false, leb-true, leb-false, not-tru
 use native.Mathlib.Omega.{arith}
 use lib.Dec.{ltb, leb}
 use lib.ListN.{length}
+use Rattle.document.proofs.Readers.{keeping}
 use Rattle.std.specs.Prelude.{Result, Ok, Err}
 use Rattle.utf8.specs.WellFormed.{ill_formed}
 use Rattle.utf8.proofs.Texts.{bounded}
@@ -156,7 +157,7 @@ is_sound {doc} {p} h e l = record { small = h; utf8 = omega (arith, bounded doc)
 pub ended : {doc r w t : List ℕ} {a : Result Fill Refusal} → Sound doc → ReadsWhole doc (lent r w t) a → Ended doc r w t a
 ended s h = record { sound = s; ends = h.ends }
 
-pub ruleset entry = (too_long, not_utf8, is_sound, ended, rules)
+pub ruleset entry = (too_long, not_utf8, is_sound, ended, keeping, rules)
 
 -- the buffers had the same room all along
 pub carried : {doc rows warnings text : List ℕ} {v : Verdict} {r w t r' w' t' : ℕ} → Says doc (record { rows = r; warnings = w; text = t }) rows warnings text v → r ≡ r' → w ≡ w' → t ≡ t' → Says doc (record { rows = r'; warnings = w'; text = t' }) rows warnings text v

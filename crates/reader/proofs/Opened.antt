@@ -1,6 +1,6 @@
 -- A node in a node: refused, closed by its own tag, too deep, or one more that is open.
 -- Assumes nothing.
-use Prim.Native.Nat.{ℕ, suc, ◌+◌, ◌-◌, ◌≤◌, ◌<◌, ◌^◌}
+use Prim.Native.Nat.{ℕ, suc, ◌+◌, ◌≤◌, ◌<◌, ◌^◌}
 use mathlib.Core.Path.{◌≡◌, refl, sym, ◌∙◌, ap}
 use mathlib.Core.List.{List}
 use mathlib.Core.Bool.{Bool, true, false}
@@ -33,7 +33,7 @@ use Rattle.document.proofs.Loops.{moved_stands}
 use Rattle.document.proofs.Openings.{tag_named}
 use Rattle.reader.specs.Nodes.{frames_of, Walking, Opens, Started}
 use Rattle.reader.specs.declared.Walk.{Walk}
-use Rattle.reader.specs.declared.Turn.TheVariants.{Done, On}
+use Rattle.reader.specs.declared.Turn.TheVariants.{On}
 use Rattle.reader.proofs.Frames.{frames_length, frames_closed, frames_push}
 
 not-one : (a b c d f g h : Bool) → ◌≡◌ {A = ℕ} (if a 8 (if b 9 (if c 10 (if d 11 (if f 12 (if g 13 (if h 14 0))))))) 1 → ⊥

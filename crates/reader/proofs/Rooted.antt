@@ -24,6 +24,7 @@ use Rattle.document.specs.declared.ClosingTag.{ClosingTag}
 use Rattle.document.specs.declared.Refusal.{Refusal}
 use Rattle.document.specs.declared.Fill.{Fill}
 use Rattle.document.specs.declared.Token.{Token}
+use Rattle.document.proofs.Readers.{keeping}
 use Rattle.document.proofs.Runs.{run_more, run_last, run_refused, run_accepted}
 use Rattle.document.proofs.Openings.{tag_named}
 use Rattle.reader.specs.Nodes.{frames_of, Walking, Turns, Walks, Levels, RootOpen, EndsNodes, ReadsRoot, ReadsWhole}
@@ -72,7 +73,7 @@ module _ {doc : List ℕ} {root : Name} {opened₀ opened opened' : List ℕ} {s
       let t : Turns doc root opened opened' s b b' (Ok (On s')) = rw e at h in
       omega (arith, t.onward.0, t.onward.1.bounds.inside)
 
-pub ruleset walking = (walk_begins, walk_fault, walk_done, walk_on, walk_less, rules)
+pub ruleset walking = (walk_begins, walk_fault, walk_done, walk_on, walk_less, keeping, rules)
 
 carried : {s s' : State Shown} (b : Lent) (r : Result Fill Refusal) → s ≡ s' → EndsNodes s' b r → EndsNodes s b r
 carried b (Err x) h e = h ∙ e
@@ -150,9 +151,9 @@ module _ {doc opened : List ℕ} {c : StartTag} {g : Fill} {rows text : List ℕ
       there : (v : Tables Shown) → runs doc c.end (reading (element kinds.node (name_at doc c.at c.len) 0 ∷ []) v) ≡ runs doc g.at (reading (frames_of doc (name_at doc c.at c.len) opened 1) v)
       there v = rw (o.at, q.root)
 
-pub ruleset leveled = (levels_walk, levels_named, levels_read, rules)
+pub ruleset leveled = (levels_walk, levels_named, levels_read, keeping, rules)
 
-pub ruleset rooted = (root_ready, root_fault, root_closes, root_open, rules)
+pub ruleset rooted = (root_ready, root_fault, root_closes, root_open, keeping, rules)
 
 -- the first token
 module _ {doc : List ℕ} {k : Result Token Refusal} (x : Tokenises doc 0 k) where
@@ -193,4 +194,4 @@ module _ {doc : List ℕ} {k : Result Token Refusal} (x : Tokenises doc 0 k) whe
 pub first_wide : {doc : List ℕ} {k : Result Token Refusal} → Tokenises doc 0 k → Sound doc → {c : ClosingTag} → k ≡ Ok (Token.Close c) → Fits w64 (c.lt + 1)
 first_wide {doc} x s {c} e = let t : Tokenises doc 0 (Ok (Token.Close c)) = rw e at x in omega (arith, t.onward, s.small)
 
-pub ruleset firsts = (first_fault, first_end, first_close, first_further, first_fits, first_root, first_wide, rules)
+pub ruleset firsts = (first_fault, first_end, first_close, first_further, first_fits, first_root, first_wide, keeping, rules)

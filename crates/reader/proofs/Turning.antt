@@ -23,6 +23,7 @@ use Rattle.document.specs.declared.Refusal.{Refusal}
 use Rattle.document.specs.declared.Fill.{Fill}
 use Rattle.document.specs.declared.Next.{Next}
 use Rattle.document.specs.declared.Closing.{Closing}
+use Rattle.document.proofs.Readers.{keeping}
 use Rattle.document.proofs.Runs.{run_accepted}
 use Rattle.document.proofs.Loops.{moved_stands, moved_owner}
 use Rattle.reader.specs.Nodes.{frames_of, Walking, Turns, LeadsFrom, Opens, Started, Begun, Looks, NextIn, name_in, Shuts, IsShut, ChildIn, IsChildIn}
@@ -84,7 +85,7 @@ pub ruleset shutting = (shut_root, shut_inner, rules)
 pub child_ready : {doc : List ℕ} {c : StartTag} {f m : Fill} → Ready doc c f → m ≡ f → Ready doc c m
 child_ready r y = rw y r
 
-pub ruleset child_ins = (child_fault, child_on, child_ready, moved_owner, rules)
+pub ruleset child_ins = (child_fault, child_on, child_ready, moved_owner, keeping, rules)
 
 prefixed : (doc : List ℕ) (root : Name) (opened : List ℕ) (b : Lent) {x x' : State Shown} (k : Result Turn Refusal) → x ≡ x' → LeadsFrom doc root opened x' b k → LeadsFrom doc root opened x b k
 prefixed doc root opened b (Err y) h l = h ∙ l
@@ -176,7 +177,7 @@ module _ {doc : List ℕ} {root : Name} {opened : List ℕ} {inner : ℕ} {s : W
           prefixed doc root opened' b' k (rw frames z.2) (h.leads root z.0 v z.1 y);
     }
 
-pub ruleset turns = (looks, last_level, level_wide, level_inside, turn_fault, turn_close, turn_started, turn_begun, rules)
+pub ruleset turns = (looks, last_level, level_wide, level_inside, turn_fault, turn_close, turn_started, turn_begun, keeping, rules)
 
 -- the element of a start tag
 module _ {doc opened : List ℕ} {c : StartTag} {s : Walk} (begun : Started doc opened c s) where
@@ -250,4 +251,4 @@ module _ {doc opened : List ℕ} {c : StartTag} {s : Walk} (begun : Started doc 
                 (o.0, o.1, o.2 ∙ again root s'.depth s'.fill.at o.0 d');
           }
 
-pub ruleset starteds = (begun_ready, begun_level, begun_owner, begun_deep, begun_open, begun_child, rules)
+pub ruleset starteds = (begun_ready, begun_level, begun_owner, begun_deep, begun_open, begun_child, keeping, rules)

@@ -3,13 +3,13 @@
 
 ghost use Rattle.std.specs.Prelude.{◌≡◌, true, false, ◌+◌, ◌*◌, ◌≤◌, ◌<◌, ◌^◌, length, set};
 ghost use Rattle.document.specs.Kinds as kinds;
-ghost use Rattle.document.specs.Outcome.{lent, name_at, Ready, Sound, TagFits, Child, moved};
+ghost use Rattle.document.specs.Outcome.{lent_to, name_at, Keeps, Ready, Sound, TagFits, Child, moved};
 ghost use Rattle.document.specs.Whole.{room_of, Says};
 ghost use Rattle.files.specs.Files.{Reads};
 ghost use Rattle.reader.specs.Entry.{Ended, Refuses, HasRoom, Accepts};
 ghost use Rattle.reader.specs.Nodes.{Walking, Turns, Opens, Looks, NextIn, Shuts, ChildIn, Started, Begun, Walks, Levels, RootOpen, ReadsRoot, ReadsWhole};
 
-use document::{Counts, Fill, Next, Refusal, StartTag, Token, Verdict, kinds};
+use document::{Counts, Fill, Next, Reader, Refusal, StartTag, Token, Verdict, kinds};
 use files::Reading;
 use scan::ClassTable;
 use tags::step;
@@ -21,7 +21,7 @@ pub struct Walk {
     pub fill: Fill,
 }
 
-// What a turn of the node loop comes to: the root's end, or one token more.
+// What a turn of the node loop comes to: the root's end, or one token more. No Option: each has a value of its own.
 #[derive(Clone, Copy)]
 pub enum Turn {
     Done(Fill),
@@ -30,36 +30,32 @@ pub enum Turn {
 
 // A child of a node with row i that is no node itself.
 #[tactic(auto, using(crate::proofs::NodeChildren::node_children))]
-fn node_child(
-    doc: &[u8],
-    classes: &ClassTable,
-    rows: &mut [u32],
-    warnings: &mut [u32],
-    text: &mut [u8],
-    c: StartTag,
-    i: usize,
-    f: Fill,
-) -> Result<Fill, Refusal>
-    requires ready { Ready doc.now c f }
+fn node_child(r: &mut Reader, c: StartTag, i: usize, f: Fill) -> Result<Fill, Refusal>
+    requires ready { Ready r.old.doc.now c f }
     requires owner { i < f.rows }
     requires no_node { (c.kind ≡ kinds.node → ⊥) }
-    ensures { Child doc.now kinds.in_node true c i f
-        (lent rows.old warnings.old text.old)
-        (lent rows.new warnings.new text.new) result }
+    ensures keeps { Keeps r.old r.new }
+    ensures is { Child r.old.doc.now kinds.in_node true c i f
+        (lent_to r.old)
+        (lent_to r.new) result }
 {
-    let kind = c.kind;
-    if kind == kinds::INTERFACE {
-        return interfaces::interface(doc, classes, rows, warnings, text, c, i + 1, f);
+    match c.kind {
+        kinds::INTERFACE => interfaces::interface(r, c, i + 1, f),
+        kind => {
+            if interfaces::is_definition(kind) {
+                return telepathy::definition(r, c, i + 1, f);
+            }
+            skip::docstring_or_skip(r.doc, r.classes, &mut *r.rows, &mut *r.warnings, c, i, f)
+        }
     }
-    if interfaces::is_definition(kind) {
-        return telepathy::definition(doc, classes, rows, warnings, text, c, i + 1, f);
-    }
-    skip::docstring_or_skip(doc, classes, rows, warnings, c, i, f)
 }
 
 // Keeps the row of an open node, and the place of its name.
 fn keep_level(opened: &mut [u32], depth: usize, row: usize, at: usize)
-    requires { (depth + 1024 < length opened.old) × ((depth < 1024) × ((row < 2 ^ 32) × (at < 2 ^ 32))) }
+    requires long { depth + 1024 < length opened.old }
+    requires deep { depth < 1024 }
+    requires row_small { row < 2 ^ 32 }
+    requires at_small { at < 2 ^ 32 }
     ensures { opened.new ≡ set (set opened.old depth row) (depth + 1024) «at» }
 {
     opened[depth] = row as u32;
@@ -141,26 +137,18 @@ fn close_node(s: Walk, end: usize) -> Turn
 
 // A child of the innermost open node that is no node itself.
 #[tactic(auto, using(crate::proofs::Turning::child_ins))]
-fn read_child(
-    doc: &[u8],
-    classes: &ClassTable,
-    rows: &mut [u32],
-    warnings: &mut [u32],
-    text: &mut [u8],
-    c: StartTag,
-    i: usize,
-    s: Walk,
-) -> Result<Turn, Refusal>
-    requires ready { Ready doc.now c (moved s.fill c.end) }
+fn read_child(r: &mut Reader, c: StartTag, i: usize, s: Walk) -> Result<Turn, Refusal>
+    requires ready { Ready r.old.doc.now c (moved s.fill c.end) }
     requires owner { i < s.fill.rows }
     requires no_node { (c.kind ≡ kinds.node → ⊥) }
-    ensures { ChildIn doc.now c i s
-        (lent rows.old warnings.old text.old)
-        (lent rows.new warnings.new text.new) result }
+    ensures keeps { Keeps r.old r.new }
+    ensures is { ChildIn r.old.doc.now c i s
+        (lent_to r.old)
+        (lent_to r.new) result }
 {
     let f = s.fill;
     let fill = f.moved(c.end);
-    let g = node_child(doc, classes, rows, warnings, text, c, i, fill)?;
+    let g = node_child(r, c, i, fill)?;
     Ok(Turn::On(Walk {
         depth: s.depth,
         fill: g,
@@ -169,54 +157,43 @@ fn read_child(
 
 // An element in the innermost open node.
 #[tactic(auto, using(crate::proofs::Turning::starteds))]
-fn start_in(
-    doc: &[u8],
-    classes: &ClassTable,
-    rows: &mut [u32],
-    warnings: &mut [u32],
-    text: &mut [u8],
-    opened: &mut [u32],
-    c: StartTag,
-    s: Walk,
-) -> Result<Turn, Refusal>
-    requires started { Started doc.now opened.old c s }
-    ensures { Begun doc.now c s opened.old opened.new
-        (lent rows.old warnings.old text.old)
-        (lent rows.new warnings.new text.new) result }
+fn start_in(r: &mut Reader, opened: &mut [u32], c: StartTag, s: Walk) -> Result<Turn, Refusal>
+    requires started { Started r.old.doc.now opened.old c s }
+    ensures keeps { Keeps r.old r.new }
+    ensures is { Begun r.old.doc.now c s opened.old opened.new
+        (lent_to r.old)
+        (lent_to r.new) result }
 {
     let last = s.depth - 1;
     let i = wide(opened[last]);
     if c.kind == kinds::NODE {
-        return open_node(doc, rows, text, opened, c, i, s);
+        return open_node(r.doc, &mut *r.rows, &mut *r.text, opened, c, i, s);
     }
-    read_child(doc, classes, rows, warnings, text, c, i, s)
+    read_child(r, c, i, s)
 }
 
 // One token more in the innermost open node.
 #[tactic(auto, using(crate::proofs::Turning::turns))]
 fn turn_at(
-    doc: &[u8],
-    classes: &ClassTable,
-    rows: &mut [u32],
-    warnings: &mut [u32],
-    text: &mut [u8],
+    r: &mut Reader,
     opened: &mut [u32],
     at: usize,
     len: usize,
     s: Walk,
 ) -> Result<Turn, Refusal>
-    requires walking { Walking doc.now opened.old s }
-    requires named { at + len ≤ length doc.now }
-    ensures { Turns doc.now (name_at doc.now «at» len) opened.old
-        opened.new s (lent rows.old warnings.old text.old)
-        (lent rows.new warnings.new text.new) result }
+    requires walking { Walking r.old.doc.now opened.old s }
+    requires named { at + len ≤ length r.old.doc.now }
+    ensures keeps { Keeps r.old r.new }
+    ensures is { Turns r.old.doc.now (name_at r.old.doc.now «at» len) opened.old
+        opened.new s (lent_to r.old)
+        (lent_to r.new) result }
 {
     let last = s.depth - 1;
     let level = last + 1024;
     let inner = wide(opened[level]);
-    match next_in(doc, classes, at, len, inner, s)? {
+    match next_in(r.doc, r.classes, at, len, inner, s)? {
         Next::Close(closing) => Ok(close_node(s, closing.end)),
-        Next::Start(c) => start_in(doc, classes, rows, warnings, text, opened, c, s),
+        Next::Start(c) => start_in(r, opened, c, s),
     }
 }
 
@@ -229,25 +206,23 @@ fn wide(x: u32) -> usize
 // The open nodes, up to the root's end.
 #[tactic(auto, using(crate::proofs::Rooted::walking))]
 fn nodes(
-    doc: &[u8],
-    classes: &ClassTable,
-    rows: &mut [u32],
-    warnings: &mut [u32],
-    text: &mut [u8],
+    r: &mut Reader,
     opened: &mut [u32],
     at: usize,
     len: usize,
     s: Walk,
 ) -> Result<Fill, Refusal>
-    requires walking { Walking doc.now opened.old s }
-    requires named { at + len ≤ length doc.now }
-    ensures { Walks doc.now (name_at doc.now «at» len) opened.old s
-        (lent rows.old warnings.old text.old)
-        (lent rows.new warnings.new text.new) result }
+    requires walking { Walking r.old.doc.now opened.old s }
+    requires named { at + len ≤ length r.old.doc.now }
+    ensures keeps { Keeps r.old r.new }
+    ensures is { Walks r.old.doc.now (name_at r.old.doc.now «at» len) opened.old s
+        (lent_to r.old)
+        (lent_to r.new) result }
 {
     let mut w = s;
+    // The next turn begins where this one ends.
     loop {
-        match turn_at(doc, classes, rows, warnings, text, opened, at, len, w)? {
+        match turn_at(r, opened, at, len, w)? {
             Turn::Done(f) => return Ok(f),
             Turn::On(next) => w = next,
         }
@@ -263,47 +238,24 @@ fn levels() -> [u32; 2048]
 
 // The children of the root, whose row is put.
 #[tactic(auto, using(crate::proofs::Rooted::leveled))]
-fn open_root(
-    doc: &[u8],
-    classes: &ClassTable,
-    rows: &mut [u32],
-    warnings: &mut [u32],
-    text: &mut [u8],
-    c: StartTag,
-    g: Fill,
-) -> Result<Fill, Refusal>
-    requires opened { RootOpen doc.now c g rows.old text.old }
-    ensures { ReadsRoot doc.now c (lent rows.new warnings.new text.new) result }
+fn open_root(r: &mut Reader, c: StartTag, g: Fill) -> Result<Fill, Refusal>
+    requires opened { RootOpen r.old.doc.now c g r.old.rows.now r.old.text.now }
+    ensures keeps { Keeps r.old r.new }
+    ensures is { ReadsRoot r.old.doc.now c (lent_to r.new) result }
 {
     let mut opened = levels();
     let s = Walk { depth: 1, fill: g };
-    nodes(
-        doc,
-        classes,
-        rows,
-        warnings,
-        text,
-        &mut opened,
-        c.at,
-        c.len,
-        s,
-    )
+    nodes(r, &mut opened, c.at, c.len, s)
 }
 
 // The root element, which may have any name.
 #[tactic(auto, using(crate::proofs::Rooted::rooted))]
-fn root_node(
-    doc: &[u8],
-    classes: &ClassTable,
-    rows: &mut [u32],
-    warnings: &mut [u32],
-    text: &mut [u8],
-    c: StartTag,
-) -> Result<Fill, Refusal>
-    requires sound { Sound doc.now }
-    requires fits { TagFits doc.now c }
+fn root_node(r: &mut Reader, c: StartTag) -> Result<Fill, Refusal>
+    requires sound { Sound r.old.doc.now }
+    requires fits { TagFits r.old.doc.now c }
     requires after_start { 0 < c.at }
-    ensures { ReadsRoot doc.now c (lent rows.new warnings.new text.new) result }
+    ensures keeps { Keeps r.old r.new }
+    ensures is { ReadsRoot r.old.doc.now c (lent_to r.new) result }
 {
     let fill = Fill {
         at: c.end,
@@ -311,29 +263,24 @@ fn root_node(
         warnings: 0,
         text: 0,
     };
-    let g = elements::node_row(doc, rows, text, c, 0, fill)?;
+    let g = elements::node_row(r.doc, &mut *r.rows, &mut *r.text, c, 0, fill)?;
     if c.closes {
         return Ok(g);
     }
-    open_root(doc, classes, rows, warnings, text, c, g)
+    open_root(r, c, g)
 }
 
 // The document's root element, past what is ignorable.
 #[tactic(auto, using(crate::proofs::Rooted::firsts))]
-fn document_node(
-    doc: &[u8],
-    classes: &ClassTable,
-    rows: &mut [u32],
-    warnings: &mut [u32],
-    text: &mut [u8],
-) -> Result<Fill, Refusal>
-    requires sound { Sound doc.now }
-    ensures { ReadsWhole doc.now (lent rows.new warnings.new text.new) result }
+fn document_node(r: &mut Reader) -> Result<Fill, Refusal>
+    requires sound { Sound r.old.doc.now }
+    ensures keeps { Keeps r.old r.new }
+    ensures is { ReadsWhole r.old.doc.now (lent_to r.new) result }
 {
-    match tags::token(doc, classes, 0)? {
+    match tags::token(r.doc, r.classes, 0)? {
         Token::End(place) => Err(document::bare(3, place)),
         Token::Close(c) => Err(document::bare(4, c.lt + 1)),
-        Token::Start(c) => root_node(doc, classes, rows, warnings, text, c),
+        Token::Start(c) => root_node(r, c),
     }
 }
 
@@ -351,7 +298,8 @@ pub fn refuse(rows: &mut [u32], warnings: &mut [u32], text: &mut [u8], refusal: 
 
 // Leaves zeros past the used part of every buffer.
 fn accept(rows: &mut [u32], warnings: &mut [u32], text: &mut [u8], f: Fill) -> Verdict
-    requires { (f.rows * 16 ≤ length rows.old) × (f.warnings * 4 ≤ length warnings.old) }
+    requires rows_inside { f.rows * 16 ≤ length rows.old }
+    requires warnings_inside { f.warnings * 4 ≤ length warnings.old }
     ensures { Accepts f rows.old rows.new warnings.old warnings.new
         text.old text.new result }
 {
@@ -436,7 +384,14 @@ fn read_sound(doc: &[u8], rows: &mut [u32], warnings: &mut [u32], text: &mut [u8
         rows.new warnings.new text.new result }
 {
     let classes = scan::classes();
-    let a = document_node(doc, &classes, rows, warnings, text);
+    let mut r = Reader {
+        doc,
+        classes: &classes,
+        rows: &mut *rows,
+        warnings: &mut *warnings,
+        text: &mut *text,
+    };
+    let a = document_node(&mut r);
     finish(doc, rows, warnings, text, a)
 }
 

@@ -76,16 +76,6 @@ escape_same p d (b ∷ s) h =
 
 -- ---- what is put
 
--- a byte as it is escaped
-module _ {b n r : ℕ} {t t' : List ℕ} where
-  pub reference_one : {ys : List ℕ} (k : ℕ) → b ≡ k → ys ≡ escaped k → Puts ys n t t' r → Puts (escaped b) n t t' r
-  reference_one k e f p = rw (e, ← f) p
-
-  pub reference_none : (b ≡ 38 → ⊥) → (b ≡ 60 → ⊥) → (b ≡ 62 → ⊥) → (b ≡ 34 → ⊥) → (b ≡ 39 → ⊥) → (b ≡ 9 → ⊥) → (b ≡ 10 → ⊥) → (b ≡ 13 → ⊥) → Put 1 (b ∷ []) n t t' r → Puts (escaped b) n t t' r
-  reference_none e1 e2 e3 e4 e5 e6 e7 e8 p = rw (ne_eqb b 38 e1, ne_eqb b 60 e2, ne_eqb b 62 e3, ne_eqb b 34 e4, ne_eqb b 39 e5, ne_eqb b 9 e6, ne_eqb b 10 e7, ne_eqb b 13 e8) (puts_one p)
-
-pub ruleset references = (reference_one, reference_none, rules)
-
 -- ---- the loop that puts it
 
 pub record Escaping (v : List ℕ) (n : ℕ) (t₀ t : List ℕ) (at m : ℕ) : Type 0 where

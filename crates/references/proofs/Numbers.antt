@@ -79,9 +79,6 @@ module _ (b : ℕ) where
   pub decimal_above : 48 ≤ b → leb b 57 ≡ decimal_digit b
   decimal_above h = rw (le-leb 48 b h)
 
-  pub hex_decimal : {t : Bool} → t ≡ decimal_digit b → t ≡ true → true ≡ hex_digit b
-  hex_decimal e f = rw (sym e ∙ f)
-
   module _ {t : Bool} (e : t ≡ decimal_digit b) (f : t ≡ false) where
     pub hex_below : b < 65 → false ≡ hex_digit b
     hex_below h = rw (sym e ∙ f, lt-leb 65 b h, lt-leb 97 b (omega arith))
@@ -94,12 +91,6 @@ module _ (b : ℕ) where
 
     pub hex_lower : 70 < b → 97 ≤ b → leb b 102 ≡ hex_digit b
     hex_lower h l = rw (sym e ∙ f, le-leb 65 b (omega arith), lt-leb b 70 h, le-leb 97 b l)
-
-  pub digit_hex : {t : Bool} {base : ℕ} → t ≡ hex_digit b → base ≡ 16 → t ≡ digit_in base b
-  digit_hex {base = base} e f = e ∙ rw (eq-eqb base 16 f)
-
-  pub digit_decimal : {t : Bool} {base : ℕ} → t ≡ decimal_digit b → (base ≡ 16 → ⊥) → t ≡ digit_in base b
-  digit_decimal {base = base} e f = e ∙ rw (ne_eqb base 16 f)
 
   -- the digits of any base are among those of 16
   any_hex : (base : ℕ) → digit_in base b ≡ true → hex_digit b ≡ true
@@ -230,5 +221,3 @@ module _ {base : ℕ} {s : List ℕ} {from at n : ℕ} (g : Numbering base s fro
     }
 
 pub ruleset numbers = (number_none, number_begins, number_ends, number_fails, number_stops, number_digit, number_small, number_more, product_fits, sum_fits, bounded_over, bounded_under, rules)
-
-pub ruleset digits = (char_tab, char_feed, char_control, char_low, char_surrogate, char_middle, char_last, char_high, decimal_below, decimal_above, hex_decimal, hex_below, hex_upper, hex_between, hex_lower, digit_hex, digit_decimal, value_least, value_decimal, value_upper, value_lower_least, value_lower, rules)

@@ -35,6 +35,7 @@ fn is_digit(base: u32, b: u8) -> bool
     is_decimal(b)
 }
 
+// Three ranges, and each digit's value is the way from the start of its range.
 fn digit_value(base: u32, b: u8) -> u32
     requires { digit_in base b ≡ true }
     ensures { result ≡ digit_value b }
@@ -50,7 +51,9 @@ fn digit_value(base: u32, b: u8) -> u32
 
 // What a number and a digit after it write, or 0x110000 where that is more.
 fn extended(n: u32, base: u32, d: u32) -> u32
-    requires { (n ≤ 0x110000) × Base base × (d < 256) }
+    requires bounded { n ≤ 0x110000 }
+    requires base { Base base }
+    requires byte { d < 256 }
     ensures { result ≡ bounded (n * base + d) }
 {
     let m = n * base + d;

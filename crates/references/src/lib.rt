@@ -51,7 +51,7 @@ pub fn in_document(value_offset: usize, at: ValuePlace) -> DocumentPlace
     DocumentPlace(value_offset + at.0)
 }
 
-// After `&#`: a character's code, or a fault's number, as of all that follow.
+// After `&#`: a character's code, or a fault's number, as of all that follow; the caller alone knows the place.
 fn of_number(entity: &[u8]) -> Result<u32, u32>
     requires { 0 < length entity.now }
     ensures { reference_of result ≡ of_number (drop 1 entity.now) }
@@ -104,7 +104,8 @@ fn reference_of(entity: &[u8]) -> Result<u32, u32>
 // What stands at a `&`, or a fault's number.
 #[tactic(auto, using(crate::proofs::Pieces::pieces))]
 fn reference_at(v: &[u8], at: usize) -> Result<Piece, u32>
-    requires { (at < length v.now) × (get_or v.now at 0 ≡ 38) }
+    requires inside { at < length v.now }
+    requires ampersand { get_or v.now at 0 ≡ 38 }
     ensures { Pieces v.now at result }
 {
     let from = at + 1;
@@ -122,7 +123,8 @@ fn reference_at(v: &[u8], at: usize) -> Result<Piece, u32>
 // What stands at a CR: it is one line end with a LF after it.
 #[tactic(auto, using(crate::proofs::Pieces::pieces))]
 fn line_end(v: &[u8], at: usize) -> Piece
-    requires { (at < length v.now) × (get_or v.now at 0 ≡ 13) }
+    requires inside { at < length v.now }
+    requires cr { get_or v.now at 0 ≡ 13 }
     ensures { Pieces v.now at (Ok result) }
 {
     let next = at + 1;
@@ -163,6 +165,7 @@ pub fn check(value: &[u8]) -> Result<(), ValueFault>
     ensures { Checks value.now result }
 {
     let mut at = slices::find(value, 0, b'&');
+    // The next place is what the call found, so no range has it.
     while at < value.len() {
         match reference_at(value, at) {
             Ok(piece) => at = slices::find(value, piece.next, b'&'),
@@ -185,6 +188,7 @@ pub fn put_shown(value: &[u8], out: &mut [u8], n: usize) -> usize
 {
     let mut at = 0;
     let mut m = n;
+    // The next place is what the call found, so no range has it.
     while at < value.len() {
         match piece_at(value, at) {
             Ok(piece) => match piece.shown {

@@ -1,12 +1,12 @@
 // Rows and warnings in the tables that a caller lends.
 #![tactic(auto)]
 
-ghost use Rattle.std.specs.Prelude.{◌*◌, ◌<◌, ◌≤◌};
+ghost use Rattle.std.specs.Prelude.{◌≡◌, ◌*◌, ◌<◌, ◌≤◌};
 ghost use Rattle.tables.specs.Table.{Put};
 ghost use Rattle.document.specs.Outcome.{Lies};
 ghost use Rattle.rows.specs.Outcome.{Places, placed, RowFits, RowPut, WarningFits, WarningPut};
 
-use document::{Fill, Value};
+use document::{Fill, Form, Value};
 
 // A row's kind, its parent's row plus one, its word 14, and the place of the element's name, after `<`.
 #[derive(Clone, Copy)]
@@ -15,6 +15,20 @@ pub struct Head {
     pub parent: usize,
     pub word: u32,
     pub at: usize,
+}
+
+impl Head {
+    // The head of a row whose word 14 is 0.
+    pub fn new(kind: u32, parent: usize, at: usize) -> Head
+        ensures { result ≡ record { kind = kind; parent = parent; word = 0; at = at } }
+    {
+        Head {
+            kind,
+            parent,
+            word: 0,
+            at,
+        }
+    }
 }
 
 // The triple of a value, and how many bytes of text there are after it.
@@ -28,37 +42,41 @@ pub struct Placed {
 
 // The triple of a value; a changed one's shown bytes go into the text.
 fn place(doc: &[u8], text: &mut [u8], v: Value, n: usize) -> Placed
-    requires { Lies doc.now v × (n ≤ 5 * 1048576) }
+    requires lies { Lies doc.now v }
+    requires few { n ≤ 5 * 1048576 }
     ensures { Places doc.now v n text.old text.new result }
 {
-    if v.kind == 1 {
-        return Placed {
+    match v.form {
+        Form::Absent => Placed {
+            source: 0,
+            start: 0,
+            len: 0,
+            text: n,
+        },
+        Form::Plain => Placed {
             source: 1,
             start: v.at,
             len: v.len,
             text: n,
-        };
-    }
-    if v.kind == 2 {
-        let m = references::put_shown(document::raw(doc, v), text, n);
-        return Placed {
-            source: 2,
-            start: n as u32,
-            len: (m - n) as u32,
-            text: m,
-        };
-    }
-    Placed {
-        source: 0,
-        start: 0,
-        len: 0,
-        text: n,
+        },
+        Form::Changed => {
+            let m = references::put_shown(document::raw(doc, v), text, n);
+            Placed {
+                source: 2,
+                start: n as u32,
+                len: (m - n) as u32,
+                text: m,
+            }
+        }
     }
 }
 
 // Adds the words of a row where a whole one has room, and counts it in any case.
 fn put_placed(rows: &mut [u32], n: usize, head: Head, a: Placed, b: Placed, c: Placed) -> usize
-    requires { (n < 1048576) × (head.parent ≤ 1048576) × (0 < head.at) × (head.at ≤ 1048576) }
+    requires few { n < 1048576 }
+    requires parent_small { head.parent ≤ 1048576 }
+    requires after { 0 < head.at }
+    requires place { head.at ≤ 1048576 }
     ensures { Put 16 (placed head a b c) n rows.old rows.new result }
 {
     let row = [
@@ -83,6 +101,8 @@ fn put_placed(rows: &mut [u32], n: usize, head: Head, a: Placed, b: Placed, c: P
 }
 
 // Adds a row where a whole one has room, and the text of its changed values; counts in any case.
+// Inlined, since the counts would be copied once more on the way back.
+#[inline(always)]
 pub fn put_row(
     doc: &[u8],
     rows: &mut [u32],
@@ -100,12 +120,10 @@ pub fn put_row(
     let a = place(doc, text, name, f.text);
     let b = place(doc, text, second, a.text);
     let c = place(doc, text, tp, b.text);
-    let n = put_placed(rows, f.rows, head, a, b, c);
     Fill {
-        at: f.at,
-        rows: n,
-        warnings: f.warnings,
+        rows: put_placed(rows, f.rows, head, a, b, c),
         text: c.text,
+        ..f
     }
 }
 
@@ -115,11 +133,8 @@ pub fn put_warning(warnings: &mut [u32], reason: u32, at: usize, len: usize, f: 
     ensures { WarningPut reason «at» len f warnings.old warnings.new result }
 {
     let words = [reason, (at - 1) as u32, at as u32, len as u32];
-    let n = tables::put_words(warnings, f.warnings, &words);
     Fill {
-        at: f.at,
-        rows: f.rows,
-        warnings: n,
-        text: f.text,
+        warnings: tables::put_words(warnings, f.warnings, &words),
+        ..f
     }
 }

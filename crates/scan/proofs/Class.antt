@@ -28,34 +28,6 @@ tabulated_at f i (suc n) (suc k) h =
 pub classes_table : (t : List ℕ) → t ≡ tabulated class_of 0 256 → Classes t
 classes_table t e = record { rule = λ b h. rw e (tabulated_at class_of 0 256 b h ∙ rw zero-add) }
 
--- each class is a digit of the number
-digits : (w n e : Bool) → ((if w 1 0 + if n 2 0 + if e 4 0) % 2 ≡ if w 1 0) × ((if w 1 0 + if n 2 0 + if e 4 0) / 2 % 2 ≡ if n 1 0) × ((if w 1 0 + if n 2 0 + if e 4 0) / 4 % 2 ≡ if e 1 0)
-digits true true true = (refl, refl, refl)
-digits true true false = (refl, refl, refl)
-digits true false true = (refl, refl, refl)
-digits true false false = (refl, refl, refl)
-digits false true true = (refl, refl, refl)
-digits false true false = (refl, refl, refl)
-digits false false true = (refl, refl, refl)
-digits false false false = (refl, refl, refl)
-
-one : (t : Bool) (n : ℕ) → n ≡ if t 1 0 → t ≡ eqb n 1
-one true n e = rw e
-one false n e = rw e
-
--- the test of each digit is the class
-module _ {t : List ℕ} (c : Classes t) {b : ℕ} (h : b < 256) where
-  pub white_digit : eqb (get_or t b 0 % 2) 1 ≡ white b
-  white_digit = sym (one (white b) (get_or t b 0 % 2) (rw (c.rule b h) (digits (white b) (nc_name_byte b) (escapable b)).0))
-
-  pub name_digit : eqb (get_or t b 0 / 2 % 2) 1 ≡ nc_name_byte b
-  name_digit = sym (one (nc_name_byte b) (get_or t b 0 / 2 % 2) (rw (c.rule b h) (digits (white b) (nc_name_byte b) (escapable b)).1))
-
-  pub escape_digit : eqb (get_or t b 0 / 4 % 2) 1 ≡ escapable b
-  escape_digit = sym (one (escapable b) (get_or t b 0 / 4 % 2) (rw (c.rule b h) (digits (white b) (nc_name_byte b) (escapable b)).2))
-
-pub ruleset classed = (white_digit, name_digit, escape_digit, rules)
-
 -- a byte that is no name's, and so white space, is below 128
 abbrev Small : ℕ → Type 0
 Small b = name_byte b ≡ false → b < 128

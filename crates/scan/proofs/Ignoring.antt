@@ -74,14 +74,6 @@ module _ (s : List ℕ) (at : ℕ) where
 
 pub ruleset pieces = (comment_fits, declared_comment, cdata_fits, declared_cdata, declared_other, markup_last, markup_declared, markup_instruction, markup_tag, rules)
 
--- the same, for a fault and for a place
-module _ (s : List ℕ) (at : ℕ) where
-  pub marks_place : {r : Result ℕ Fault} {p : ℕ} → Marks s at (ignored r) → r ≡ Ok p → Marks s at (Ok (Ignored p))
-  marks_place c e = rw e at c
-
-  pub marks_fault : {r : Result ℕ Fault} {f : Fault} → Marks s at (ignored r) → r ≡ Err f → Marks s at (Err f)
-  marks_fault c e = rw e at c
-
 -- bytes that are taken already are dropped
 taken : (k : ℕ) (l : List ℕ) (at : ℕ) → k ≤ length l → ignorable_from k l at ≡ ignorable_from 0 (drop k l) (at + k)
 taken zero l at h = rw add-zero

@@ -17,8 +17,3 @@ ignored_place (Err f) q e = cc
 pub ignored_no_tag : {A : Type 0} (x : Result ℕ Fault) → ignored x ≡ Ok Tag → A
 ignored_no_tag (Ok p) e = cc
 ignored_no_tag (Err f) e = cc
-
--- what holds of both ways of a scan holds of what is ignored
-pub ignored_either : (P : Result Markup Fault → Type 0) (x : Result ℕ Fault) → ((p : ℕ) → x ≡ Ok p → P (Ok (Ignored p))) → ((f : Fault) → x ≡ Err f → P (Err f)) → P (ignored x)
-ignored_either P (Ok p) h i = h p refl
-ignored_either P (Err f) h i = i f refl

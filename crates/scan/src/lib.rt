@@ -54,11 +54,13 @@ fn nc_name_end(s: &[u8], classes: &ClassTable, from: usize) -> usize
 // A name from its first colon on.
 #[tactic(auto, using(crate::proofs::Prefixes::named))]
 fn prefixed(s: &[u8], classes: &ClassTable, first: usize) -> Name
-    requires { (first < length s.now) × (get_or s.now first 0 ≡ 58) }
+    requires inside { first < length s.now }
+    requires colon { get_or s.now first 0 ≡ 58 }
     ensures { Scanned s.now first result }
 {
     let mut last = first;
     let mut end = nc_name_end(s, classes, first + 1);
+    // The next place is what the call found, so no range has it.
     while end < s.len() && s[end] == b':' {
         last = end;
         end = nc_name_end(s, classes, last + 1);
@@ -85,11 +87,14 @@ pub fn name_at(s: &[u8], classes: &ClassTable, from: usize) -> Name
 // Past the first place of the key, or a fault where the search began.
 #[tactic(auto, using(crate::proofs::Seek::seeks))]
 pub fn until(s: &[u8], from: usize, key: &[u8], number: u32) -> Result<usize, Fault>
-    requires { (from ≤ length s.now) × (0 < length key.now) × (length key.now < 256) }
+    requires in_bounds { from ≤ length s.now }
+    requires nonempty { 0 < length key.now }
+    requires short { length key.now < 256 }
     ensures { Scans (seek number key.now from) s.now from result }
 {
     let first = key[0];
     let mut at = slices::find(s, from, first);
+    // The next place is what the call found, so no range has it.
     while at < s.len() {
         if slices::starts_at(s, at, key) {
             return Ok(at + key.len());
@@ -142,6 +147,7 @@ fn declaration(s: &[u8], from: usize) -> Result<usize, Fault>
 {
     let mut at = from;
     let mut depth = 0;
+    // A quote moves the place by what the call found, so no range has it.
     while at < s.len() {
         let b = s[at];
         if is_quote(b) {
@@ -195,13 +201,14 @@ pub fn markup_at(s: &[u8], at: usize) -> Result<Markup, Fault>
     }
 }
 
-// Past what is ignorable: the place of the next tag's `<`, or the length.
+// Past what is ignorable: the place of the next tag's `<`, or the length, as the definition answers.
 #[tactic(auto, using(crate::proofs::Ignoring::ignores))]
 pub fn ignorable(s: &[u8], from: usize) -> Result<usize, Fault>
     requires { from ≤ length s.now }
     ensures { Scans ignorable s.now from result }
 {
-    let mut at = slices::find_near(s, from, b'<');
+    let mut at = slices::find(s, from, b'<');
+    // The next place is what the call found, so no range has it.
     while at < s.len() {
         match markup_at(s, at)? {
             Markup::Tag => return Ok(at),

@@ -6,7 +6,7 @@ ghost use Rattle.scan.specs.Classes.{Classes, white, escapable, nc_name_byte};
 #[derive(Clone, Copy)]
 pub struct ClassTable {
     bytes: [u8; 256],
-    ghost classes: { Classes bytes },
+    pub ghost classes: { Classes bytes },
 }
 
 // 1 for white space, 2 for a name's byte other than the colon, 4 for what is escaped, added up.

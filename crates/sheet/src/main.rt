@@ -39,7 +39,7 @@ fn read<F: Read + Drop>(file: Result<F>, document: &mut [u8]) -> Result<usize>
     ensures { IfOk result (λ n. n ≤ length document.old) }
 {
     let mut file = file?;
-    output::input::read_all(&mut file, document)
+    output::input::read_all(&mut file, document).map_err(|stopped| stopped.why)
 }
 
 // Adds what came of a file. The buffer has room for one byte more than the program takes.
@@ -75,15 +75,16 @@ fn add_name<R: Files>(rt: &R, counts: &mut [u32; 128], name: &[u8])
 fn add_names<R: Files>(rt: &R, counts: &mut [u32; 128], list: &[u8]) -> bool
     ensures { Sums list.now counts.old counts.new result }
 {
-    let mut at = 0;
+    let mut rest = list;
     let mut names: usize = 0;
-    while let Some(place) = sheets::file_names::next(list, at) {
+    // A cursor and not `for`: what is left of the list begins where the name that was found ends.
+    while let Some((name, after)) = sheets::file_names::next(rest) {
         if names == 512 {
             return true;
         }
-        add_name(rt, counts, &list[place.from..place.to]);
+        add_name(rt, counts, name);
         names += 1;
-        at = place.to;
+        rest = after;
     }
     false
 }
@@ -113,7 +114,7 @@ fn put_answer<R: Files>(rt: &R, out: &mut [u8], list: &[u8]) -> usize
 
 // Writes the sheet of the names on standard input, of which the buffer holds as many bytes as it has room for.
 fn run(rt: &HostRuntime, list: &mut [u8]) -> std::result::Result<(), Failure> {
-    let end = output::input::read_all(&mut rt.stdin(), list).map_err(Failure::Reading)?;
+    let end = output::input::read_all(&mut rt.stdin(), list)?;
     let mut out: [u8; 65536] = output::filled(0);
     let n = put_answer(rt, &mut out, &list[..end]);
     rt.write_all(output::front(&out, n))

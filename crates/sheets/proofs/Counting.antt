@@ -63,13 +63,7 @@ module _ {base word : ℕ} {c : List ℕ} (b : base ≤ 96) (l : length c ≡ 12
     above = λ p q. refl;
   }
 
-pub ruleset counts = (count_one, count_none, rules)
-
 -- ---- records
-
-firsts_none : (w n : ℕ) → firsts w n [] ≡ []
-firsts_none w zero = refl
-firsts_none w (suc n) = refl
 
 empty_list : (r : List ℕ) → length r ≡ 0 → r ≡ []
 empty_list [] e = refl

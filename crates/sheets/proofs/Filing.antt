@@ -8,12 +8,11 @@ use Rattle.files.specs.Files.{read_file, Reads}
 use Rattle.files.specs.declared.Reading.{Reading}
 use Rattle.sheets.specs.Sheet.{Outcome, unreadable, refused, Sheet, blank, added, summed, sheet_of}
 use Rattle.sheets.specs.Answer.{outcome_of}
-use Rattle.sheets.specs.Names.{names_of, looked, more, openable, IsNext, Next}
+use Rattle.sheets.specs.Names.{names_of, looked, more, openable}
 use Rattle.sheets.specs.Lines.{lines_of, more_line, long_line}
 use Rattle.sheets.specs.Counts.{Stands, Adds}
 use Rattle.sheets.specs.Printed.{Prints}
 use Rattle.sheets.specs.Files.{program_room, program_decoded, document_outcome, file_outcome, name_outcome, Came, AddsFile, AddsName, Sums, PrintsList}
-use Rattle.sheets.specs.declared.file_names.NamePlace.{NamePlace}
 
 -- ---- a document
 
@@ -92,20 +91,18 @@ came_many [] (o ∷ os) k = absurd k
 came_many (n ∷ ns) [] k = absurd k
 came_many (n ∷ ns) (o ∷ os) k = ap suc (came_many ns os k.1)
 
--- so many names were added, and those from a place on are left
-pub record Going (s before c : List ℕ) (at names : ℕ) : Type 0 where
+-- so many names were added, and those of the rest are left
+pub record Going (s before c after : List ℕ) (names : ℕ) : Type 0 where
   pub long : length c ≡ 128
-  pub within : at ≤ length s
   pub few : names ≤ 512
   pub front : List (List ℕ)
   pub many : length front ≡ names
-  pub rest : names_of s ≡ front ++ names_of (drop at s)
+  pub rest : names_of s ≡ front ++ names_of after
   pub stands : Stands 0 blank before → (os : List Outcome) × Came front os × Stands names (sheet_of os) c
 
-pub going_begins : {s c : List ℕ} → length c ≡ 128 → Going s c c 0 0
+pub going_begins : {s c : List ℕ} → length c ≡ 128 → Going s c c s 0
 going_begins l = record {
   long = l;
-  within = omega arith;
   few = omega arith;
   front = [];
   many = refl;
@@ -113,25 +110,20 @@ going_begins l = record {
   stands = λ t. ([], tt, t);
 }
 
-module _ {s before c : List ℕ} {at names : ℕ} {r : Option NamePlace} (g : Going s before c at names) (n : Next s at r) where
-  next_is : (x : Option NamePlace) → r ≡ x → IsNext s at x
-  next_is x e = subst (λ (y : Option NamePlace). IsNext s at y) e n.is
-
+module _ {s before c left : List ℕ} {names : ℕ} (g : Going s before c left names) where
   -- the names that were added, the next and the rest
-  going_rest : (p : NamePlace) → r ≡ Some p → names_of s ≡ g.front ++ (take (p.to - p.from) (drop p.from s) ∷ names_of (drop p.to s))
-  going_rest p e = g.rest ∙ ap (λ (l : List (List ℕ)). g.front ++ l) (next_is (Some p) e).2
+  going_rest : {m : List ℕ} (after : List ℕ) → names_of left ≡ m ∷ names_of after → names_of s ≡ g.front ++ (m ∷ names_of after)
+  going_rest after e = g.rest ∙ ap (λ (l : List (List ℕ)). g.front ++ l) e
 
-  pub going_more : (p : NamePlace) {c' : List ℕ} → r ≡ Some p → (names ≡ 512 → ⊥) → length c' ≡ length c → AddsName (take (p.to - p.from) (drop p.from s)) c c' → Going s before c' p.to (names + 1)
-  going_more p {c'} e h l w =
-      let m : List ℕ = take (p.to - p.from) (drop p.from s) in
+  pub going_more : {m : List ℕ} (after : List ℕ) {c' : List ℕ} → names_of left ≡ m ∷ names_of after → (names ≡ 512 → ⊥) → length c' ≡ length c → AddsName m c c' → Going s before c' after (names + 1)
+  going_more {m} after {c'} e h l w =
       let o : Outcome = name_outcome m w.failed w.bytes in
       record {
         long = l ∙ g.long;
-        within = (next_is (Some p) e).1;
         few = omega (arith, g.few);
         front = g.front ++ (m ∷ []);
         many = length-append g.front (m ∷ []) ∙ omega (arith, g.many);
-        rest = going_rest p e ∙ sym (append_assoc g.front (m ∷ []) (names_of (drop p.to s)));
+        rest = going_rest after e ∙ sym (append_assoc g.front (m ∷ []) (names_of after));
         stands = λ t.
             let u = g.stands t in
             let v = w.adds.stands names (sheet_of u.0) (omega (arith, g.few)) u.2 in (
@@ -154,16 +146,16 @@ module _ {s before c : List ℕ} {at names : ℕ} {r : Option NamePlace} (g : Go
         );
   }
 
-  pub going_ends : r ≡ None → Sums s before c false
+  pub going_ends : names_of left ≡ [] → Sums s before c false
   going_ends e =
-      let p : names_of s ≡ g.front = g.rest ∙ ap (λ (l : List (List ℕ)). g.front ++ l) (next_is None e) ∙ append-nil g.front in
+      let p : names_of s ≡ g.front = g.rest ∙ ap (λ (l : List (List ℕ)). g.front ++ l) e ∙ append-nil g.front in
       ended (ap (take 512) p ∙ take_all 512 g.front (omega (arith, g.many, g.few)))
       (sym (ap (λ (l : List (List ℕ)). ltb 512 (length l)) p ∙ le-ltb 512 (length g.front) (omega (arith, g.many, g.few))))
 
-  pub going_full : (n : NamePlace) → r ≡ Some n → names ≡ 512 → Sums s before c true
-  going_full n e h =
-      let p = going_rest n e in
-      let q : List (List ℕ) = take (n.to - n.from) (drop n.from s) ∷ names_of (drop n.to s) in
+  pub going_full : {m : List ℕ} (after : List ℕ) → names_of left ≡ m ∷ names_of after → names ≡ 512 → Sums s before c true
+  going_full {m} after e h =
+      let p = going_rest after e in
+      let q : List (List ℕ) = m ∷ names_of after in
       let l : 512 < length (g.front ++ q) = omega (arith, length-append g.front q, g.many, h) in
       ended (ap (take 512) p ∙ take_at g.front q 512 (omega (arith, g.many, h)))
       (sym (ap (λ (x : List (List ℕ)). ltb 512 (length x)) p ∙ lt-ltb 512 (length (g.front ++ q)) l))

@@ -1,13 +1,13 @@
 -- The next name of a list, and names that are opened.
 -- Assumes nothing.
-use Rattle.std.proofs.Common.{◌≡◌, ℕ, suc, ◌+◌, ◌-◌, ◌<◌, ◌≤◌, Bool, true, false, ◌&&◌, eqb, leb, List, [], ◌∷◌, length, get_or, take, drop, sym, refl, ap, ◌∙◌, add-one, arith, length-drop, drop_of_length-le, drop-cons, Some, None, rules, le-leb, eq-eqb, ne_eqb}
+use Rattle.std.proofs.Common.{◌≡◌, ℕ, suc, ◌+◌, ◌-◌, ◌<◌, ◌≤◌, Bool, true, false, ◌&&◌, eqb, leb, List, [], ◌∷◌, length, get_or, take, drop, take_all, sym, refl, ap, ◌∙◌, add-one, arith, length-drop, drop_of_length-le, drop-cons, rules, le-leb, eq-eqb, ne_eqb}
 use native.Mathlib.Decide.{dec_lt}
 use borrow.Author.Tests.{not-false, lt-leb}
 use Rattle.slices.specs.Bytes.{if, other, span, past, all, empty}
 use Rattle.slices.specs.Run.{Run}
 use Rattle.slices.proofs.Runs.{span_end}
 use Rattle.slices.proofs.Ends.{run_length, run_span, run_rest, run_some}
-use Rattle.sheets.specs.Names.{later_lines, named, names_of, openable, Next}
+use Rattle.sheets.specs.Names.{later_lines, named, names_of, openable}
 
 -- ---- lines
 
@@ -71,23 +71,22 @@ module _ {s : List ℕ} {from r : ℕ} (n : Run (other 10) s from r) where
 
 -- ---- the loop
 
-pub record Seeking (s : List ℕ) (from at : ℕ) : Type 0 where
-  pub same : names_of (drop from s) ≡ names_of (drop at s)
-  pub within : at ≤ length s
+pub record Seeking (s : List ℕ) (at : ℕ) : Type 0 where
+  pub same : names_of s ≡ names_of (drop at s)
 
-pub seek_begins : {s : List ℕ} {from : ℕ} → from ≤ length s → Seeking s from from
-seek_begins h = record { same = refl; within = h }
+pub seek_begins : (s : List ℕ) → Seeking s 0
+seek_begins s = record { same = refl }
 
-module _ {s : List ℕ} {from at r : ℕ} (g : Seeking s from at) where
-  pub seek_more : Run (other 10) s at r → at < length s → r ≤ at → Seeking s from (r + 1)
-  seek_more n h l = record { same = g.same ∙ line_empty n l h; within = omega (arith, n.onward) }
+module _ {s : List ℕ} {at r : ℕ} (g : Seeking s at) (n : Run (other 10) s at r) where
+  pub seek_more : at < length s → r ≤ at → Seeking s (r + 1)
+  seek_more h l = record { same = g.same ∙ line_empty n l h }
 
-  pub seek_found : Run (other 10) s at r → at < r → Next s from (Some (record { from = at; to = r }))
-  seek_found n h = record { is = (h, n.within, g.same ∙ name_here n h) }
+  pub seek_found : at < r → names_of s ≡ take (r - at) (drop at s) ∷ names_of (take (length s - r) (drop r s))
+  seek_found h = rw (take_all (length s - r) (drop r s) (rw length-drop (omega arith))) (g.same ∙ name_here n h)
 
-pub seek_ends : {s : List ℕ} {from at : ℕ} → Seeking s from at → length s ≤ at → Next s from None
+pub seek_ends : {s : List ℕ} {at : ℕ} → Seeking s at → length s ≤ at → names_of s ≡ []
 unfolding names_of
-seek_ends {s} g h = record { is = g.same ∙ rw (drop_of_length-le s h) }
+seek_ends {s} g h = g.same ∙ rw (drop_of_length-le s h)
 
 pub ruleset seeking = (seek_begins, seek_more, seek_found, seek_ends, rules)
 

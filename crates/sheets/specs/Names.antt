@@ -1,8 +1,7 @@
 -- The names of a list of files, and which of them are opened (docs/FORMAT.md, Sheets).
 -- Assumes nothing.
-use Rattle.std.specs.Prelude.{◌≡◌, ℕ, ◌-◌, ◌<◌, ◌≤◌, Bool, ◌&&◌, List, [], ◌∷◌, length, take, drop, ◌==◌, nat_le, nat_lt, Option, None, Some}
+use Rattle.std.specs.Prelude.{ℕ, Bool, ◌&&◌, List, [], ◌∷◌, length, take, ◌==◌, nat_le, nat_lt}
 use Rattle.slices.specs.Bytes.{if, other, span, all, empty}
-use Rattle.sheets.specs.declared.file_names.NamePlace.{NamePlace}
 
 -- a line begins at the start and after each LF, and goes up to the next LF or to the end
 abbrev pub later_lines : List ℕ → List (List ℕ)
@@ -30,12 +29,3 @@ more s = nat_lt 512 (length (names_of s))
 -- what has more than 255 bytes or a zero byte is not opened
 unfoldable pub openable : List ℕ → Bool
 openable n = nat_le (length n) 255 && all (other 0) n
-
--- what looking for the next name from a place on comes to: there is none; or it stands between two places
-abbrev pub IsNext : List ℕ → ℕ → Option NamePlace → Type 0
-IsNext s from None = names_of (drop from s) ≡ []
-IsNext s from (Some p) =
-    (p.from < p.to) × (p.to ≤ length s) × (names_of (drop from s) ≡ take (p.to - p.from) (drop p.from s) ∷ names_of (drop p.to s))
-
-pub record Next (s : List ℕ) (from : ℕ) (r : Option NamePlace) : Type 0 where
-  pub is : IsNext s from r

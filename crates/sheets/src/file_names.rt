@@ -1,25 +1,19 @@
 // The names of a list of files: a line each.
-ghost use Rattle.std.specs.Prelude.{◌≡◌, ◌≤◌, length};
-ghost use Rattle.sheets.specs.Names.{openable, Next};
+ghost use Rattle.std.specs.Prelude.{◌≡◌, [], ◌∷◌, IfSome, IfNone};
+ghost use Rattle.sheets.specs.Names.{names_of, openable};
 
-// Where a name stands in a list: from its first byte up to its end.
-#[derive(Clone, Copy)]
-pub struct NamePlace {
-    pub from: usize,
-    pub to: usize,
-}
-
-// The first name from a place on, past empty lines.
+// The first name of a list, past empty lines, and what follows it.
 #[tactic(auto, using(crate::proofs::Naming::seeking))]
-pub fn next(list: &[u8], from: usize) -> Option<NamePlace>
-    requires { from ≤ length list.now }
-    ensures { Next list.now from result }
+pub fn next(list: &[u8]) -> Option<(&[u8], &[u8])>
+    ensures some { IfSome result (λ r. names_of list.now ≡ r.0.now ∷ names_of r.1.now) }
+    ensures none { IfNone result (names_of list.now ≡ []) }
 {
-    let mut at = from;
+    let mut at = 0;
+    // A cursor and not `for`: the next place is past the end of the line that was found.
     while at < list.len() {
         let end = slices::find(list, at, 10);
         if at < end {
-            return Some(NamePlace { from: at, to: end });
+            return Some((&list[at..end], &list[end..]));
         }
         at = end + 1;
     }

@@ -12,9 +12,8 @@ pub mod file_names;
 pub mod lines;
 
 // Counts a word below 32, at its place from `base` on.
-fn count(counts: &mut [u32], base: usize, word: u32)
+fn count(counts: &mut [u32; 128], base: usize, word: u32)
     requires inside { base ≤ 96 }
-    requires long { length counts.old ≡ 128 }
     ensures { Counted base (word ∷ []) counts.old counts.new }
 {
     if word < 32 {
@@ -25,9 +24,8 @@ fn count(counts: &mut [u32], base: usize, word: u32)
 
 // Counts word 0 of each of n records of `width` words, as far as the words go.
 #[tactic(auto, using(crate::proofs::Counting::counting))]
-fn count_firsts(counts: &mut [u32], base: usize, words: &[u32], n: usize, width: usize)
+fn count_firsts(counts: &mut [u32; 128], base: usize, words: &[u32], n: usize, width: usize)
     requires inside { base ≤ 96 }
-    requires long { length counts.old ≡ 128 }
     requires some { 0 < width }
     requires few { width ≤ 16 }
     ensures { Counted base (firsts width n words.now) counts.old counts.new }
@@ -39,8 +37,7 @@ fn count_firsts(counts: &mut [u32], base: usize, words: &[u32], n: usize, width:
 
 // Adds a name of which nothing could be read.
 #[tactic(auto, using(crate::proofs::Adding::adds))]
-pub fn add_unreadable(counts: &mut [u32])
-    requires { length counts.old ≡ 128 }
+pub fn add_unreadable(counts: &mut [u32; 128])
     ensures { Adds unreadable counts.old counts.new }
 {
     count(counts, 0, 2);
@@ -48,8 +45,7 @@ pub fn add_unreadable(counts: &mut [u32])
 
 // Adds a file that is refused with a number.
 #[tactic(auto, using(crate::proofs::Adding::adds))]
-pub fn add_refused(counts: &mut [u32], number: u32)
-    requires { length counts.old ≡ 128 }
+pub fn add_refused(counts: &mut [u32; 128], number: u32)
     ensures { Adds (refused number) counts.old counts.new }
 {
     count(counts, 0, 1);
@@ -58,8 +54,7 @@ pub fn add_refused(counts: &mut [u32], number: u32)
 
 // Adds a file that is accepted, with r rows and w warnings.
 #[tactic(auto, using(crate::proofs::Adding::adds))]
-fn add_accepted(counts: &mut [u32], rows: &[u32], r: usize, warnings: &[u32], w: usize)
-    requires long { length counts.old ≡ 128 }
+fn add_accepted(counts: &mut [u32; 128], rows: &[u32], r: usize, warnings: &[u32], w: usize)
     requires few_rows { length rows.now ≤ 16384 }
     requires few_warnings { length warnings.now ≤ 16384 }
     ensures { Adds (accepted (firsts 16 r rows.now) (firsts 4 w warnings.now))
@@ -72,8 +67,7 @@ fn add_accepted(counts: &mut [u32], rows: &[u32], r: usize, warnings: &[u32], w:
 
 // Adds a file of which the reader answered so, and left these rows and warnings.
 #[tactic(auto, using(crate::proofs::Adding::adds))]
-pub fn add(counts: &mut [u32], v: Verdict, rows: &[u32], warnings: &[u32])
-    requires long { length counts.old ≡ 128 }
+pub fn add(counts: &mut [u32; 128], v: Verdict, rows: &[u32], warnings: &[u32])
     requires few_rows { length rows.now ≤ 16384 }
     requires few_warnings { length warnings.now ≤ 16384 }
     ensures { Adds (outcome_of v rows.now warnings.now) counts.old counts.new }

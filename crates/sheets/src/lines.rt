@@ -38,10 +38,9 @@ fn put_line(out: &mut [u8], n: usize, letter: u8, number: u32, count: u32) -> us
 }
 
 // Puts the lines of 32 numbers, whose counts stand from `base` on.
-fn put_lines(out: &mut [u8], n: usize, letter: u8, counts: &[u32], base: usize) -> usize
+fn put_lines(out: &mut [u8], n: usize, letter: u8, counts: &[u32; 128], base: usize) -> usize
     requires room { n + 4096 < 2 ^ 40 }
     requires inside { base ≤ 96 }
-    requires long { length counts.now ≡ 128 }
     ensures { PutsFew 768 (lines_by letter (counts_from counts.now base)) n out.old
         out.new result }
 {
@@ -53,8 +52,7 @@ fn put_lines(out: &mut [u8], n: usize, letter: u8, counts: &[u32], base: usize) 
 }
 
 // Puts the line of the files.
-fn put_files(out: &mut [u8], counts: &[u32]) -> usize
-    requires { length counts.now ≡ 128 }
+fn put_files(out: &mut [u8], counts: &[u32; 128]) -> usize
     ensures { PutsFew 33 (files_of counts.now) 0 out.old out.new result }
 {
     let a = put_number(out, 0, counts[0]);
@@ -77,9 +75,8 @@ fn put_more(out: &mut [u8], n: usize, more: bool) -> usize
 
 // Puts the lines by number, kind and reason.
 #[tactic(auto, using(crate::proofs::Lining::all_lines))]
-fn put_all_lines(out: &mut [u8], n: usize, counts: &[u32]) -> usize
+fn put_all_lines(out: &mut [u8], n: usize, counts: &[u32; 128]) -> usize
     requires room { n + 8192 < 2 ^ 40 }
-    requires long { length counts.now ≡ 128 }
     ensures { PutsFew 2304 (all_lines_lem counts.now) n out.old out.new result }
 {
     let a = put_lines(out, n, b'r', counts, 32);
@@ -88,8 +85,7 @@ fn put_all_lines(out: &mut [u8], n: usize, counts: &[u32]) -> usize
 }
 
 // Puts the lines of a sheet whose counts these are.
-pub fn put_sheet(out: &mut [u8], counts: &[u32], more: bool) -> usize
-    requires long { length counts.now ≡ 128 }
+pub fn put_sheet(out: &mut [u8], counts: &[u32; 128], more: bool) -> usize
     requires room { 8192 ≤ length out.old }
     ensures { Prints counts.now more out.new result }
 {

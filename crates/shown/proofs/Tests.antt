@@ -8,6 +8,10 @@ use mathlib.Core.Bool.{Bool, true, false, and-false}
 use borrow.Author.Rules.{rules}
 use borrow.Author.Tests.{lt-leb}
 use native.Mathlib.Omega.{arith}
+use Rattle.std.specs.Prelude.{min}
+use Rattle.std.proofs.lemmas.Bool.{ltb-true, ltb-false}
+use Rattle.std.proofs.Math.Dec.{ltb}
+use Rattle.std.proofs.Math.Nat.{min-eq_left, min-eq_right}
 use lib.ListN.{length, take}
 use lib.Seq.{length-take-le, ext_get_or, get_or-take}
 use Rattle.slices.specs.Bytes.{if, bytes, same}
@@ -22,6 +26,7 @@ use Rattle.references.proofs.Shapes.{unescape_plain}
 use Rattle.document.specs.Tags.{Shown}
 use Rattle.document.specs.Elements.{some_signature, access_of, direction_of}
 use Rattle.document.specs.Outcome.{Held, Raw}
+use Rattle.document.specs.declared.Form.TheVariants.{Plain}
 use Rattle.document.specs.declared.Value.{Value}
 use Rattle.document.proofs.Held.{held_plain, held_raw, held_puts}
 use Rattle.shown.specs.Outcome.{Changed, Tests, Short}
@@ -36,17 +41,22 @@ module _ {doc : List ℕ} {v : Value} {r t t' : List ℕ} {n : ℕ} (w : Raw doc
   stands_for : (s : Shown) → Held doc v s → Rep 1 t' n s.value
   stands_for s h = (held_puts h w g).stands [] (empty_stands 1 t)
 
-  pub changed_long : 255 < n → Changed doc v t' 256
-  changed_long l = record {
-    inside = omega arith;
-    is = λ s h. inr ((omega arith), (omega (arith, (stands_for s h).many)));
-  }
-
-  pub changed_short : n ≤ 255 → Changed doc v t' n
-  changed_short l = record { inside = omega arith; is = λ s h. inl (stands_read (stands_for s h) (omega arith)) }
+  -- the count of the bytes, or 256 where there are more than 255
+  pub changed_is : {q : ℕ} → q ≡ min n 256 → Changed doc v t' q
+  changed_is {q} e = go (ltb 255 n) refl
+    where
+      go : (b : Bool) → ltb 255 n ≡ b → Changed doc v t' q
+      go true l =
+          let z : 255 < n = ltb-true 255 n l in
+          let c : q ≡ 256 = e ∙ min-eq_right (omega (arith, z)) in
+          record { inside = omega (arith, c); is = λ s h. inr ((omega (arith, c)), (omega (arith, z, (stands_for s h).many))) }
+      go false l =
+          let z : n ≤ 255 = ltb-false 255 n l in
+          let c : q ≡ n = e ∙ min-eq_left (omega (arith, z)) in
+          record { inside = omega (arith, c, z); is = λ s h. inl (rw c (stands_read (stands_for s h) (omega (arith, z)))) }
 
 module _ {A : Type 0} {p : List ℕ → A} {doc : List ℕ} {v : Value} {r : A} where
-  pub tests_plain : {x : List ℕ} → v.kind ≡ 1 → Raw doc v x → r ≡ p x → Tests p doc v r
+  pub tests_plain : {x : List ℕ} → v.form ≡ Plain → Raw doc v x → r ≡ p x → Tests p doc v r
   tests_plain k w e = record {
     is = λ s h.
         let q : text s.attr.raw ≡ text s.value = sym (unescape_plain s.attr.raw (held_plain h k)) ∙ h.shows in
@@ -62,10 +72,6 @@ module _ {A : Type 0} {p : List ℕ → A} {doc : List ℕ} {v : Value} {r : A} 
         (λ f. e ∙ q.long (take n t) (omega (arith, f.0, length-take-le n t g.inside)) ∙ sym (q.long s.value f.1))
         (g.is s h);
   }
-
--- the beginning of the buffer has as many bytes as are shown
-pub part_counted : {doc t : List ℕ} {v : Value} {n : ℕ} → Changed doc v t n → n ≡ length (take n t)
-part_counted {t = t} {n = n} g = sym (length-take-le n t g.inside)
 
 -- ---- what is longer than 255 bytes is none of these
 
@@ -123,9 +129,5 @@ first-is b x y e f g = rw (sym e ∙ f) g
 pub later_is : (b : Bool) {t : Bool} (x y : ℕ) {z : ℕ} → t ≡ b → t ≡ false → z ≡ y → z ≡ if b x y
 later_is b x y e f g = rw (sym e ∙ f) g
 
--- what answers every need of unescaping, of the tests on a text and of those on a value
-pub ruleset changes = (changed_long, changed_short, rules)
-
+-- what answers every need of the tests on a text
 pub ruleset texts = (some_empty, some_there, first-is, later_is, rules)
-
-pub ruleset tests = (part_counted, tests_plain, tests_changed, short_interface, short_member, short_property, short_signature, short_some, short_basic, short_access, short_direction, rules)

@@ -1,6 +1,8 @@
 -- What the tests on the text that a value shows say.
 -- Assumes nothing.
 use Rattle.std.specs.Prelude.{ℕ, ◌≤◌, ◌<◌, ◌≡◌, ◌⊎◌, List, length, take}
+use Rattle.std.specs.Borrow.{Bor}
+use Rattle.std.specs.Fn.{Shared}
 use Rattle.document.specs.Tags.{Shown}
 use Rattle.document.specs.Outcome.{Held}
 use Rattle.document.specs.declared.Value.{Value}
@@ -17,3 +19,7 @@ pub record Tests {A : Type 0} (p : List ℕ → A) (doc : List ℕ) (v : Value) 
 -- the function says d of every text of more than 255 bytes
 pub record Short {A : Type 0} (p : List ℕ → A) (d : A) : Type 0 where
   pub long : (s : List ℕ) → 255 < length s → p s ≡ d
+
+-- a test of texts answers as the function does
+abbrev pub Says : {F A : Type 0} → Shared F (Bor (List ℕ) × Unit {0}) A → F → (List ℕ → A) → Type 0
+Says g f p = (x : Bor (List ℕ)) (r : _) → g.post f (x, tt) r → r ≡ p x.now

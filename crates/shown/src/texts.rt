@@ -2,40 +2,39 @@
 ghost use Rattle.std.specs.Prelude.{◌≡◌};
 ghost use Rattle.document.specs.Elements.{access_of, direction_of, some_signature};
 
+#[tactic(auto, using(crate::proofs::Tests::texts))]
 pub fn some_signature(s: &[u8]) -> bool
     ensures { result ≡ some_signature s.now }
 {
-    if s.len() == 0 {
-        return false;
-    }
-    names::signature(s)
+    !s.is_empty() && names::signature(s)
 }
 
-// The number of an access, or 0.
+// The number of an access, or 0: so the definition and the row's word have it.
+#[tactic(auto, using(crate::proofs::Tests::texts))]
 pub fn access(s: &[u8]) -> u32
     ensures { result ≡ access_of s.now }
 {
     if slices::equal(s, b"read") {
-        return 1;
+        1
+    } else if slices::equal(s, b"write") {
+        2
+    } else if slices::equal(s, b"readwrite") {
+        3
+    } else {
+        0
     }
-    if slices::equal(s, b"write") {
-        return 2;
-    }
-    if slices::equal(s, b"readwrite") {
-        return 3;
-    }
-    0
 }
 
-// The number of a direction, or 0.
+// The number of a direction, or 0: so the definition and the row's word have it.
+#[tactic(auto, using(crate::proofs::Tests::texts))]
 pub fn direction(s: &[u8]) -> u32
     ensures { result ≡ direction_of s.now }
 {
     if slices::equal(s, b"in") {
-        return 1;
+        1
+    } else if slices::equal(s, b"out") {
+        2
+    } else {
+        0
     }
-    if slices::equal(s, b"out") {
-        return 2;
-    }
-    0
 }

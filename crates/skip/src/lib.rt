@@ -27,6 +27,7 @@ pub fn skip_element(
     ensures { Passes doc.now from at len depth result }
 {
     let mut here = from;
+    // The next tag begins where the one before ends.
     loop {
         match step(doc, classes, here, at, len)? {
             Next::Close(closing) => return Ok(closing),

@@ -5,36 +5,9 @@ use native.Mathlib.Decide.{dec_lt}
 use Rattle.slices.specs.Bytes.{other}
 use Rattle.slices.specs.Run.{Blocks, Run, Told, Without, Sought}
 use Rattle.slices.specs.Word.{Equal}
-use Rattle.slices.proofs.Runs.{Running, run_begins, run_more, run_stops, run_ends, other_false, other_true}
-
-pub told_none : {s : List ℕ} {from b : ℕ} {t : Bool} → Told s from 0 b t
-told_none = record { none = λ e i h. absurd (omega (arith, h)) }
-
-module _ {s : List ℕ} {from i b : ℕ} {t : Bool} (g : Told s from i b t) where
-  pub told_hit : {r : Bool} → r ≡ true → Told s from (i + 1) b r
-  told_hit e = record { none = λ f. absurd (subst T (sym e ∙ f) tt) }
-
-  pub told_other : {r : Bool} → (get_or s (from + i) 0 ≡ b → ⊥) → r ≡ t → Told s from (i + 1) b r
-  told_other {r} h e = record { none = λ f j l x. go f j l x (dec_lt j i) }
-    where
-      go : r ≡ false → (j : ℕ) → j < i + 1 → get_or s (from + j) 0 ≡ b → Dec (j < i) → ⊥
-      go f j l x (yes k) = g.none (sym e ∙ f) j k x
-      go f j l x (no k) =
-          let z : i ≡ j = omega (arith, l, k) in
-          h (ap (λ o. get_or s (from + o) 0) z ∙ x)
-
-pub told_all : {s : List ℕ} {from i b : ℕ} {t : Bool} → Told s from i b t → 32 ≤ i → Told s from 32 b t
-told_all g h = record { none = λ f j l. g.none f j (omega (arith, h, l)) }
-
-pub ruleset tells = (told_none, told_hit, told_other, told_all, rules)
-
-pub without_none : {s : List ℕ} {b from : ℕ} → from ≤ length s → Without s b from from
-without_none h = record { onward = omega arith; within = h; none = λ i a l. absurd (omega (arith, a, l)) }
+use Rattle.slices.proofs.Runs.{Running, run_begins, run_more, other_true}
 
 -- ---- blocks that pass a test
-
-pub blocks_none : {answers : ℕ → Bool → Type 0} {s : List ℕ} {from n : ℕ} → from ≤ length s → Blocks answers s from n from
-blocks_none h = record { onward = omega arith; within = h; each = λ i a l. absurd (omega (arith, a, l)) }
 
 pub blocks_more : {answers : ℕ → Bool → Type 0} {s : List ℕ} {from n at : ℕ} {r : Bool} → Blocks answers s from n at → n ≤ length s - at → answers at r → r ≡ true → Blocks answers s from n (at + n)
 blocks_more {answers} {s} {from} {n} {at} g h p e = record {
@@ -106,12 +79,6 @@ without_running {s} {b} {from} {r} g =
 pub sought_running : {s : List ℕ} {b from at end r : ℕ} → Without s b from at → Sought s b at end r → Running (other b) s from r
 sought_running g k = without_running (without_join g k.without)
 
--- b stands where a search by 4 words ended before their end
-pub near_found : {s : List ℕ} {b from r : ℕ} → Sought s b from (from + 32) r → r < from + 32 → from ≤ length s → 32 ≤ length s - from → Run (other b) s from r
-near_found {s} {b} {from} {r} g h k l = run_stops (without_running g.without) (omega arith) (other_false (get_or s r 0) b (g.found h))
-
 -- a run that goes on from a place up to which it went
 pub run_join : {p : ℕ → Bool} {s : List ℕ} {from at r : ℕ} → Running p s from at → Run p s at r → Run p s from r
 run_join g n = record { ends = n.ends ∙ sym g.left; onward = omega (arith, g.since, n.onward); within = n.within }
-
-pub ruleset finds = (without_running, sought_running, near_found, run_join, run_more, run_stops, run_ends, other_false, other_true, rules)

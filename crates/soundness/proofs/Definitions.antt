@@ -23,7 +23,7 @@ use Rattle.items.specs.Order.{parent_at, Under, DocumentOrder}
 use Rattle.items.proofs.Rows.{length_rows_of, row-at, row_word}
 use Rattle.items.proofs.Words.{word_in}
 use Rattle.items.proofs.Order.{under_up, under_before, follow_falls, run_ends}
-use Rattle.soundness.specs.Outcome.{Follows, Orders, Member, members_from, FirstMember, NextMember, Keyed, Counted}
+use Rattle.soundness.specs.Outcome.{Follows, Orders, Member, members_from, FirstMember, NextMember, Basic, Keyed, Counted}
 
 -- ---- document order
 
@@ -168,6 +168,11 @@ pub ruleset seeks = (seek_begins, seek_ends, seek_run_ends, seek_found, seek_mor
 
 -- ---- a mapping's, and those that a kind needs
 
+pub basic : {d x ws : List ℕ} {k : ℕ} {t : Triple} {s : List ℕ} {r : Bool} → TripleIs ws k 5 t → s ≡ shown d x t → r ≡ basic_signature s → Basic d x ws k r
+basic w e q = record { is = q ∙ rw (e, w.is) }
+
+pub ruleset basics = (basic, rules)
+
 module _ (d x : List ℕ) {ws : List ℕ} {n i : ℕ} where
   pub no_key : NextMember ws n i (i + 1) None → Keyed d x ws n i false
   no_key a = record { is = rw (rw add-one at (a.none refl)) }
@@ -191,11 +196,11 @@ module _ (d x : List ℕ) {ws : List ℕ} {n i : ℕ} where
             go (Some j) e = record { is = rw (first, second, rw add-one at (c.some j e).is) }
             go None e = let z : ◌≡◌ {A = Bool} false true = rw (e, h) at l in let w : ◌≡◌ {A = ℕ} 0 1 = cc in absurd (omega arith)
 
-        pub a_pair : {t : Triple} {s : List ℕ} {r : Bool} → o ≡ true → TripleIs ws k 5 t → s ≡ shown d x t → r ≡ basic_signature s → Keyed d x ws n i r
-        a_pair {t} {s} {r} h w e q = go m refl
+        pub a_pair : {r : Bool} → o ≡ true → Basic d x ws k r → Keyed d x ws n i r
+        a_pair {r} h w = go m refl
           where
             go : (y : Option ℕ) → m ≡ y → Keyed d x ws n i r
-            go None f = record { is = rw (first, second, rw add-one at (c.none f)) (q ∙ rw (e, w.is)) }
+            go None f = record { is = rw (first, second, rw add-one at (c.none f)) w.is }
             go (Some j) f = let z : ◌≡◌ {A = Bool} true false = rw (f, h) at l in let y : ◌≡◌ {A = ℕ} 0 1 = cc in absurd (omega arith)
 
 -- where a member is, and the next search begins

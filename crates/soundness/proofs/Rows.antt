@@ -24,7 +24,9 @@ use Rattle.items.specs.Sound.{kind_at, placed, good_triple, name_use, value_use,
 use Rattle.items.specs.Order.{DocumentOrder}
 use Rattle.items.proofs.Rows.{row-at, rows_past, kind_at_lem}
 use Rattle.items.proofs.Words.{word_in}
-use Rattle.soundness.specs.Outcome.{good_doc, good_front, good_back, Placed, Front, Back, RowGood, Orders, Counted, Tallied, ByTally, Prepared, RowSound, FirstBad, Judges}
+use Rattle.soundness.specs.Outcome.{good_doc, good_texts, Placed, Texts, RowGood, Orders, Counted, Tallied, ByTally, Prepared, RowSound, FirstBad, Judges}
+use Rattle.soundness.specs.declared.tally.Tally.{Tally}
+use Rattle.soundness.specs.declared.tally.Tally.TheVariants.{Empty}
 use Rattle.soundness.proofs.Tallies.{tally_begins, tally_counts}
 
 -- ---- the place of a row
@@ -69,38 +71,44 @@ pub ruleset places = (root_kind, root_parent, no_parent, late_parent, parent_hol
 -- ---- its texts
 
 module _ (d x : List ℕ) {ws : List ℕ} {i k : ℕ} (a : Word ws i 0 k) where
-  module _ {t : Triple} {b : Bool} (e : TripleIs ws i 2 t) (h : b ≡ good_triple d x (name_use k) (valid_name k) t) where
-    named : good_triple d x (name_use (get_or (drop (i * 16) ws) 0 0)) (valid_name (get_or (drop (i * 16) ws) 0 0)) (triple_at 2 (drop (i * 16) ws)) ≡ b
+  module _ {t : Triple} {n : Bool} (e : TripleIs ws i 2 t) (h : n ≡ good_triple d x (name_use k) (valid_name k) t) where
+    named : good_triple d x (name_use (get_or (drop (i * 16) ws) 0 0)) (valid_name (get_or (drop (i * 16) ws) 0 0)) (triple_at 2 (drop (i * 16) ws)) ≡ n
     named = sym (rw (← word_in a, ← e.is) h)
 
-    pub no_name : b ≡ false → Front d x ws i false
-    unfolding good_front
+    pub no_name : n ≡ false → Texts d x ws i false
+    unfolding good_texts
     no_name q = record { is = rw (named ∙ q) }
 
-    pub name_and_value : {s : Triple} {r : Bool} → b ≡ true → TripleIs ws i 5 s → r ≡ good_triple d x (value_use k) (valid_value k) s → Front d x ws i r
-    unfolding good_front
-    name_and_value q f v = record { is = rw (named ∙ q, ← word_in a, ← f.is) v }
+  module _ {t : Triple} {v : Bool} (e : TripleIs ws i 5 t) (h : v ≡ good_triple d x (value_use k) (valid_value k) t) where
+    valued : good_triple d x (value_use (get_or (drop (i * 16) ws) 0 0)) (valid_value (get_or (drop (i * 16) ws) 0 0)) (triple_at 5 (drop (i * 16) ws)) ≡ v
+    valued = sym (rw (← word_in a, ← e.is) h)
 
-  module _ {t : Triple} {b : Bool} (e : TripleIs ws i 8 t) (h : b ≡ good_triple d x (tp_use k) any_text t) where
-    typed : good_triple d x (tp_use (get_or (drop (i * 16) ws) 0 0)) any_text (triple_at 8 (drop (i * 16) ws)) ≡ b
+    pub no_value : v ≡ false → Texts d x ws i false
+    unfolding good_texts
+    no_value q = record { is = rw (valued ∙ q, and-false) }
+
+  module _ {t : Triple} {p : Bool} (e : TripleIs ws i 8 t) (h : p ≡ good_triple d x (tp_use k) any_text t) where
+    typed : good_triple d x (tp_use (get_or (drop (i * 16) ws) 0 0)) any_text (triple_at 8 (drop (i * 16) ws)) ≡ p
     typed = sym (rw (← word_in a, ← e.is) h)
 
-    pub no_tp : b ≡ false → Back d x ws i false
-    unfolding good_back
-    no_tp q = record { is = rw (typed ∙ q) }
+    pub no_tp : p ≡ false → Texts d x ws i false
+    unfolding good_texts
+    no_tp q = record { is = rw (typed ∙ q, and-false) }
 
-    pub tp_and_doc : {s : Triple} {r : Bool} → b ≡ true → TripleIs ws i 11 s → r ≡ good_doc d x k s → Back d x ws i r
-    unfolding good_back
-    tp_and_doc q f v = record { is = rw (typed ∙ q, ← word_in a, ← f.is) v }
+  pub last_text : {t₁ t₂ t₃ t₄ : Triple} {n v p r : Bool} → TripleIs ws i 2 t₁ → n ≡ good_triple d x (name_use k) (valid_name k) t₁ → n ≡ true → TripleIs ws i 5 t₂ → v ≡ good_triple d x (value_use k) (valid_value k) t₂ → v ≡ true → TripleIs ws i 8 t₃ → p ≡ good_triple d x (tp_use k) any_text t₃ → p ≡ true → TripleIs ws i 11 t₄ → r ≡ good_doc d x k t₄ → Texts d x ws i r
+  unfolding good_texts
+  last_text e₁ h₁ q₁ e₂ h₂ q₂ e₃ h₃ q₃ e₄ h₄ = record {
+    is = rw (named e₁ h₁ ∙ q₁, valued e₂ h₂ ∙ q₂, typed e₃ h₃ ∙ q₃, ← word_in a, ← e₄.is) h₄;
+  }
 
-pub ruleset texts = (no_name, name_and_value, no_tp, tp_and_doc, rules)
+pub ruleset texts = (no_name, no_value, no_tp, last_text, rules)
 
 -- ---- the row but for its members
 
 -- a row's clauses, as the code takes them
 module _ (d x : List ℕ) (rows : List RowWords) (i : ℕ) (r : RowWords) where
-  grouped : good_row d x rows i r ≡ placed rows i r && good_front d x r && good_back d x r && valid_word r.kind r.word && ltb r.at (length d)
-  unfolding good_row good_front good_back good_doc
+  grouped : good_row d x rows i r ≡ placed rows i r && good_texts d x r && valid_word r.kind r.word && ltb r.at (length d)
+  unfolding good_row good_texts good_doc
   grouped =
       go
       (placed rows i r)
@@ -112,7 +120,7 @@ module _ (d x : List ℕ) (rows : List RowWords) (i : ℕ) (r : RowWords) where
       (valid_word r.kind r.word)
       (ltb r.at (length d))
     where
-      go : (p n v t o s w l : Bool) → p && n && v && t && o && s && w && l ≡ p && (n && v) && (t && (o && s)) && w && l
+      go : (p n v t o s w l : Bool) → p && n && v && t && o && s && w && l ≡ p && (n && v && t && (o && s)) && w && l
       go false n v t o s w l = refl
       go true false v t o s w l = refl
       go true true false t o s w l = refl
@@ -123,11 +131,8 @@ module _ (d x ws : List ℕ) (i : ℕ) where
   pub not_placed : {b : Bool} → Placed ws i b → b ≡ false → RowGood d x ws i false
   not_placed {b} p q = record { is = λ n l. sym (grouped d x (rows_of n ws) i (row_of (drop (i * 16) ws)) ∙ rw (sym (p.is n l) ∙ q)) }
 
-  pub bad_front : {b : Bool} → Front d x ws i b → b ≡ false → RowGood d x ws i false
-  bad_front {b} p q = record { is = λ n l. sym (grouped d x (rows_of n ws) i (row_of (drop (i * 16) ws)) ∙ rw (sym p.is ∙ q, and-false)) }
-
-  pub bad_back : {b : Bool} → Back d x ws i b → b ≡ false → RowGood d x ws i false
-  bad_back {b} p q = record { is = λ n l. sym (grouped d x (rows_of n ws) i (row_of (drop (i * 16) ws)) ∙ rw (sym p.is ∙ q, and-false)) }
+  pub bad_texts : {b : Bool} → Texts d x ws i b → b ≡ false → RowGood d x ws i false
+  bad_texts {b} p q = record { is = λ n l. sym (grouped d x (rows_of n ws) i (row_of (drop (i * 16) ws)) ∙ rw (sym p.is ∙ q, and-false)) }
 
   module _ {k v : ℕ} {w : Bool} (a : Word ws i 0 k) (c : Word ws i 14 v) (e : w ≡ valid_word k v) where
     word : valid_word (get_or (drop (i * 16) ws) 0 0) (get_or (drop (i * 16) ws) 14 0) ≡ w
@@ -136,15 +141,15 @@ module _ (d x ws : List ℕ) (i : ℕ) where
     pub bad_word : w ≡ false → RowGood d x ws i false
     bad_word q = record { is = λ n l. sym (grouped d x (rows_of n ws) i (row_of (drop (i * 16) ws)) ∙ rw (word ∙ q, and-false)) }
 
-    pub last_word : {m f b : Bool} {z : ℕ} → Placed ws i m → m ≡ true → Front d x ws i f → f ≡ true → Back d x ws i b → b ≡ true → w ≡ true → Word ws i 15 z → RowGood d x ws i (ltb z (length d))
-    last_word {m} {f} {b} p o g h j q u y = record {
+    pub last_word : {m f : Bool} {z : ℕ} → Placed ws i m → m ≡ true → Texts d x ws i f → f ≡ true → w ≡ true → Word ws i 15 z → RowGood d x ws i (ltb z (length d))
+    last_word {m} {f} p o g h u y = record {
       is = λ n l.
           sym
           (grouped d x (rows_of n ws) i (row_of (drop (i * 16) ws))
-          ∙ rw (sym (p.is n l) ∙ o, sym g.is ∙ h, sym j.is ∙ q, word ∙ u, ← word_in y));
+          ∙ rw (sym (p.is n l) ∙ o, sym g.is ∙ h, word ∙ u, ← word_in y));
     }
 
-pub ruleset whole = (not_placed, bad_front, bad_back, bad_word, last_word, rules)
+pub ruleset whole = (not_placed, bad_texts, bad_word, last_word, rules)
 
 -- ---- the whole row
 
@@ -157,14 +162,14 @@ module _ {d x ws : List ℕ} {n i : ℕ} {b : Bool} (l : i < n) (g : RowGood d x
   unfolding sound_row
   row_counted q c = record { is = c.is ∙ rw (sym (g.is n l) ∙ q) }
 
-  pub row_tallied : {r : Bool} {o : Option (Bor (List ℕ))} {ts : Bor (List ℕ)} → b ≡ true → Prepared d x ws n o → o ≡ Some ts → ByTally ws i (get_or ts.now i 0) r → RowSound d x ws n i r
+  pub row_tallied : {r : Bool} {o : Option (Bor (List Tally))} {ts : Bor (List Tally)} → b ≡ true → Prepared d x ws n o → o ≡ Some ts → ByTally ws i (get_or ts.now i Empty) r → RowSound d x ws n i r
   row_tallied {ts = ts} q p e t = row_counted q (tally_counts d x (p.tally ts e) l refl t)
 
-module _ {d x ws : List ℕ} {n : ℕ} {o : Option (Bor (List ℕ))} (p : Prepared d x ws n o) where
+module _ {d x ws : List ℕ} {n : ℕ} {o : Option (Bor (List Tally))} (p : Prepared d x ws n o) where
   pub in_order : o ≡ None → DocumentOrder ws n
   in_order e = p.order e
 
-  pub tally_room : {i : ℕ} {ts : Bor (List ℕ)} → i < n → o ≡ Some ts → i < length ts.now
+  pub tally_room : {i : ℕ} {ts : Bor (List Tally)} → i < n → o ≡ Some ts → i < length ts.now
   tally_room {ts = ts} l e = omega (arith, (p.tally ts e).room)
 
 pub ruleset sound_rows = (row_bad, row_counted, row_tallied, in_order, tally_room, rules)
@@ -211,7 +216,7 @@ pub ruleset checks = (check_begins, check_ends, check_stops, check_more, known_i
 pub ready_order : (d x : List ℕ) {ws : List ℕ} {n : ℕ} {o : Bool} → Orders ws n o → o ≡ true → Prepared d x ws n None
 ready_order d x g e = record { order = λ q. g.is e; tally = λ ts q. let z : ◌≡◌ {A = ℕ} 0 1 = cc in absurd (omega arith) }
 
-pub ready_tally : {d x ws : List ℕ} {n : ℕ} {ts : Bor (List ℕ)} → Tallied d x ws n n ts.now → Prepared d x ws n (Some ts)
+pub ready_tally : {d x ws : List ℕ} {n : ℕ} {ts : Bor (List Tally)} → Tallied d x ws n n ts.now → Prepared d x ws n (Some ts)
 ready_tally {ts = ts} g = record { order = λ q. let z : ◌≡◌ {A = ℕ} 0 1 = cc in absurd (omega arith); tally = λ us q. let z : ts ≡ us = cc in rw (← z) g }
 
 pub ruleset ways = (ready_order, ready_tally, tally_begins, rules)

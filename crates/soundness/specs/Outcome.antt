@@ -1,6 +1,6 @@
 -- What the check of sound rows says, and its parts.
 -- Assumes nothing.
-use Rattle.std.specs.Prelude.{ℕ, suc, ◌+◌, ◌*◌, ◌≤◌, ◌<◌, ◌≡◌, Bool, true, not, ◌&&◌, ◌||◌, List, [], ◌∷◌, eqb, leb, length, take, drop, get_or, Option, None, Some, Result, Ok, Err}
+use Rattle.std.specs.Prelude.{ℕ, suc, ◌+◌, ◌*◌, ◌≤◌, ◌<◌, ◌≡◌, Bool, true, false, not, ◌&&◌, ◌||◌, List, [], ◌∷◌, eqb, leb, length, take, drop, get_or, Option, None, Some, Result, Ok, Err}
 use Rattle.std.specs.Borrow.{Bor}
 use Rattle.slices.specs.Bytes.{if}
 use Rattle.utf8.specs.WellFormed.{within, well_formed}
@@ -13,6 +13,8 @@ use Rattle.document.specs.Kinds as kinds
 use Rattle.items.specs.Words.{RowWords, triple_at, row_of, rows_of, is_child}
 use Rattle.items.specs.Order.{parent_at, Under, DocumentOrder}
 use Rattle.items.specs.Sound.{placed, nameless, valued, tp_typed, good_triple, name_use, value_use, tp_use, doc_use, valid_name, valid_value, any_text, in_document, good_row, members_of, keyed, counted, sound_row, first_bad, judged, Soundness, sound, unsound, soundness}
+use Rattle.soundness.specs.declared.tally.Tally.{Tally}
+use Rattle.soundness.specs.declared.tally.Tally.TheVariants.{Empty, Key, Other, Pair, Many}
 
 -- by kind: the name may be missing; words 5-7 are used; there may be a tp type
 unfoldable pub may_lack_name : ℕ → Bool
@@ -39,25 +41,20 @@ is_text document text t = inside document text t && well_formed (shown document 
 unfoldable pub good_doc : List ℕ → List ℕ → ℕ → Triple → Bool
 good_doc document text k t = good_triple document text (doc_use k) any_text t && in_document t
 
--- words 2-7 and words 8-13 of a row
-unfoldable pub good_front : List ℕ → List ℕ → RowWords → Bool
-good_front document text r =
+-- words 2-13 of a row
+unfoldable pub good_texts : List ℕ → List ℕ → RowWords → Bool
+good_texts document text r =
     good_triple document text (name_use r.kind) (valid_name r.kind) r.name
     && good_triple document text (value_use r.kind) (valid_value r.kind) r.value
-
-unfoldable pub good_back : List ℕ → List ℕ → RowWords → Bool
-good_back document text r =
-    good_triple document text (tp_use r.kind) any_text r.tp && good_doc document text r.kind r.doc
+    && good_triple document text (tp_use r.kind) any_text r.tp
+    && good_doc document text r.kind r.doc
 
 -- what the tests of row i say: of its place, of its texts and of the whole row, however many rows follow it
 pub record Placed (ws : List ℕ) (i : ℕ) (r : Bool) : Type 0 where
   pub is : (n : ℕ) → i < n → r ≡ placed (rows_of n ws) i (row_of (drop (i * 16) ws))
 
-pub record Front (document text ws : List ℕ) (i : ℕ) (r : Bool) : Type 0 where
-  pub is : r ≡ good_front document text (row_of (drop (i * 16) ws))
-
-pub record Back (document text ws : List ℕ) (i : ℕ) (r : Bool) : Type 0 where
-  pub is : r ≡ good_back document text (row_of (drop (i * 16) ws))
+pub record Texts (document text ws : List ℕ) (i : ℕ) (r : Bool) : Type 0 where
+  pub is : r ≡ good_texts document text (row_of (drop (i * 16) ws))
 
 pub record RowGood (document text ws : List ℕ) (i : ℕ) (r : Bool) : Type 0 where
   pub is : (n : ℕ) → i < n → r ≡ good_row document text (rows_of n ws) i (row_of (drop (i * 16) ws))
@@ -90,6 +87,10 @@ pub record NextMember (ws : List ℕ) (n i from : ℕ) (r : Option ℕ) : Type 0
   pub some : (k : ℕ) → r ≡ Some k → FirstMember ws n i from k
   pub none : r ≡ None → members_from ws n i from ≡ []
 
+-- row k, a member, shows a basic signature
+pub record Basic (document text ws : List ℕ) (k : ℕ) (r : Bool) : Type 0 where
+  pub is : r ≡ basic_signature (shown document text (triple_at 5 (drop (k * 16) ws)))
+
 -- row i is a good mapping by the members after it; by all members of it, it has those that its kind needs
 pub record Keyed (document text ws : List ℕ) (n i : ℕ) (r : Bool) : Type 0 where
   pub is : r ≡ keyed document text (members_from ws n i (suc i))
@@ -97,36 +98,54 @@ pub record Keyed (document text ws : List ℕ) (n i : ℕ) (r : Bool) : Type 0 w
 pub record Counted (document text ws : List ℕ) (n i : ℕ) (r : Bool) : Type 0 where
   pub is : r ≡ counted document text (row_of (drop (i * 16) ws)).kind (members_of (suc i) (rows_of n ws))
 
--- a tally of members: 0 for none, 1 for one, which shows a basic signature, 2 for another one, 3 for two, of which the first shows it, else 4
-abbrev pub tally_of : List ℕ → List ℕ → List RowWords → ℕ
-tally_of document text [] = 0
-tally_of document text (k ∷ []) = if (basic_signature (shown document text k.value)) 1 2
-tally_of document text (k ∷ v ∷ []) = if (basic_signature (shown document text k.value)) 3 4
-tally_of document text (k ∷ v ∷ m ∷ ms) = 4
+-- a tally of members: none; one, which shows a basic signature; another one; two, of which the first shows it; any others
+abbrev pub tally_of : List ℕ → List ℕ → List RowWords → Tally
+tally_of document text [] = Empty
+tally_of document text (k ∷ []) = if (basic_signature (shown document text k.value)) Key Other
+tally_of document text (k ∷ v ∷ []) = if (basic_signature (shown document text k.value)) Pair Many
+tally_of document text (k ∷ v ∷ m ∷ ms) = Many
 
 -- what it becomes with one member more, by whether that shows a basic signature
-abbrev pub added : Bool → ℕ → ℕ
-added b t = if (eqb t 0) (if b 1 2) (if (eqb t 1) 3 4)
+abbrev pub added : Bool → Tally → Tally
+added b Empty = if b Key Other
+added b Key = Pair
+added b Other = Many
+added b Pair = Many
+added b Many = Many
 
-pub record More (document text ws : List ℕ) (k t r : ℕ) : Type 0 where
+pub record More (document text ws : List ℕ) (k : ℕ) (t r : Tally) : Type 0 where
   pub is : r ≡ added (basic_signature (shown document text (triple_at 5 (drop (k * 16) ws)))) t
 
 -- of each of n rows, the tally of its members among the first k
-pub record Tallied (document text ws : List ℕ) (n k : ℕ) (tallies : List ℕ) : Type 0 where
+pub record Tallied (document text ws : List ℕ) (n k : ℕ) (tallies : List Tally) : Type 0 where
   pub room : n ≤ length tallies
-  pub is : (i : ℕ) → i < n → get_or tallies i 0 ≡ tally_of document text (members_of (suc i) (rows_of k ws))
+  pub is : (i : ℕ) → i < n → get_or tallies i Empty ≡ tally_of document text (members_of (suc i) (rows_of k ws))
 
 -- by its tally t, row i has the members that its kind needs
-abbrev pub counted_by : ℕ → ℕ → Bool
-counted_by k t = if (eqb k kinds.struct) (not (eqb t 0)) (if (eqb k kinds.mapping) (eqb t 3) true)
+abbrev pub is_empty : Tally → Bool
+is_empty Empty = true
+is_empty Key = false
+is_empty Other = false
+is_empty Pair = false
+is_empty Many = false
 
-pub record ByTally (ws : List ℕ) (i t : ℕ) (r : Bool) : Type 0 where
+abbrev pub is_pair : Tally → Bool
+is_pair Empty = false
+is_pair Key = false
+is_pair Other = false
+is_pair Pair = true
+is_pair Many = false
+
+abbrev pub counted_by : ℕ → Tally → Bool
+counted_by k t = if (eqb k kinds.struct) (not (is_empty t)) (if (eqb k kinds.mapping) (is_pair t) true)
+
+pub record ByTally (ws : List ℕ) (i : ℕ) (t : Tally) (r : Bool) : Type 0 where
   pub is : r ≡ counted_by (row_of (drop (i * 16) ws)).kind t
 
 -- n rows are in document order, or there is a tally for each
-pub record Prepared (document text ws : List ℕ) (n : ℕ) (tallies : Option (Bor (List ℕ))) : Type 0 where
+pub record Prepared (document text ws : List ℕ) (n : ℕ) (tallies : Option (Bor (List Tally))) : Type 0 where
   pub order : tallies ≡ None → DocumentOrder ws n
-  pub tally : (ts : Bor (List ℕ)) → tallies ≡ Some ts → Tallied document text ws n n ts.now
+  pub tally : (ts : Bor (List Tally)) → tallies ≡ Some ts → Tallied document text ws n n ts.now
 
 -- row i of n is sound
 pub record RowSound (document text ws : List ℕ) (n i : ℕ) (r : Bool) : Type 0 where

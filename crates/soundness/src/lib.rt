@@ -2,7 +2,7 @@
 #![tactic(auto)]
 
 ghost use Rattle.std.specs.Prelude.{◌≡◌, ◌+◌, ◌*◌, ◌≤◌, ◌<◌, length};
-ghost use Rattle.soundness.specs.Outcome.{Placed, Front, Back, RowGood, RowSound, Tallied, Prepared, FirstBad, Judges};
+ghost use Rattle.soundness.specs.Outcome.{Placed, Texts, RowGood, RowSound, Tallied, Prepared, FirstBad, Judges};
 
 mod ends;
 mod kinds;
@@ -14,6 +14,7 @@ mod texts;
 
 use ends::Look;
 use lent::{Buffer, Table};
+use tally::Tally;
 
 // Row 0 is a node with parent 0; any other row's parent comes before it and may hold its kind.
 #[tactic(auto, using(crate::proofs::Rows::places))]
@@ -29,27 +30,17 @@ fn is_placed(rows: &[u32], i: usize) -> bool
     0 < parent && parent <= i && kinds::may_hold(items::word(rows, parent - 1, 0), kind)
 }
 
-// Words 2-7 of row i: the name and the value that its kind wants.
+// Words 2-13 of row i: the name, the value, the tp type and the docstring that its kind wants or may have.
 #[tactic(auto, using(crate::proofs::Rows::texts))]
-fn good_front(table: &Table, i: usize) -> bool
+fn good_texts(table: &Table, i: usize) -> bool
     requires { i < table.now.n }
-    ensures { Front table.now.document.bytes.now table.now.text.bytes.now
+    ensures { Texts table.now.document.bytes.now table.now.text.bytes.now
         table.now.rows.now i result }
 {
     let kind = items::word(table.rows, i, 0);
     texts::good_name(table, kind, items::triple(table.rows, i, 2))
         && texts::good_value(table, kind, items::triple(table.rows, i, 5))
-}
-
-// Words 8-13 of row i: the tp type and the docstring that its kind may have.
-#[tactic(auto, using(crate::proofs::Rows::texts))]
-fn good_back(table: &Table, i: usize) -> bool
-    requires { i < table.now.n }
-    ensures { Back table.now.document.bytes.now table.now.text.bytes.now
-        table.now.rows.now i result }
-{
-    let kind = items::word(table.rows, i, 0);
-    texts::good_tp(table, kind, items::triple(table.rows, i, 8))
+        && texts::good_tp(table, kind, items::triple(table.rows, i, 8))
         && texts::good_doc(table, kind, items::triple(table.rows, i, 11))
 }
 
@@ -61,8 +52,7 @@ fn good_row(table: &Table, i: usize) -> bool
         table.now.rows.now i result }
 {
     is_placed(table.rows, i)
-        && good_front(table, i)
-        && good_back(table, i)
+        && good_texts(table, i)
         && kinds::valid_word(
             items::word(table.rows, i, 0),
             items::word(table.rows, i, 14),
@@ -72,7 +62,7 @@ fn good_row(table: &Table, i: usize) -> bool
 
 // Whether row i is sound; where the rows are not in document order there are tallies.
 #[tactic(auto, using(crate::proofs::Rows::sound_rows))]
-fn sound_row(table: &Table, tallies: Option<&[u8]>, i: usize) -> bool
+fn sound_row(table: &Table, tallies: Option<&[Tally]>, i: usize) -> bool
     requires inside { i < table.now.n }
     requires prepared { Prepared table.now.document.bytes.now table.now.text.bytes.now
         table.now.rows.now table.now.n tallies }
@@ -113,12 +103,13 @@ fn is_worth(table: &Table, bytes: usize) -> bool {
 
 // The first bad row is the place of the error.
 #[tactic(auto, using(crate::proofs::Rows::checks))]
-fn first_known(table: &Table, tallies: Option<&[u8]>) -> Result<(), usize>
+fn first_known(table: &Table, tallies: Option<&[Tally]>) -> Result<(), usize>
     requires { Prepared table.now.document.bytes.now table.now.text.bytes.now
         table.now.rows.now table.now.n tallies }
     ensures { FirstBad table.now.document.bytes.now table.now.text.bytes.now
         table.now.rows.now table.now.n result }
 {
+    // `for` and not `find`: that a row is sound is used of the rows after it.
     for i in 0..table.n {
         if !sound_row(table, tallies, i) {
             return Err(i);
@@ -130,7 +121,7 @@ fn first_known(table: &Table, tallies: Option<&[u8]>) -> Result<(), usize>
 // The same, where nothing is known of the buffers yet. The texts are checked whole, but for those in what is found to be UTF-8 first: how much of
 // both buffers is found out where it is worth it, and how much is ASCII where there is a row for each 64 bytes.
 #[tactic(auto, using(crate::proofs::Rows::checks))]
-fn first_unsound(table: &Table, tallies: Option<&[u8]>) -> Result<(), usize>
+fn first_unsound(table: &Table, tallies: Option<&[Tally]>) -> Result<(), usize>
     requires { Prepared table.now.document.bytes.now table.now.text.bytes.now
         table.now.rows.now table.now.n tallies }
     ensures { FirstBad table.now.document.bytes.now table.now.text.bytes.now
@@ -169,7 +160,7 @@ fn first_by_tally<const N: usize>(table: &Table) -> Result<(), usize>
     ensures { FirstBad table.now.document.bytes.now table.now.text.bytes.now
         table.now.rows.now table.now.n result }
 {
-    let mut tallies = [0; N];
+    let mut tallies = [Tally::Empty; N];
     tally::count_all(table, &mut tallies);
     first_unsound(table, Some(&tallies))
 }

@@ -1,7 +1,7 @@
 // The members that a struct and a mapping need, of rows in document order.
 ghost use Rattle.std.specs.Prelude.{◌≡◌, ◌+◌, ◌*◌, ◌≤◌, ◌<◌, length};
 ghost use Rattle.items.specs.Order.{DocumentOrder};
-ghost use Rattle.soundness.specs.Outcome.{Member, NextMember, Keyed, Counted};
+ghost use Rattle.soundness.specs.Outcome.{Member, NextMember, Basic, Keyed, Counted};
 
 use super::lent::{self, Table};
 use document::kinds;
@@ -34,6 +34,16 @@ fn next_member(table: &Table, i: usize, from: usize) -> Option<usize>
     None
 }
 
+// Whether row k, a member, shows a basic signature.
+#[tactic(auto, using(crate::proofs::Definitions::basics))]
+pub fn is_basic(table: &Table, k: usize) -> bool
+    requires { k < table.now.n }
+    ensures { Basic table.now.document.bytes.now table.now.text.bytes.now
+        table.now.rows.now k result }
+{
+    names::basic_signature(lent::shown(table, items::triple(table.rows, k, 5)))
+}
+
 // Whether the mapping in row i has exactly two members, of which the first has a basic signature.
 #[tactic(auto, using(crate::proofs::Definitions::keys))]
 fn is_keyed(table: &Table, i: usize) -> bool
@@ -48,8 +58,7 @@ fn is_keyed(table: &Table, i: usize) -> bool
     let Some(value) = next_member(table, i, key + 1) else {
         return false;
     };
-    next_member(table, i, value + 1).is_none()
-        && names::basic_signature(lent::shown(table, items::triple(table.rows, key, 5)))
+    next_member(table, i, value + 1).is_none() && is_basic(table, key)
 }
 
 // Whether row i has the members that its kind needs.

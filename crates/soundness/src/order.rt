@@ -12,6 +12,7 @@ fn follows(rows: &[u32], k: usize) -> bool
 {
     let parent = items::word(rows, k, 1) as usize;
     let mut up = k;
+    // A cursor and not `for`: the next row is the parent of the one before.
     while parent < up {
         up = items::word(rows, up - 1, 1) as usize;
     }
@@ -24,6 +25,7 @@ pub fn in_document_order(rows: &[u32], n: usize) -> bool
     requires { n * 16 ≤ length rows.now }
     ensures { Orders rows.now n result }
 {
+    // `for` and not `all`: each row is judged where the rows before it are in order.
     for k in 0..n {
         if !follows(rows, k) {
             return false;

@@ -20,6 +20,7 @@ fn copy_words(table: &mut [u32], base: usize, words: &[u32])
     requires { base + length words.now ≤ length table.old }
     ensures { Copied base words.now table.old table.new }
 {
+    // Not `copy_from_slice`: what the clause says of the table did not follow from what it says of the part.
     for i in 0..words.len() {
         table[base + i] = words[i];
     }
@@ -71,6 +72,7 @@ pub fn put_docstring(rows: &mut [u32], i: usize, start: u32, len: u32)
 fn fill<T: Copy>(table: &mut [T], from: usize, value: T)
     ensures { Filled value from table.old table.new }
 {
+    // Not std's `fill`: what the clause says of the table did not follow from what it says of the part.
     for i in from..table.len() {
         table[i] = value;
     }

@@ -45,7 +45,7 @@ fn either(name: &[u8], key: &[u8], kind: u32, key2: &[u8], kind2: u32) -> u32
     one(name, key2, kind2)
 }
 
-// The kind of a name by the names that are taken whole, or 0.
+// The kind of a name by the names that are taken whole, or 0, as the definition answers.
 #[tactic(auto, using(crate::proofs::Kind::lengths))]
 fn exact_kind(name: &[u8]) -> u32
     ensures { result ≡ exact_kind name.now }
@@ -61,7 +61,7 @@ fn exact_kind(name: &[u8]) -> u32
     }
 }
 
-// The kind of a local name, or 0.
+// The kind of a local name, or 0, as the definition answers.
 #[tactic(auto, using(crate::proofs::Kind::lengths))]
 fn local_kind(name: &[u8]) -> u32
     ensures { result ≡ local_kind name.now }
@@ -109,7 +109,8 @@ fn local_start(at: usize, colons: Option<Colons>) -> usize
 // The kind of the element whose name begins at a place.
 #[tactic(auto, using(crate::proofs::Kind::placed))]
 fn kind_at(doc: &[u8], at: usize, name: Name) -> u32
-    requires { Scanned doc.now «at» name × (length doc.now ≤ 1048576) }
+    requires scanned { Scanned doc.now «at» name }
+    requires small { length doc.now ≤ 1048576 }
     ensures { result ≡ kind_of (take (name.end - «at») (drop «at» doc.now)) }
 {
     let end = name.end;
@@ -120,7 +121,8 @@ fn kind_at(doc: &[u8], at: usize, name: Name) -> u32
 
 // The closing tag whose `</` stands at a place: a name, white space, `>`.
 pub fn closing_tag(doc: &[u8], classes: &ClassTable, lt: usize) -> Result<Token, Refusal>
-    requires { TagStart doc.now lt × (lt + 2 ≤ length doc.now) }
+    requires start { TagStart doc.now lt }
+    requires longer { lt + 2 ≤ length doc.now }
     ensures { TagAt doc.now lt (closing (drop (lt + 2) doc.now) lt) result }
 {
     let at = lt + 2;
@@ -184,7 +186,8 @@ pub fn tag_end(doc: &[u8], classes: &ClassTable, from: usize) -> Result<TagEnd, 
 
 // A fault at a reference, which is shown from its place to its `;`.
 fn reference_in(doc: &[u8], number: u32, place: usize) -> Refusal
-    requires { (place ≤ length doc.now) × (length doc.now ≤ 1048576) }
+    requires inside { place ≤ length doc.now }
+    requires small { length doc.now ≤ 1048576 }
     ensures { result ≡ showing number place
         (record { at = place; len = suc (length (span (other 59) (drop place doc.now))) }) }
 {
@@ -195,7 +198,8 @@ fn reference_in(doc: &[u8], number: u32, place: usize) -> Refusal
 // The refusal of a fault in the attributes: 8 shows the attribute's name, 10 and 11 the reference.
 #[tactic(auto, using(crate::proofs::Faults::faults))]
 fn fault_in(doc: &[u8], classes: &ClassTable, number: u32, place: usize) -> Refusal
-    requires { (place ≤ length doc.now) × (length doc.now ≤ 1048576) }
+    requires inside { place ≤ length doc.now }
+    requires small { length doc.now ≤ 1048576 }
     ensures { result ≡ fault_in doc.now number place }
 {
     if number == 8 {
@@ -258,7 +262,8 @@ fn tag(doc: &[u8], classes: &ClassTable, lt: usize) -> Result<Token, Refusal>
 // The next token from a place on.
 #[tactic(auto, using(crate::proofs::Nexts::nexts))]
 pub fn token(doc: &[u8], classes: &ClassTable, from: usize) -> Result<Token, Refusal>
-    requires { (from ≤ length doc.now) × (length doc.now ≤ 1048576) }
+    requires inside { from ≤ length doc.now }
+    requires small { length doc.now ≤ 1048576 }
     ensures { Tokenises doc.now from result }
 {
     let at = scan::ignorable(doc, from)?;
@@ -269,6 +274,8 @@ pub fn token(doc: &[u8], classes: &ClassTable, from: usize) -> Result<Token, Ref
 }
 
 // What comes next in an open element, whose name stands at a place with a length: 5 at the end, 6 after another closing tag.
+// Inlined, since the tag would be copied once more on the way through it.
+#[inline(always)]
 #[tactic(auto, using(crate::proofs::Stepping::stepping))]
 pub fn step(
     doc: &[u8],
@@ -277,7 +284,9 @@ pub fn step(
     at: usize,
     len: usize,
 ) -> Result<Next, Refusal>
-    requires { (from ≤ length doc.now) × (at + len ≤ length doc.now) × (length doc.now ≤ 1048576) }
+    requires inside { from ≤ length doc.now }
+    requires named { at + len ≤ length doc.now }
+    requires small { length doc.now ≤ 1048576 }
     ensures { Steps doc.now from at len result }
 {
     match token(doc, classes, from)? {

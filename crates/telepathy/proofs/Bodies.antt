@@ -18,13 +18,15 @@ use Rattle.document.specs.Rows.{Row, Tables}
 use Rattle.document.specs.Elements.{kind_of, among, held_by_lem, may_hold}
 use Rattle.document.specs.Reading as reading
 use Rattle.document.specs.Reading.{Name, Frame, definition, State, reading, closed, judged, child, begins, noted, one_more}
-use Rattle.document.specs.Outcome.{Lent, lent, name_at, Stands, Bounded, Ready, Steps, Begins, Others, runs, whole, moved}
+use Rattle.document.specs.Outcome.{Lent, lent, name_at, Stands, Bounded, Ready, Steps, Begins, Others, runs, whole, moved, Keeps}
+use Rattle.document.specs.declared.Reader.{Reader}
 use Rattle.document.specs.declared.Refusal.{Refusal}
 use Rattle.document.specs.declared.StartTag.{StartTag}
 use Rattle.document.specs.declared.Fill.{Fill}
 use Rattle.document.specs.declared.Next.{Next}
 use Rattle.document.specs.declared.Closing.{Closing}
 use Rattle.document.proofs.Openings.{tag_named}
+use Rattle.document.proofs.Readers.{keeping}
 use Rattle.document.proofs.Loops.{moved_stands, rows-kept}
 use Rattle.telepathy.specs.Outcome.{DefinitionKind, PartKind, Holds, Unseen, More, Noted, Child, Body, Content, Ends, seen, open_as, no_parts}
 use Rattle.telepathy.specs.declared.Parts.{Parts}
@@ -74,7 +76,7 @@ module _ {doc : List ℕ} {c : StartTag} {i : ℕ} {f : Fill} {b b' : Lent} {a :
             (x.0, x.1, x.2 ∙ ap (λ (gs : List Frame). runs doc g.at (closed gs x.0)) (noted_is k i lt why n t fs p q m.kind (m.is t z)), x.3);
       }
 
-pub ruleset noting = (noted_fault, noted_done, rules)
+pub ruleset noting = (noted_fault, noted_done, keeping, rules)
 
 -- ---- a child
 
@@ -124,7 +126,7 @@ module _ {k : ℕ} (d : DefinitionKind k) {c : StartTag} {o : Bool} (y : Holds k
             ends = λ lt why n t fs u z s. j.ends k t (definition (open_as k i lt n why p) ∷ fs) u bytes (sym y.is ∙ e) (by_definition (λ m. not (eqb m kinds.annotation) ≡ true) refl refl refl refl d) z s;
           }
 
-pub ruleset children = (held_part, child_part, child_other_fault, child_other_done, rules)
+pub ruleset children = (held_part, child_part, child_other_fault, child_other_done, keeping, rules)
 
 -- ---- the loop over the children of a definition with row i: it began with f₀ and b₀, and came to f, p and b
 
@@ -229,7 +231,11 @@ module _ {doc : List ℕ} {k at len i : ℕ} {f₀ : Fill} {b₀ : Lent} where
             let j : Child doc k i c p (moved f c.end) b b' (Ok (record { fill = g'; parts = p' })) = rw w at h in
             omega (arith, start.onward.0, start.onward.1.inside, j.onward.0, j.onward.3.inside)
 
-pub ruleset bodies = (body_begins, body_fault, body_close, body_ready, body_count, body_child_fault, body_child, body_less, rules)
+-- the same of the document of a reader that keeps it
+pub child_kept : {r r' : Reader} {k i : ℕ} {c : StartTag} {p : Parts} {f : Fill} {b b' : Lent} {a : Result Inner Refusal} → Keeps r r' → Child r'.doc.now k i c p f b b' a → Child r.doc.now k i c p f b b' a
+child_kept h l = rw h.doc at l
+
+pub ruleset bodies = (body_begins, body_fault, body_close, body_ready, body_count, body_child_fault, body_child, body_less, keeping, rules)
 
 -- ---- all of the content
 
@@ -248,4 +254,4 @@ module _ {doc : List ℕ} {c : StartTag} {i : ℕ} {f : Fill} {b : Lent} where
     ends = λ why t fs u z s. rw (sym z.closes ∙ x) (subst (λ (n : Name). Ends doc (runs doc f.at (reading (definition (open_as c.kind i t.at n why no_parts) ∷ fs) u)) (λ q v. closed fs (judged (open_as c.kind i t.at n why q) v)) i (take i u.rows) b' r) (sym (tag_named z)) (l.ends t.at why fs u s));
   }
 
-pub ruleset contents = (content_none, content_body, rules)
+pub ruleset contents = (content_none, content_body, keeping, rules)

@@ -19,7 +19,7 @@ use Rattle.document.specs.Tags.{Shown}
 use Rattle.document.specs.Tokens.{Tag}
 use Rattle.document.specs.Elements.{attr, some_signature}
 use Rattle.document.specs.Reading.{complete, is_there, is_some}
-use Rattle.document.specs.Outcome.{ValueIs, Ready}
+use Rattle.document.specs.Outcome.{ValueIs, Ready, is_absent}
 use Rattle.document.specs.declared.Value.{Value}
 use Rattle.document.specs.declared.StartTag.{StartTag}
 use Rattle.document.specs.declared.Fill.{Fill}
@@ -32,23 +32,23 @@ use Rattle.telepathy.proofs.Sorts.{by_part}
 
 -- a value that is there or not, and what a test says of it
 module _ (doc : List ℕ) (v : Value) (o : Option Shown) (h : ValueIs doc v o) where
-  there_not : v.kind ≡ 0 → is_there o ≡ false
+  there_not : is_absent v ≡ true → is_there o ≡ false
   there_not e = rw (value_absent doc v o h e)
 
-  there_is : (v.kind ≡ 0 → ⊥) → is_there o ≡ true
+  there_is : is_absent v ≡ false → is_there o ≡ true
   there_is e = rw (value_there doc v o h e).1
 
-  there_by : is_there o ≡ not (eqb v.kind 0)
-  there_by = go (eqb v.kind 0) refl
+  there_by : is_there o ≡ not (is_absent v)
+  there_by = go (is_absent v) refl
     where
-      go : (b : Bool) → eqb v.kind 0 ≡ b → is_there o ≡ not b
-      go true e = there_not (eqb-true v.kind 0 e)
-      go false e = there_is (λ i. let q : ◌≡◌ {A = Bool} true false = sym (eq-eqb v.kind 0 i) ∙ e in let w : ◌≡◌ {A = ℕ} 0 1 = cc in omega arith)
+      go : (b : Bool) → is_absent v ≡ b → is_there o ≡ not b
+      go true e = there_not e
+      go false e = there_is e
 
-  some_not : (p : List ℕ → Bool) → v.kind ≡ 0 → is_some p o ≡ false
+  some_not : (p : List ℕ → Bool) → is_absent v ≡ true → is_some p o ≡ false
   some_not p e = rw (value_absent doc v o h e)
 
-  some_is : {p : List ℕ → Bool} {r : Bool} → (v.kind ≡ 0 → ⊥) → Tests p doc v r → r ≡ is_some p o
+  some_is : {p : List ℕ → Bool} {r : Bool} → is_absent v ≡ false → Tests p doc v r → r ≡ is_some p o
   some_is {p} e t = let s = value_there doc v o h e in t.is s.0 s.2 ∙ sym (ap (is_some p) s.1)
 
 and-false : (b : Bool) → (b && false) ≡ false
@@ -64,21 +64,21 @@ member t h n = by_part (λ m. (m ≡ kinds.enumvalue → ⊥) → complete m t �
 module _ {doc : List ℕ} {c : StartTag} where
   -- an enumvalue
   module _ (k : c.kind ≡ kinds.enumvalue) where
-    pub complete_unsuffixed : c.values.suffix.kind ≡ 0 → Completes doc c false
+    pub complete_unsuffixed : is_absent c.values.suffix ≡ true → Completes doc c false
     complete_unsuffixed e = record { is = λ t z. sym (enumvalue c.kind t k ∙ rw (there_not doc c.values.suffix (attr (bytes "suffix") t) z.values.suffix e)) }
 
-    pub complete_valued : {r : Bool} → (c.values.suffix.kind ≡ 0 → ⊥) → r ≡ not (eqb c.values.value.kind 0) → Completes doc c r
+    pub complete_valued : {r : Bool} → is_absent c.values.suffix ≡ false → r ≡ not (is_absent c.values.value) → Completes doc c r
     complete_valued n q = record { is = λ t z. q ∙ sym (enumvalue c.kind t k ∙ rw (there_is doc c.values.suffix (attr (bytes "suffix") t) z.values.suffix n) (there_by doc c.values.value (attr (bytes "value") t) z.values.value)) }
 
   -- a member
   module _ (h : PartKind c.kind) (k : c.kind ≡ kinds.enumvalue → ⊥) where
-    pub complete_unnamed : c.values.name.kind ≡ 0 → Completes doc c false
+    pub complete_unnamed : is_absent c.values.name ≡ true → Completes doc c false
     complete_unnamed e = record { is = λ t z. sym (member t h k ∙ rw (there_not doc c.values.name (attr (bytes "name") t) z.values.name e)) }
 
-    pub complete_untyped : c.values.ty.kind ≡ 0 → Completes doc c false
+    pub complete_untyped : is_absent c.values.ty ≡ true → Completes doc c false
     complete_untyped e = record { is = λ t z. sym (member t h k ∙ rw (some_not doc c.values.ty (attr (bytes "type") t) z.values.ty some_signature e) (and-false (is_there (attr (bytes "name") t)))) }
 
-    pub complete_typed : {r : Bool} → (c.values.name.kind ≡ 0 → ⊥) → (c.values.ty.kind ≡ 0 → ⊥) → Tests some_signature doc c.values.ty r → Completes doc c r
+    pub complete_typed : {r : Bool} → is_absent c.values.name ≡ false → is_absent c.values.ty ≡ false → Tests some_signature doc c.values.ty r → Completes doc c r
     complete_typed n m i = record { is = λ t z. some_is doc c.values.ty (attr (bytes "type") t) z.values.ty m i ∙ sym (member t h k ∙ rw (there_is doc c.values.name (attr (bytes "name") t) z.values.name n)) }
 
 pub ruleset completes = (lies_ty, complete_unsuffixed, complete_valued, complete_unnamed, complete_untyped, complete_typed, rules)
@@ -93,10 +93,10 @@ module _ {doc : List ℕ} {c : StartTag} {p : Parts} where
   pub keyed_before : (p.count ≡ 0 → ⊥) → Keyed doc c p p.basic
   keyed_before n = record { is = λ t z. rw (ne_eqb p.count 0 n) }
 
-  pub keyed_untyped : p.count ≡ 0 → c.values.ty.kind ≡ 0 → Keyed doc c p false
+  pub keyed_untyped : p.count ≡ 0 → is_absent c.values.ty ≡ true → Keyed doc c p false
   keyed_untyped e k = record { is = λ t z. rw e (sym (some_not doc c.values.ty (attr (bytes "type") t) z.values.ty basic_signature k)) }
 
-  pub keyed_typed : {r : Bool} → p.count ≡ 0 → (c.values.ty.kind ≡ 0 → ⊥) → Tests basic_signature doc c.values.ty r → Keyed doc c p r
+  pub keyed_typed : {r : Bool} → p.count ≡ 0 → is_absent c.values.ty ≡ false → Tests basic_signature doc c.values.ty r → Keyed doc c p r
   keyed_typed e n i = record { is = λ t z. rw e (some_is doc c.values.ty (attr (bytes "type") t) z.values.ty n i) }
 
   pub more : {f : Fill} {x y : Bool} → PartKind c.kind → p.count < f.at → Breaks doc c p x → Keyed doc c p y → More doc c f p (record { count = p.count + 1; broken = x; basic = y })

@@ -22,6 +22,7 @@ use Rattle.document.specs.declared.Refusal.{Refusal}
 use Rattle.document.specs.declared.StartTag.{StartTag}
 use Rattle.document.specs.declared.Fill.{Fill}
 use Rattle.document.proofs.Openings.{opening_fault}
+use Rattle.document.proofs.Readers.{keeping}
 use Rattle.document.proofs.Loops.{name_inside}
 use Rattle.rows.specs.Outcome.{WarningPut, WarningFits}
 use Rattle.rows.proofs.Tables.{cut_to}
@@ -143,7 +144,7 @@ judging_owner j = j.owner
 pub judging_named : {doc : List ℕ} {c : StartTag} {f g : Fill} → Judging doc c f g → c.at + c.len ≤ length doc
 judging_named j = name_inside j.ready
 
-pub ruleset rests = (judging_bounds, judging_owner, judging_named, rest_fault, rest_judging, rest_done, rules)
+pub ruleset rests = (judging_bounds, judging_owner, judging_named, rest_fault, rest_judging, rest_done, keeping, rules)
 
 -- ---- all of a definition
 
@@ -165,4 +166,4 @@ module _ {doc : List ℕ} {c : StartTag} {f : Fill} {p : ℕ} {rows rows' bytes 
       inside : (t : Tag) (fs : List Frame) (u : Tables Shown) (row : Row Shown) → length u.rows ≡ f.rows → runs doc c.end (entered whole doc c.kind t row fs u) ≡ runs doc g.at (entering t (tagged c f.rows t no_parts) (noted c.kind t fs) (with_row row u))
       inside t fs u row n = rw (opening_end o e, l.kind.is, by_definition (λ m. eqb m 1 ≡ false) refl refl refl refl l.kind, n)
 
-pub ruleset all_definitions = (opening_fault, row_judging, definition_done, rules)
+pub ruleset all_definitions = (opening_fault, row_judging, definition_done, keeping, rules)

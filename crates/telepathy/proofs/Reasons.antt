@@ -13,7 +13,7 @@ use Rattle.document.specs.Kinds as kinds
 use Rattle.document.specs.Tokens.{Tag}
 use Rattle.document.specs.Elements.{among, attr, some_signature}
 use Rattle.document.specs.Reading.{tag_reason, type_reason, parts_reason}
-use Rattle.document.specs.Outcome.{TagIs}
+use Rattle.document.specs.Outcome.{is_absent, TagIs}
 use Rattle.document.specs.declared.StartTag.{StartTag}
 use Rattle.document.proofs.Presence.{value_absent, value_there}
 use Rattle.shown.specs.Outcome.{Tests}
@@ -31,10 +31,10 @@ untyped : {k : ℕ} → DefinitionKind k → kinds.enum < k → among k kinds.ty
 untyped h l = by_definition (λ m. kinds.enum < m → among m kinds.typed ≡ false) (λ x. absurd (omega arith)) (λ x. absurd (omega arith)) (λ x. refl) (λ x. refl) h l
 
 module _ {doc : List ℕ} {c : StartTag} where
-  pub told_unnamed : c.values.name.kind ≡ 0 → TagTold doc c 2
+  pub told_unnamed : is_absent c.values.name ≡ true → TagTold doc c 2
   told_unnamed e = record { is = λ t z. rw (value_absent doc c.values.name (attr (bytes "name") t) z.values.name e) }
 
-  module _ (d : DefinitionKind c.kind) (n : c.values.name.kind ≡ 0 → ⊥) where
+  module _ (d : DefinitionKind c.kind) (n : is_absent c.values.name ≡ false) where
     pub told_named : kinds.enum < c.kind → TagTold doc c 0
     told_named l = record { is = λ t z. rw ((value_there doc c.values.name (attr (bytes "name") t) z.values.name n).1, untyped d l) }
 
@@ -42,10 +42,10 @@ module _ {doc : List ℕ} {c : StartTag} where
       by_type : (t : Tag) → TagIs doc c t → tag_reason c.kind (attr (bytes "name") t) (attr (bytes "type") t) ≡ type_reason (attr (bytes "type") t)
       by_type t z = rw ((value_there doc c.values.name (attr (bytes "name") t) z.values.name n).1, typed d l)
 
-      pub told_untyped : c.values.ty.kind ≡ 0 → TagTold doc c 3
+      pub told_untyped : is_absent c.values.ty ≡ true → TagTold doc c 3
       told_untyped e = record { is = λ t z. sym (by_type t z ∙ ap type_reason (value_absent doc c.values.ty (attr (bytes "type") t) z.values.ty e)) }
 
-      module _ (m : c.values.ty.kind ≡ 0 → ⊥) {o : Bool} (i : Tests some_signature doc c.values.ty o) where
+      module _ (m : is_absent c.values.ty ≡ false) {o : Bool} (i : Tests some_signature doc c.values.ty o) where
         by_signature : (t : Tag) → TagIs doc c t → tag_reason c.kind (attr (bytes "name") t) (attr (bytes "type") t) ≡ if o 0 4
         by_signature t z =
             let s = value_there doc c.values.ty (attr (bytes "type") t) z.values.ty m in

@@ -1,6 +1,6 @@
 -- The kinds of definitions and of their parts, and the ways of a part.
 -- Assumes nothing.
-use Prim.Native.Nat.{ℕ, ◌+◌, ◌-◌, ◌≤◌, ◌<◌}
+use Prim.Native.Nat.{ℕ, ◌+◌, ◌≤◌, ◌<◌}
 use mathlib.Core.Path.{◌≡◌, refl, sym, ◌∙◌, ap}
 use mathlib.Core.List.{List, [], ◌∷◌}
 use mathlib.Core.Bool.{Bool, true, false, not}
@@ -18,14 +18,14 @@ use Rattle.document.specs.Tokens.{Tag}
 use Rattle.document.specs.Rows.{Row, Tables}
 use Rattle.document.specs.Elements.{among, held_by_lem}
 use Rattle.document.specs.Reading.{tag_name, Frame, element, State, reading, closed, parent_of, with_row, noted, entered, begins}
-use Rattle.document.specs.Outcome.{Lent, lent, Stands, Ready, Bounded, TagIs, Opening, Begins, Others, Child, Children, Steps, Onward, Ends, runs, whole, moved}
+use Rattle.document.specs.Outcome.{Lent, lent, Stands, Ready, Bounded, TagIs, Opening, Begins, Others, Child, Contents, Onward, Ends, runs, whole}
 use Rattle.document.specs.declared.StartTag.{StartTag}
 use Rattle.document.specs.declared.Fill.{Fill}
-use Rattle.document.specs.declared.Next.{Next}
 use Rattle.document.specs.declared.Refusal.{Refusal}
-use Rattle.document.proofs.Openings.{tag_named, opening_fault, opening_bounds, opening_owner}
-use Rattle.document.proofs.Loops.{Sofar, loop_begins, loop_fault, loop_close, loop_ready, loop_child_fault, loop_child, loop_less, child_other, name_inside, moved_owner}
-use Rattle.telepathy.specs.Outcome.{DefinitionKind, PartKind, PartContent}
+use Rattle.document.proofs.Openings.{tag_named, opening_fault, opening_bounds, opening_owner, opening_contents}
+use Rattle.document.proofs.Readers.{keeping}
+use Rattle.document.proofs.Loops.{child_other, name_inside}
+use Rattle.telepathy.specs.Outcome.{DefinitionKind, PartKind}
 
 -- what holds of enumvalue and of member holds of the kind of a part
 pub by_part : (P : ℕ → Type 0) → P kinds.enumvalue → P kinds.member → {k : ℕ} → PartKind k → P k
@@ -53,10 +53,7 @@ by_definition P a b c d {k} h = go (eqb k kinds.simple_type) (eqb k kinds.enum) 
 pub child_none : {doc : List ℕ} {c : StartTag} {i : ℕ} {f : Fill} {rows rows' w w' bytes : List ℕ} {r : Result Fill Refusal} → Others doc c i f rows rows' w w' r → Child doc [] true c i f (lent rows w bytes) (lent rows' w' bytes) r
 child_none h = child_other refl h
 
-pub part_less : {doc : List ℕ} {at len i : ℕ} {f₀ f m : Fill} {b₀ : Lent} {rows rows' w w' bytes : List ℕ} {r : Result Next Refusal} {c : StartTag} {a : Result Fill Refusal} {g : Fill} → Sofar doc [] true at len i f₀ b₀ f (lent rows w bytes) → Steps doc f.at at len r → r ≡ Ok (Next.Start c) → Others doc c i m rows rows' w w' a → m ≡ moved f c.end → a ≡ Ok g → length doc - g.at < length doc - f.at
-part_less {bytes = bytes} s n q h y e = loop_less s n q (child_none {bytes = bytes} h) y e
-
-pub ruleset part_loop = (moved_owner, child_none, part_less, loop_begins, loop_fault, loop_close, loop_ready, loop_child_fault, loop_child, rules)
+pub ruleset part_children = (child_none, keeping, rules)
 
 -- ---- the row of a part
 
@@ -68,27 +65,6 @@ module _ {doc : List ℕ} {k : ℕ} {c : StartTag} {p : ℕ} {f : Fill} {rows ro
   row_member h n o = by_part (λ m. (m ≡ kinds.enumvalue → ⊥) → Opening doc m c p f rows rows' bytes bytes' r) (λ x. absurd (x refl)) (λ x. o) h n
 
 pub ruleset part_rows = (row_enumvalue, row_member, rules)
-
--- ---- a part
-
-module _ {doc : List ℕ} {c : StartTag} {i : ℕ} {f : Fill} {b : Lent} where
-  pub content_none : PartKind c.kind → Bounded doc f → c.closes ≡ true → PartContent doc c i f b b (Ok f)
-  content_none j h x = record {
-    kind = j;
-    onward = (omega arith, omega arith, h);
-    ends = λ t fs u z s. (u, s, rw (sym z.closes ∙ x), refl);
-  }
-
-  pub content_children : {b' : Lent} {r : Result Fill Refusal} → PartKind c.kind → c.closes ≡ false → Children doc [] true c.at c.len i f b b' r → PartContent doc c i f b b' r
-  content_children {b'} {r} j x l = record {
-    kind = j;
-    onward = l.onward;
-    ends = λ t fs u z s.
-        rw (sym z.closes ∙ x, tag_named z)
-        (l.ends c.kind fs u (by_part (λ m. held_by_lem m ≡ []) refl refl j) (by_part (λ m. not (eqb m kinds.annotation) ≡ true) refl refl j) s);
-  }
-
-pub ruleset contents = (content_none, content_children, rules)
 
 -- an answer of a run is one of another that comes to the same
 pub carried : {s s' : State Shown} {before before' : List (Row Shown)} (doc : List ℕ) (n : ℕ) (fs : List Frame) (b : Lent) (r : Result Fill Refusal) → s ≡ s' → before ≡ before' → Ends doc s' fs n before b r → Ends doc s fs n before' b r
@@ -123,17 +99,12 @@ module _ {doc : List ℕ} {k : ℕ} {c : StartTag} {p : ℕ} {f : Fill} {rows ro
         carried doc f.rows (noted k t fs) b r (ap (runs doc c.end) i.1) (take_at u.rows (i.0 ∷ []) f.rows s.many) (l t fs u i.0 z s (i.2 w s));
   }
 
-pub part_done : {doc : List ℕ} {c : StartTag} {p : ℕ} {f : Fill} {rows rows' w bytes bytes' : List ℕ} {a : Result Fill Refusal} {g : Fill} {b : Lent} {r : Result Fill Refusal} → Opening doc c.kind c p f rows rows' bytes bytes' a → a ≡ Ok g → PartContent doc c f.rows g (lent rows' w bytes') b r → Begins doc c.kind c p f (lent rows w bytes) b r
-part_done {doc} {c} {f = f} {g = g} {b} {r} o e l =
-    opening_then o e (further o e r l.onward)
-    (λ t fs u row z s j.
-    carried doc f.rows (noted c.kind t fs) b r (inside t fs u s.many row) refl
-    (l.ends t (noted c.kind t fs) (with_row row u) z j))
-  where
-    inside : (t : Tag) (fs : List Frame) (u : Tables Shown) → length u.rows ≡ f.rows → (row : Row Shown) → runs doc c.end (entered whole doc c.kind t row fs u) ≡ runs doc g.at (if t.self (closed (noted c.kind t fs) (with_row row u)) (reading (element c.kind (tag_name t) f.rows ∷ noted c.kind t fs) (with_row row u)))
-    inside t fs u n row = rw (opening_end o e, by_part (λ m. among m kinds.definitions ≡ false) refl refl l.kind, by_part (λ m. eqb m 1 ≡ false) refl refl l.kind, n)
+pub part_done : {doc : List ℕ} {c : StartTag} {p : ℕ} {f : Fill} {rows rows' w bytes bytes' : List ℕ} {a : Result Fill Refusal} {g : Fill} {b : Lent} {r : Result Fill Refusal} → PartKind c.kind → Opening doc c.kind c p f rows rows' bytes bytes' a → a ≡ Ok g → Contents doc [] true c f.rows g (lent rows' w bytes') b r → Begins doc c.kind c p f (lent rows w bytes) b r
+part_done h o e l =
+    opening_contents o e (by_part (λ m. among m kinds.definitions ≡ false) refl refl h) (by_part (λ m. eqb m kinds.node ≡ false) refl refl h)
+    (rw (by_part (λ m. held_by_lem m ≡ []) refl refl h, by_part (λ m. not (eqb m kinds.annotation) ≡ true) refl refl h) l)
 
 pub part_parent : {doc : List ℕ} {c : StartTag} {f : Fill} {i : ℕ} → Ready doc c f → i < f.rows → i + 1 ≤ 1048576
 part_parent r h = omega (arith, r.few, r.sound.small, r.fits.inside, r.fits.within)
 
-pub ruleset openings = (part_parent, name_inside, opening_fault, opening_bounds, opening_owner, part_done, rules)
+pub ruleset openings = (part_parent, name_inside, opening_fault, opening_bounds, opening_owner, part_done, keeping, rules)

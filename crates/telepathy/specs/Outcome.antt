@@ -26,16 +26,6 @@ pub record DefinitionKind (k : ℕ) : Type 0 where
 pub record PartKind (k : ℕ) : Type 0 where
   pub is : among k kinds.parts ≡ true
 
--- what reading a part with row i says, from after its row on
-pub record PartContent (doc : List ℕ) (c : StartTag) (i : ℕ) (f : Fill) (b b' : Lent) (r : Result Fill Refusal) : Type 0 where
-  pub kind : PartKind c.kind
-  pub onward : outcome.Onward doc f r
-  pub ends :
-      (t : Tag) (fs : List Frame) (u : Tables Shown) →
-      TagIs doc c t →
-      Stands u b f →
-      outcome.Ends doc (runs doc f.at (if t.self (closed fs u) (reading.reading (element c.kind (tag_name t) i ∷ fs) u))) fs i (take i u.rows) b' r
-
 -- whether a definition holds parts of a kind
 pub record Holds (k c : ℕ) (r : Bool) : Type 0 where
   pub is : r ≡ among c (held_by_lem k)

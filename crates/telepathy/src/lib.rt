@@ -3,14 +3,15 @@
 #![tactic(auto)]
 
 ghost use Rattle.std.specs.Prelude.{◌+◌, ◌≤◌, ◌<◌, true, [], length};
-ghost use Rattle.document.specs.Outcome.{Ready, Bounded, Begins, Opening, Children, lent};
-ghost use Rattle.telepathy.specs.Outcome.{DefinitionKind, PartKind, PartContent, Holds, Unseen, Completes, Noted, Breaks, Keyed, More, TagTold, PartsTold, Told, Child, Body, Content, Judging, Judged, Rest};
+ghost use Rattle.document.specs.Outcome.{Ready, Bounded, Begins, Opening, Keeps, lent_to};
+ghost use Rattle.telepathy.specs.Outcome.{DefinitionKind, PartKind, Holds, Unseen, Completes, Noted, Breaks, Keyed, More, TagTold, PartsTold, Told, Child, Body, Content, Judging, Judged, Rest};
 
-use document::{Fill, Next, Refusal, StartTag, kinds};
-use scan::ClassTable;
+use children::{Element, contents};
+use document::{Fill, Next, Reader, Refusal, StartTag, kinds};
 use tags::step;
 
-// What was seen of a definition's parts: how many, whether one was incomplete, whether the first one's type is basic.
+// What was seen of a definition's parts: how many, whether one was incomplete, whether the first one's type is basic. No value goes by the
+// two answers.
 #[derive(Clone, Copy)]
 pub struct Parts {
     pub count: usize,
@@ -25,34 +26,17 @@ pub struct Inner {
     pub parts: Parts,
 }
 
-// The children of an enumvalue or a member with row i: docstrings, and elements that nobody asked for.
-fn part_children(
-    doc: &[u8],
-    classes: &ClassTable,
-    rows: &mut [u32],
-    warnings: &mut [u32],
-    text: &mut [u8],
-    at: usize,
-    len: usize,
-    i: usize,
-    f: Fill,
-) -> Result<Fill, Refusal>
-    requires bounded { Bounded doc.now f }
-    requires owner { i < f.rows }
-    requires named { «at» + len ≤ length doc.now }
-    ensures { Children doc.now [] true «at» len i f
-        (lent rows.old warnings.old text.old)
-        (lent rows.new warnings.new text.new) result }
-{
-    let mut g = f;
-    loop {
-        match step(doc, classes, g.at, at, len)? {
-            Next::Close(closing) => return Ok(g.moved(closing.end)),
-            Next::Start(c) => {
-                let h = g.moved(c.end);
-                g = skip::docstring_or_skip(doc, classes, rows, warnings, c, i, h)?;
-            }
-        }
+// An enumvalue and a member hold docstrings alone.
+struct InPart;
+
+impl Element for InPart {
+    ghost held = { [] };
+
+    ghost docs = { true };
+
+    #[tactic(auto, using(crate::proofs::Sorts::part_children))]
+    fn child(r: &mut Reader, c: StartTag, i: usize, f: Fill) -> Result<Fill, Refusal> {
+        skip::docstring_or_skip(r.doc, r.classes, &mut *r.rows, &mut *r.warnings, c, i, f)
     }
 }
 
@@ -77,51 +61,18 @@ fn part_row(
     elements::member_row(doc, rows, text, c, parent, f)
 }
 
-// The content of an enumvalue or a member with row i, from after its start tag on.
-fn part_content(
-    doc: &[u8],
-    classes: &ClassTable,
-    rows: &mut [u32],
-    warnings: &mut [u32],
-    text: &mut [u8],
-    c: StartTag,
-    i: usize,
-    f: Fill,
-) -> Result<Fill, Refusal>
-    requires bounded { Bounded doc.now f }
-    requires owner { i < f.rows }
-    requires of_kind { PartKind c.kind }
-    requires named { c.at + c.len ≤ length doc.now }
-    ensures { PartContent doc.now c i f
-        (lent rows.old warnings.old text.old)
-        (lent rows.new warnings.new text.new) result }
-{
-    if c.closes {
-        return Ok(f);
-    }
-    part_children(doc, classes, rows, warnings, text, c.at, c.len, i, f)
-}
-
 // An enumvalue or a member of the definition with row i.
-fn part(
-    doc: &[u8],
-    classes: &ClassTable,
-    rows: &mut [u32],
-    warnings: &mut [u32],
-    text: &mut [u8],
-    c: StartTag,
-    i: usize,
-    f: Fill,
-) -> Result<Fill, Refusal>
-    requires ready { Ready doc.now c f }
+fn part(r: &mut Reader, c: StartTag, i: usize, f: Fill) -> Result<Fill, Refusal>
+    requires ready { Ready r.old.doc.now c f }
     requires owner { i < f.rows }
     requires of_kind { PartKind c.kind }
-    ensures { Begins doc.now c.kind c (i + 1) f
-        (lent rows.old warnings.old text.old)
-        (lent rows.new warnings.new text.new) result }
+    ensures keeps { Keeps r.old r.new }
+    ensures is { Begins r.old.doc.now c.kind c (i + 1) f
+        (lent_to r.old)
+        (lent_to r.new) result }
 {
-    let g = part_row(doc, rows, text, c, i + 1, f)?;
-    part_content(doc, classes, rows, warnings, text, c, f.rows, g)
+    let g = part_row(r.doc, &mut *r.rows, &mut *r.text, c, i + 1, f)?;
+    contents::<InPart>(r, c, f.rows, g)
 }
 
 // Whether an enumvalue or a member is complete.
@@ -132,15 +83,15 @@ fn complete(doc: &[u8], c: StartTag, f: Fill) -> bool
 {
     let v = c.values;
     if c.kind == kinds::ENUMVALUE {
-        if v.suffix.kind == 0 {
+        if v.suffix.is_absent() {
             return false;
         }
-        return v.value.kind != 0;
+        return !v.value.is_absent();
     }
-    if v.name.kind == 0 {
+    if v.name.is_absent() {
         return false;
     }
-    if v.ty.kind == 0 {
+    if v.ty.is_absent() {
         return false;
     }
     shown::some_signature(doc, v.ty)
@@ -152,10 +103,7 @@ fn broken(doc: &[u8], c: StartTag, p: Parts, f: Fill) -> bool
     requires of_kind { PartKind c.kind }
     ensures { Breaks doc.now c p result }
 {
-    if p.broken {
-        return true;
-    }
-    !complete(doc, c, f)
+    p.broken || !complete(doc, c, f)
 }
 
 // Whether the first part's type is basic, with this one.
@@ -166,7 +114,7 @@ fn keyed(doc: &[u8], c: StartTag, p: Parts, f: Fill) -> bool
     if p.count != 0 {
         return p.basic;
     }
-    if c.values.ty.kind == 0 {
+    if c.values.ty.is_absent() {
         return false;
     }
     shown::basic_signature(doc, c.values.ty)
@@ -204,91 +152,77 @@ fn holds(kind: u32, part: u32) -> bool
     requires { DefinitionKind kind }
     ensures { Holds kind part result }
 {
-    if kind == kinds::SIMPLE_TYPE {
-        return false;
+    match kind {
+        kinds::SIMPLE_TYPE => false,
+        kinds::ENUM => part == kinds::ENUMVALUE,
+        _ => part == kinds::MEMBER,
     }
-    if kind == kinds::ENUM {
-        return part == kinds::ENUMVALUE;
-    }
-    part == kinds::MEMBER
 }
 
 // A part of the definition with row i, when these parts were seen before.
-fn noted_part(
-    doc: &[u8],
-    classes: &ClassTable,
-    rows: &mut [u32],
-    warnings: &mut [u32],
-    text: &mut [u8],
-    c: StartTag,
-    i: usize,
-    p: Parts,
-    f: Fill,
-) -> Result<Inner, Refusal>
-    requires ready { Ready doc.now c f }
+fn noted_part(r: &mut Reader, c: StartTag, i: usize, p: Parts, f: Fill) -> Result<Inner, Refusal>
+    requires ready { Ready r.old.doc.now c f }
     requires owner { i < f.rows }
     requires of_kind { PartKind c.kind }
     requires few { p.count < f.at }
-    ensures { Noted doc.now c i p f
-        (lent rows.old warnings.old text.old)
-        (lent rows.new warnings.new text.new) result }
+    ensures keeps { Keeps r.old r.new }
+    ensures is { Noted r.old.doc.now c i p f
+        (lent_to r.old)
+        (lent_to r.new) result }
 {
-    let q = one_more(doc, c, p, f);
-    let fill = part(doc, classes, rows, warnings, text, c, i, f)?;
+    let q = one_more(r.doc, c, p, f);
+    let fill = part(r, c, i, f)?;
     Ok(Inner { fill, parts: q })
 }
 
 // A child of the definition with row i, when these parts were seen before.
 fn definition_child(
-    doc: &[u8],
-    classes: &ClassTable,
-    rows: &mut [u32],
-    warnings: &mut [u32],
-    text: &mut [u8],
+    r: &mut Reader,
     kind: u32,
     c: StartTag,
     i: usize,
     p: Parts,
     f: Fill,
 ) -> Result<Inner, Refusal>
-    requires ready { Ready doc.now c f }
+    requires ready { Ready r.old.doc.now c f }
     requires owner { i < f.rows }
     requires of_kind { DefinitionKind kind }
     requires few { p.count < f.at }
-    ensures { Child doc.now kind i c p f
-        (lent rows.old warnings.old text.old)
-        (lent rows.new warnings.new text.new) result }
+    ensures keeps { Keeps r.old r.new }
+    ensures is { Child r.old.doc.now kind i c p f
+        (lent_to r.old)
+        (lent_to r.new) result }
 {
     if holds(kind, c.kind) {
-        return noted_part(doc, classes, rows, warnings, text, c, i, p, f);
+        return noted_part(r, c, i, p, f);
     }
-    let fill = skip::docstring_or_skip(doc, classes, rows, warnings, c, i, f)?;
+    let fill = skip::docstring_or_skip(r.doc, r.classes, &mut *r.rows, &mut *r.warnings, c, i, f)?;
     Ok(Inner { fill, parts: p })
 }
 
 // The children of the definition with row i, whose name stands at a place.
 fn definition_children(
-    doc: &[u8],
-    classes: &ClassTable,
-    rows: &mut [u32],
-    warnings: &mut [u32],
-    text: &mut [u8],
+    r: &mut Reader,
     kind: u32,
     at: usize,
     len: usize,
     i: usize,
     f: Fill,
 ) -> Result<Inner, Refusal>
-    requires bounded { Bounded doc.now f }
+    requires bounded { Bounded r.old.doc.now f }
     requires owner { i < f.rows }
     requires of_kind { DefinitionKind kind }
-    requires named { «at» + len ≤ length doc.now }
-    ensures { Body doc.now kind «at» len i f
-        (lent rows.old warnings.old text.old)
-        (lent rows.new warnings.new text.new) result }
+    requires named { «at» + len ≤ length r.old.doc.now }
+    ensures keeps { Keeps r.old r.new }
+    ensures is { Body r.old.doc.now kind «at» len i f
+        (lent_to r.old)
+        (lent_to r.new) result }
 {
+    let doc = r.doc;
+    let classes = r.classes;
     let mut g = f;
     let mut p = no_parts();
+    // A loop beside `children::children`, since each child may also change the parts seen.
     loop {
         match step(doc, classes, g.at, at, len)? {
             Next::Close(closing) => {
@@ -299,7 +233,7 @@ fn definition_children(
             }
             Next::Start(c) => {
                 let h = g.moved(c.end);
-                let read = definition_child(doc, classes, rows, warnings, text, kind, c, i, p, h)?;
+                let read = definition_child(r, kind, c, i, p, h)?;
                 g = read.fill;
                 p = read.parts;
             }
@@ -308,23 +242,15 @@ fn definition_children(
 }
 
 // The content of the definition with row i, from after its start tag on.
-fn content(
-    doc: &[u8],
-    classes: &ClassTable,
-    rows: &mut [u32],
-    warnings: &mut [u32],
-    text: &mut [u8],
-    c: StartTag,
-    i: usize,
-    f: Fill,
-) -> Result<Inner, Refusal>
-    requires bounded { Bounded doc.now f }
+fn content(r: &mut Reader, c: StartTag, i: usize, f: Fill) -> Result<Inner, Refusal>
+    requires bounded { Bounded r.old.doc.now f }
     requires owner { i < f.rows }
     requires of_kind { DefinitionKind c.kind }
-    requires named { c.at + c.len ≤ length doc.now }
-    ensures { Content doc.now c i f
-        (lent rows.old warnings.old text.old)
-        (lent rows.new warnings.new text.new) result }
+    requires named { c.at + c.len ≤ length r.old.doc.now }
+    ensures keeps { Keeps r.old r.new }
+    ensures is { Content r.old.doc.now c i f
+        (lent_to r.old)
+        (lent_to r.new) result }
 {
     if c.closes {
         return Ok(Inner {
@@ -332,25 +258,23 @@ fn content(
             parts: no_parts(),
         });
     }
-    definition_children(
-        doc, classes, rows, warnings, text, c.kind, c.at, c.len, i, f,
-    )
+    definition_children(r, c.kind, c.at, c.len, i, f)
 }
 
-// Why a definition is dropped by its tag alone, or 0.
+// Why a definition is dropped by its tag alone, or 0 as the definitions have it.
 fn tag_reason(doc: &[u8], c: StartTag, f: Fill) -> u32
     requires ready { Ready doc.now c f }
     requires of_kind { DefinitionKind c.kind }
     ensures { TagTold doc.now c result }
 {
     let v = c.values;
-    if v.name.kind == 0 {
+    if v.name.is_absent() {
         return 2;
     }
     if kinds::ENUM < c.kind {
         return 0;
     }
-    if v.ty.kind == 0 {
+    if v.ty.is_absent() {
         return 3;
     }
     if shown::some_signature(doc, v.ty) {
@@ -359,35 +283,21 @@ fn tag_reason(doc: &[u8], c: StartTag, f: Fill) -> u32
     4
 }
 
-// Why a definition is dropped by its parts, or 0.
+// Why a definition is dropped by its parts, or 0 as the definitions have it.
 fn parts_reason(kind: u32, p: Parts) -> u32
     ensures { PartsTold kind p result }
 {
-    if p.broken {
-        if kind == kinds::ENUM {
-            return 5;
-        }
-        return 6;
+    match kind {
+        kinds::ENUM if p.broken => 5,
+        _ if p.broken => 6,
+        kinds::STRUCT if p.count == 0 => 7,
+        kinds::MAPPING if p.count != 2 => 8,
+        kinds::MAPPING if !p.basic => 9,
+        _ => 0,
     }
-    if kind == kinds::STRUCT {
-        if p.count == 0 {
-            return 7;
-        }
-        return 0;
-    }
-    if kind == kinds::MAPPING {
-        if p.count != 2 {
-            return 8;
-        }
-        if p.basic {
-            return 0;
-        }
-        return 9;
-    }
-    0
 }
 
-// Why a definition is dropped, or 0; only the first reason is told.
+// Why a definition is dropped, or 0 as the definitions have it; only the first reason is told.
 fn reason(doc: &[u8], c: StartTag, p: Parts, f: Fill) -> u32
     requires ready { Ready doc.now c f }
     requires of_kind { DefinitionKind c.kind }
@@ -442,44 +352,29 @@ fn definition_row(
 }
 
 // The rest of a definition that began at f and whose row is put: its content, then whether it is dropped.
-fn rest(
-    doc: &[u8],
-    classes: &ClassTable,
-    rows: &mut [u32],
-    warnings: &mut [u32],
-    text: &mut [u8],
-    c: StartTag,
-    f: Fill,
-    g: Fill,
-) -> Result<Fill, Refusal>
-    requires judging { Judging doc.now c f g }
+fn rest(r: &mut Reader, c: StartTag, f: Fill, g: Fill) -> Result<Fill, Refusal>
+    requires judging { Judging r.old.doc.now c f g }
     requires of_kind { DefinitionKind c.kind }
-    ensures { Rest doc.now c f g
-        (lent rows.old warnings.old text.old)
-        (lent rows.new warnings.new text.new) result }
+    ensures keeps { Keeps r.old r.new }
+    ensures is { Rest r.old.doc.now c f g
+        (lent_to r.old)
+        (lent_to r.new) result }
 {
-    let inner = content(doc, classes, rows, warnings, text, c, f.rows, g)?;
-    Ok(judge(doc, warnings, c, inner.parts, f, inner.fill))
+    let doc = r.doc;
+    let inner = content(r, c, f.rows, g)?;
+    Ok(judge(doc, &mut *r.warnings, c, inner.parts, f, inner.fill))
 }
 
 // A definition, from after its start tag on.
-pub fn definition(
-    doc: &[u8],
-    classes: &ClassTable,
-    rows: &mut [u32],
-    warnings: &mut [u32],
-    text: &mut [u8],
-    c: StartTag,
-    parent: usize,
-    f: Fill,
-) -> Result<Fill, Refusal>
-    requires ready { Ready doc.now c f }
+pub fn definition(r: &mut Reader, c: StartTag, parent: usize, f: Fill) -> Result<Fill, Refusal>
+    requires ready { Ready r.old.doc.now c f }
     requires parent_small { parent ≤ 1048576 }
     requires of_kind { DefinitionKind c.kind }
-    ensures { Begins doc.now c.kind c parent f
-        (lent rows.old warnings.old text.old)
-        (lent rows.new warnings.new text.new) result }
+    ensures keeps { Keeps r.old r.new }
+    ensures is { Begins r.old.doc.now c.kind c parent f
+        (lent_to r.old)
+        (lent_to r.new) result }
 {
-    let g = definition_row(doc, rows, text, c, parent, f)?;
-    rest(doc, classes, rows, warnings, text, c, f, g)
+    let g = definition_row(r.doc, &mut *r.rows, &mut *r.text, c, parent, f)?;
+    rest(r, c, f, g)
 }

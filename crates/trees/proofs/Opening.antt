@@ -1,6 +1,6 @@
 -- Laws of one element: whether something follows its attributes, its bytes, and whether it is too deep.
 -- Assumes nothing.
-use Prim.Native.Nat.{ℕ, zero, suc, ◌+◌, ◌-◌, ◌*◌, ◌≤◌, ◌<◌, ◌^◌}
+use Prim.Native.Nat.{ℕ, zero, suc, ◌+◌, ◌-◌, ◌*◌, ◌≤◌, ◌<◌}
 use native.Mathlib.Omega.{arith}
 use mathlib.Core.Path.{◌≡◌, refl, ap, sym, subst, ◌∙◌}
 use mathlib.Core.List.{List, [], ◌∷◌, ◌++◌, append_assoc}
@@ -27,11 +27,12 @@ use Rattle.trees.specs.Trees.{tree, Forest, bare, more, map_tree, map_forest}
 use Rattle.trees.specs.Shape.{links_of, under}
 use Rattle.trees.specs.Written.{Element, docstring, element_at, tag_of, attributes, docstrings, written_tree, written_forest}
 use Rattle.trees.specs.Writing.{is_open, is_open_node, too_deep, too_deeps}
-use Rattle.trees.specs.Steps.{Held, Sought, HasChild, Puttable, StartPut, DocstringPut}
+use Rattle.trees.specs.Steps.{Held, HasChild, StartPut, DocstringPut}
 use Rattle.trees.specs.declared.children.Standing.{Standing}
 use Rattle.trees.specs.declared.walk.Start.TheVariants.{Closed, Opened}
 use Rattle.std.specs.Prelude.{Ok, Err}
-use Rattle.trees.specs.Walk.{bytes_of, bytes_in, inside_of, OpenIs, IsDeep, AmongOpen, IsAround, Resumes, Openable, Opens, Beginning, Begins}
+use Rattle.trees.specs.Walk.{bytes_of, bytes_in, inside_of, OpenIs, IsDeep, IsAround, Resumes, Opens, Begins}
+use Rattle.trees.proofs.Standing.{held_row, held_few}
 use Rattle.trees.proofs.Zipper.{some_tree, under_none, under_some}
 
 -- ---- docstrings
@@ -120,29 +121,23 @@ open_tree : {A : Type 0} (e : Element) (f : Forest A) → some_tree f ≡ true �
 open_tree e bare h = absurd (subst T (sym h) tt)
 open_tree e (more t f) h = refl
 
-module _ {ws : List ℕ} {n i : ℕ} {s : Standing} (q : Sought ws n i 0 (i + 1) s) where
-  pub opens_docstring : {k : ℕ} → Word ws i 13 k → (k ≡ 0 → ⊥) → OpenIs ws n i (not (eqb k 0))
+module _ {d x ws : List ℕ} {n i : ℕ} (h : Held d x ws n) (l : i < n) where
+  pub opens_docstring : {k : ℕ} → Word ws i 13 k → (k ≡ 0 → ⊥) → OpenIs d x ws n i (not (eqb k 0))
   opens_docstring {k} w z = record {
-    is = λ d x h. ap not (ne_eqb k 0 z) ∙ sym (open_doc (element_at d x ws i) (under i (links_of n ws)) (a_docstring h (omega (arith, q.within)) (λ e. z (w.is ∙ e))));
+    is = ap not (ne_eqb k 0 z) ∙ sym (open_doc (element_at d x ws i) (under i (links_of n ws)) (a_docstring h l (λ e. z (w.is ∙ e))));
   }
 
-  pub opens_child : {k : ℕ} {r : Bool} → Word ws i 13 k → k ≡ 0 → HasChild ws n i r → OpenIs ws n i r
-  opens_child {r = r} w z c = record { is = λ d x h. go d x h r refl }
+  pub opens_child : {k : ℕ} {r : Bool} → Word ws i 13 k → k ≡ 0 → HasChild ws n i r → OpenIs d x ws n i r
+  opens_child {r = r} w z c = record { is = go r refl }
     where
-      l : i < n
-      l = omega (arith, q.within)
-
-      go : (d x : List ℕ) → Held d x ws n → (b : Bool) → r ≡ b → r ≡ is_open (element_at d x ws i) (under i (links_of n ws))
-      go d x h true e = e ∙ sym (open_tree (element_at d x ws i) (under i (links_of n ws)) (under_some ws n h.grouped c e))
-      go d x h false e =
+      go : (b : Bool) → r ≡ b → r ≡ is_open (element_at d x ws i) (under i (links_of n ws))
+      go true e = e ∙ sym (open_tree (element_at d x ws i) (under i (links_of n ws)) (under_some ws n h.grouped c e))
+      go false e =
           e
           ∙ sym (ap (λ l. not (empty l)) (no_docstring h l (sym w.is ∙ z)))
           ∙ ap (is_open (element_at d x ws i)) (sym (under_none ws n l c e))
 
-  pub open_held : i * 16 + 16 ≤ length ws
-  open_held = omega (arith, q.within, q.held)
-
-pub ruleset opening = (opens_docstring, opens_child, open_held, rules)
+pub ruleset opening = (held_row, held_few, opens_docstring, opens_child, rules)
 
 -- ---- nodes
 
@@ -156,16 +151,13 @@ module _ {k o : ℕ} where
   pub deep_other : (k ≡ 1 → ⊥) → IsDeep k o false
   deep_other e = record { deep = λ t. absurd (subst T (sym t) tt); shallow = λ t f. absurd (e f) }
 
-  pub around_some : AmongOpen k o → k ≡ 1 → 1 ≤ o
-  around_some h e = h.some e
-
   pub around_node : k ≡ 1 → IsAround k o (o - 1)
   around_node e = record { is = λ a p. omega (arith, p ∙ ap (λ b. if b (suc a) a) (eq-eqb k 1 e)) }
 
   pub around_other : (k ≡ 1 → ⊥) → IsAround k o o
   around_other e = record { is = λ a p. p ∙ ap (λ b. if b (suc a) a) (ne_eqb k 1 e) }
 
-pub ruleset counting = (deep_node, deep_other, around_some, around_node, around_other, rules)
+pub ruleset counting = (deep_node, deep_other, around_node, around_other, rules)
 
 pub resume_ordered : {s : Standing} {i end : ℕ} → s.ordered ≡ true → Resumes s i end end
 resume_ordered e = record { ordered = λ _. refl; other = λ f. absurd (subst T (sym e ∙ f) tt) }
@@ -272,16 +264,6 @@ module _ (d x ws : List ℕ) (k : ℕ) (f : Forest ℕ) where
 puts_as : {a b t t' : List ℕ} {n r : ℕ} → a ≡ b → Puts a n t t' r → Puts b n t t' r
 puts_as {t = t} {t'} {n} {r} e p = subst (λ l. Puts l n t t' r) e p
 
-module _ {d x ws : List ℕ} {n i put : ℕ} (h : Openable d x ws n i put) where
-  pub open_row : i * 16 + 16 ≤ length ws
-  open_row = omega (arith, h.within, h.held.held)
-
-  pub open_ends : put + length (bytes ">") < 2 ^ 62
-  open_ends = omega (arith, h.room)
-
-  pub open_docstring : {t t₁ : List ℕ} {u : ℕ} → Puts (bytes ">") put t t₁ u → Puttable d x ws n i u
-  open_docstring p = record { held = h.held; within = h.within; room = omega (arith, h.room, p.counts) }
-
 module _ {d x ws : List ℕ} {i put a k : ℕ} {c : Bool} (w : Word ws i 0 k) (g : IsDeep k a c) where
   pub opens_deep : {t t₁ : List ℕ} → c ≡ true → Opens d x ws i a put t t₁ (Err i)
   opens_deep f = record { is = record { row = refl; node = sym w.is ∙ (g.deep f).0; deep = (g.deep f).1 } }
@@ -295,34 +277,14 @@ module _ {d x ws : List ℕ} {i put a k : ℕ} {c : Bool} (w : Word ws i 0 k) (g
     };
   }
 
-pub ruleset openings = (open_row, open_ends, open_docstring, opens_deep, opens_put, rules)
+pub ruleset openings = (held_row, held_few, opens_deep, opens_put, rules)
 
-module _ {d x ws : List ℕ} {n i put : ℕ} {s : Standing} (h : Beginning d x ws n i s put) where
-  pub begin_puts : Puttable d x ws n i put
-  begin_puts = record { held = h.held; within = h.within; room = omega (arith, h.room) }
-
-  pub begin_sought : Sought ws n i 0 (i + 1) s
-  begin_sought = record {
-    few = h.held.few;
-    held = h.held.held;
-    after = omega arith;
-    within = omega (arith, h.within);
-    group = omega arith;
-    grouped = h.held.grouped;
-    stands = h.stand;
-  }
-
+module _ {d x ws : List ℕ} {n i put : ℕ} where
   module _ {t t₁ : List ℕ} {m : ℕ} (q : StartPut d x ws i put t t₁ m) where
-    pub begin_ends : m + length (bytes "/>") < 2 ^ 62
-    begin_ends = omega (arith, h.room, q.most)
-
-    pub begin_opens : Openable d x ws n i m
-    begin_opens = record { held = h.held; within = h.within; room = omega (arith, h.room, q.most) }
-
-    module _ {b : Bool} (o : OpenIs ws n i b) {a : ℕ} {t₂ : List ℕ} where
+    module _ {b : Bool} (o : OpenIs d x ws n i b) {a : ℕ} {t₂ : List ℕ} where
       pub begins_closed : {r : ℕ} → b ≡ false → Puts (bytes "/>") m t₁ t₂ r → Begins d x ws n i a put t t₂ (Ok (Closed r))
       begins_closed e p =
-          let c = sym (o.is d x h.held) ∙ e in
+          let c = sym o.is ∙ e in
           record {
             is = record {
               closed = c;
@@ -333,12 +295,12 @@ module _ {d x ws : List ℕ} {n i put : ℕ} {s : Standing} (h : Beginning d x w
 
       pub begins_deep : {k : ℕ} → b ≡ true → Opens d x ws i a m t₁ t₂ (Err k) → Begins d x ws n i a put t t₂ (Err k)
       begins_deep e p =
-          let c = sym (o.is d x h.held) ∙ e in
+          let c = sym o.is ∙ e in
           record { is = record { row = p.is.row; opens = c; node = p.is.node; deep = p.is.deep } }
 
       pub begins_open : {r : ℕ} → b ≡ true → Opens d x ws i a m t₁ t₂ (Ok r) → Begins d x ws n i a put t t₂ (Ok (Opened r))
       begins_open e p =
-          let c = sym (o.is d x h.held) ∙ e in
+          let c = sym o.is ∙ e in
           record {
             is = record {
               opens = c;
@@ -350,4 +312,4 @@ module _ {d x ws : List ℕ} {n i put : ℕ} {s : Standing} (h : Beginning d x w
             };
           }
 
-pub ruleset beginning = (begin_puts, begin_sought, begin_ends, begin_opens, begins_closed, begins_deep, begins_open, rules)
+pub ruleset beginning = (begins_closed, begins_deep, begins_open, rules)

@@ -6,6 +6,8 @@ use mathlib.Core.Path.{◌≡◌, refl, ap, sym, ◌∙◌}
 use mathlib.Core.List.{List}
 use mathlib.Core.Bool.{Bool, true, false, not, ◌&&◌, and-false}
 use borrow.Author.Rules.{rules}
+use Rattle.std.proofs.Math.Logic.{∥∥₁_elim}
+use Rattle.std.proofs.Math.Bool.{Bool-set}
 use borrow.Author.Tests.{eq-eqb, ne_eqb, eqb-true, eqb-false, ltb-true, leb-true, leb-false, not-false}
 use lib.Dec.{eqb, leb, ltb}
 use lib.ListN.{length}
@@ -17,7 +19,7 @@ use Rattle.items.specs.Words.{word_at, Word}
 use Rattle.items.specs.Order.{parent_at}
 use Rattle.items.proofs.Order.{follow_falls, run_ends}
 use Rattle.trees.specs.Shape.{types, args, members, annotations, nodes}
-use Rattle.trees.specs.Steps.{group_kinds, group_of, NodesLast, Stands, child_in, Sought, Next, HasChild, RowsHeld, RowKept, Late, LastNode, NodesStand, Asked, Child, Past, RunPast, GroupPast}
+use Rattle.trees.specs.Steps.{group_kinds, group_of, Held, NodesLast, Stands, child_in, Next, HasChild, RowsHeld, RowKept, Late, LastNode, NodesStand, Asked, Child, Past, RunPast, GroupPast}
 use Rattle.std.specs.Prelude.{Ok, Err}
 use Rattle.trees.specs.declared.children.Standing.{Standing}
 
@@ -53,13 +55,7 @@ module _ {ws : List ℕ} {k node p a : ℕ} (w : Word ws k 1 p) (v : Word ws (p 
     not = λ e g f. omega (arith, w.is, h.above, eqb-true (p - 1) node (not-false (eqb (p - 1) node) e));
   }
 
-pub late_above : {ws : List ℕ} {k p : ℕ} → RowKept ws k → Word ws k 1 p → 1 ≤ p
-late_above h w = omega (arith, h.above, w.is)
-
-pub late_held : {ws : List ℕ} {k p : ℕ} → RowKept ws k → Word ws k 1 p → (p - 1) * 16 + 16 ≤ length ws
-late_held h w = omega (arith, h.above, h.before, h.held, w.is)
-
-pub ruleset lates = (late_self, late_other, late_node, late_above, late_held, rules)
+pub ruleset lates = (late_self, late_other, late_node, rules)
 
 -- a loop over the rows from row 1 on: node is the last node up to here, or 0
 pub record Lasting (ws : List ℕ) (node k : ℕ) : Type 0 where
@@ -187,34 +183,33 @@ pub record Looking (ws : List ℕ) (n i g from : ℕ) (s : Standing) (k : ℕ) :
   pub none : (m : ℕ) → from ≤ m → m < k → child_in ws g i m ≡ false
   pub passed : s.ordered ≡ true → (m : ℕ) → from ≤ m → m < k → i < word_at ws m 1
 
-module _ {ws : List ℕ} {n i g from : ℕ} {s : Standing} (q : Sought ws n i g from s) where
-  pub look_begins : Looking ws n i g from s from
-  look_begins = record {
-    onward = omega arith;
-    within = q.within;
-    none = λ m a b. absurd (omega (arith, a, b));
-    passed = λ o m a b. absurd (omega (arith, a, b));
+pub look_begins : {ws : List ℕ} {n i g from : ℕ} {s : Standing} → from ≤ n → Looking ws n i g from s from
+look_begins l = record {
+  onward = omega arith;
+  within = l;
+  none = λ m a b. absurd (omega (arith, a, b));
+  passed = λ o m a b. absurd (omega (arith, a, b));
+}
+
+module _ {ws : List ℕ} {n i g from k : ℕ} {s : Standing} (h : Looking ws n i g from s k) (l : k < n) where
+  pub look_asked : {d x : List ℕ} → Held d x ws n → i < from → g < 5 → Asked ws i g k
+  look_asked q a c = record {
+    few = omega (arith, q.few, l);
+    held = omega (arith, q.held, l);
+    after = omega (arith, a, h.onward);
+    group = c;
+    grouped = q.grouped k l;
   }
 
-  module _ {k : ℕ} (h : Looking ws n i g from s k) (l : k < n) where
-    pub look_asked : Asked ws i g k
-    look_asked = record {
-      few = omega (arith, q.few, l);
-      held = omega (arith, q.held, l);
-      after = omega (arith, q.after, h.onward);
-      group = q.group;
-      grouped = q.grouped k l;
-    }
-
-    pub look_past : {b : Bool} → Past ws i g k s b → b ≡ true → Next ws n i g from s (Err k)
-    look_past p e = record {
-      is = record {
-        onward = h.onward;
-        within = h.within;
-        none = λ m a b. below m k (λ c. h.none m a c) (λ c. p.none e n q.stands m c b);
-        passed = h.passed;
-      };
-    }
+  pub look_past : {b : Bool} → ∥ Stands ws n s ∥₁ → Past ws i g k s b → b ≡ true → Next ws n i g from s (Err k)
+  look_past q p e = record {
+    is = record {
+      onward = h.onward;
+      within = h.within;
+      none = λ m a b. below m k (λ c. h.none m a c) (λ c. ∥∥₁_elim q (Bool-set _ _) (λ z. p.none e n z m c b));
+      passed = h.passed;
+    };
+  }
 
 module _ {ws : List ℕ} {n i g from k : ℕ} {s : Standing} (h : Looking ws n i g from s k) where
   pub look_ends : n ≤ k → Next ws n i g from s (Err n)
@@ -255,8 +250,8 @@ pub record Having (ws : List ℕ) (n i : ℕ) (s : Standing) (k : ℕ) : Type 0 
   pub none : (m : ℕ) → i < m → m < k → word_at ws m 1 ≡ suc i → ⊥
   pub first : s.ordered ≡ true → k ≡ i + 1
 
-pub have_begins : {ws : List ℕ} {n i : ℕ} {s : Standing} → Sought ws n i 0 (i + 1) s → Having ws n i s (i + 1)
-have_begins q = record { after = omega arith; within = q.within; none = λ m a b. absurd (omega (arith, a, b)); first = λ _. refl }
+pub have_begins : {ws : List ℕ} {n i : ℕ} {s : Standing} → i < n → Having ws n i s (i + 1)
+have_begins l = record { after = omega arith; within = omega (arith, l); none = λ m a b. absurd (omega (arith, a, b)); first = λ _. refl }
 
 module _ {ws : List ℕ} {n i k : ℕ} {s : Standing} (h : Having ws n i s k) where
   pub have_ends : n ≤ k → HasChild ws n i false
@@ -267,13 +262,16 @@ module _ {ws : List ℕ} {n i k : ℕ} {s : Standing} (h : Having ws n i s k) wh
     have_found e = record { some = λ _. (k, h.after, l, omega (arith, e, w.is)); none = λ f. never (sym f) }
 
     module _ (e : p ≡ i + 1 → ⊥) where
-      pub have_ordered : Sought ws n i 0 (i + 1) s → s.ordered ≡ true → HasChild ws n i false
-      have_ordered q o =
-          let d = q.stands.ordered o in
-          let c = follow_falls (parent_at ws) n d.under k l in
-          let z = h.first o in
-          let y : parent_at ws k ≤ i = below (parent_at ws k) (i + 1) (λ x. omega (arith, x)) (λ x. absurd (e (omega (arith, x, c, z, w.is)))) in
-          record { some = λ f. never f; none = λ _ m a b f. run_ends (parent_at ws) n d.under i k h.after y m (omega (arith, a, z)) b f }
+      pub have_ordered : ∥ Stands ws n s ∥₁ → s.ordered ≡ true → HasChild ws n i false
+      have_ordered q o = record { some = λ f. never f; none = λ _ m a b f. ∥∥₁_elim q (λ u v. absurd u) (λ z. over z m a b f) }
+        where
+          over : Stands ws n s → (m : ℕ) → i < m → m < n → word_at ws m 1 ≡ suc i → ⊥
+          over q m a b f =
+              let d = q.ordered o in
+              let c = follow_falls (parent_at ws) n d.under k l in
+              let z = h.first o in
+              let y : parent_at ws k ≤ i = below (parent_at ws k) (i + 1) (λ x. omega (arith, x)) (λ x. absurd (e (omega (arith, x, c, z, w.is)))) in
+              run_ends (parent_at ws) n d.under i k h.after y m (omega (arith, a, z)) b f
 
       pub have_more : s.ordered ≡ false → Having ws n i s (k + 1)
       have_more o = record {
@@ -286,4 +284,12 @@ module _ {ws : List ℕ} {n i k : ℕ} {s : Standing} (h : Having ws n i s k) wh
         first = λ f. never (sym o ∙ f);
       }
 
-pub ruleset haves = (have_begins, have_ends, have_found, have_ordered, have_more, rules)
+-- row k of the table is held
+module _ {d x ws : List ℕ} {n k : ℕ} (h : Held d x ws n) (l : k < n) where
+  pub held_row : k * 16 + 16 ≤ length ws
+  held_row = omega (arith, h.held, l)
+
+  pub held_few : k < 262144
+  held_few = omega (arith, h.few, l)
+
+pub ruleset haves = (held_row, held_few, have_begins, have_ends, have_found, have_ordered, have_more, rules)

@@ -26,8 +26,9 @@ use Rattle.items.specs.Sound.{Use, good_triple, doc_use, any_text, in_document, 
 use Rattle.items.specs.Written.{Pair, pair, pairs, tag, closing_tag, concat}
 use Rattle.items.proofs.Rows.{row_word}
 use Rattle.items.proofs.Words.{word_in}
+use Rattle.trees.proofs.Standing.{held_row, held_few}
 use Rattle.trees.specs.Written.{docstring, tag_of, given, name_key, value_key, tp_key, word_pairs, docstrings}
-use Rattle.trees.specs.Steps.{Puttable, StartPut, DocstringPut, ClosePut, keyed, CountFits, NamePut, RowHeld, GivenHeld, GivenPut, shown_at, AttributePut, AttributesPut, TaggedPut, WordHeld, WordPut}
+use Rattle.trees.specs.Steps.{Held, StartPut, DocstringPut, ClosePut, keyed, NamePut, GivenHeld, GivenPut, shown_at, AttributePut, AttributesPut, TaggedPut, WordHeld, WordPut}
 
 -- the same bytes in other words
 puts_as : {xs ys t t' : List ℕ} {n r : ℕ} → xs ≡ ys → Puts xs n t t' r → Puts ys n t t' r
@@ -56,23 +57,14 @@ pairs-append (p ∷ ps) qs = ap (◌++◌ (pair p.key p.value)) (pairs-append ps
 
 -- ---- names of tags
 
-pub name_fits : (s : List ℕ) {before t t' : List ℕ} {n m : ℕ} → CountFits (n + length before) 20 → Puts before n t t' m → length s ≤ 20 → m + length s < 2 ^ 62
-name_fits s h p l = omega (arith, h.fits, p.counts)
-
 pub name_put : {k n m r : ℕ} {before s t t₁ t₂ : List ℕ} → Puts before n t t₁ m → s ≡ tag_of k → length s ≤ 20 → Puts s m t₁ t₂ r → NamePut k before n t t₂ r
 name_put q e l w = record { puts = puts_then q (puts_as e w); most = omega (arith, q.counts, w.counts) }
-
-pub close_fits : (n : ℕ) → n + 33554432 < 2 ^ 62 → CountFits (n + length (bytes "</")) 20
-close_fits n h = record { fits = omega (arith, h) }
-
-pub close_end_lem : {k n : ℕ} {t t₁ : List ℕ} (m : ℕ) → n + 33554432 < 2 ^ 62 → NamePut k (bytes "</") n t t₁ m → m + length (bytes ">") < 2 ^ 62
-close_end_lem m h p = omega (arith, h, p.most)
 
 pub close_put : {k n m r : ℕ} {t t₁ t₂ : List ℕ} → NamePut k (bytes "</") n t t₁ m → Puts (bytes ">") m t₁ t₂ r → ClosePut k n t t₂ r
 unfolding closing_tag
 close_put p q = record { puts = puts_then p.puts q; most = omega (arith, p.most, q.counts) }
 
-pub ruleset names = (name_fits, name_put, close_fits, close_end_lem, close_put, rules)
+pub ruleset names = (name_put, close_put, rules)
 
 -- ---- attributes
 
@@ -83,9 +75,6 @@ attribute_bytes : (key e : List ℕ) → (keyed key ++ e) ++ (34 ∷ []) ≡ (32
 attribute_bytes key e = simp (append_assoc, append-nil)
 
 module _ {s b : List ℕ} {n : ℕ} (h : GivenHeld s b n) where
-  pub given_value : (n + length b + 6 * length s < 2 ^ 62)
-  given_value = omega (arith, h.room, h.short, h.lead)
-
   module _ {t t₁ : List ℕ} {a : ℕ} (v : Puts (b ++ escape s) n t t₁ a) where
     most_put : a ≤ n + 6291476
     most_put = omega (arith, v.counts, length-append b (escape s), escape_most s, h.short, h.lead)
@@ -99,26 +88,15 @@ module _ {s b : List ℕ} {n : ℕ} (h : GivenHeld s b n) where
       most = omega (arith, q.counts, most_put);
     }
 
-pub ruleset givens = (given_value, given_end, given_put, rules)
+pub ruleset givens = (given_end, given_put, rules)
 
-pub attribute_held : {d x ws b s : List ℕ} {i n : ℕ} (y : Triple) → RowHeld d x ws i n 6291520 → length b ≤ 20 → s ≡ shown d x y → GivenHeld s b n
-attribute_held {d} {x} y h q z = record { short = rw z (short_shown d x y h.document h.text); lead = q; room = h.room }
+pub attribute_held : {d x ws b s : List ℕ} {m n : ℕ} (y : Triple) → Held d x ws m → n + 6291520 < 2 ^ 62 → length b ≤ 20 → s ≡ shown d x y → GivenHeld s b n
+attribute_held {d} {x} y h r q z = record { short = rw z (short_shown d x y h.document h.text); lead = q; room = r }
 
 pub attribute_put : {d x ws b s t t₁ : List ℕ} {i k n r : ℕ} {y : Triple} {a : Bool} → TripleIs ws i k y → a ≡ absent y → a ≡ false → s ≡ shown d x y → GivenPut s b n t t₁ r → AttributePut d x ws i k b n t t₁ r
 attribute_put {d} {x} {ws} {s = s} {i = i} {k = k} e c f z g =
     let u : s ≡ shown d x (triple_at k (drop (i * 16) ws)) = z ∙ ap (shown d x) e.is in
     record { puts = λ key o. rw (ap absent (sym e.is) ∙ sym c ∙ f) (puts_as (ap (λ v. pairs (given key (some v))) u) (g.puts key o)); most = g.most }
-
-module _ {d x ws : List ℕ} {i n : ℕ} (h : RowHeld d x ws i n 18875000) where
-  pub first_held : RowHeld d x ws i n 6291520
-  first_held = record { document = h.document; text = h.text; held = h.held; room = omega (arith, h.room) }
-
-  module _ {b t t₁ : List ℕ} {m : ℕ} (a : AttributePut d x ws i 2 b n t t₁ m) where
-    pub second_held : RowHeld d x ws i m 6291520
-    second_held = record { document = h.document; text = h.text; held = h.held; room = omega (arith, h.room, a.most) }
-
-    pub third_held : {e t₂ : List ℕ} {l : ℕ} → AttributePut d x ws i 5 e m t₁ t₂ l → RowHeld d x ws i l 6291520
-    third_held c = record { document = h.document; text = h.text; held = h.held; room = omega (arith, h.room, a.most, c.most) }
 
 pub attributes_put : {d x ws a b t t₁ t₂ t₃ : List ℕ} {i k n m l r : ℕ} → a ≡ keyed (name_key k) → b ≡ keyed (value_key k) → AttributePut d x ws i 2 a n t t₁ m → AttributePut d x ws i 5 b m t₁ t₂ l → AttributePut d x ws i 8 (bytes " tp:type=\"") l t₂ t₃ r → AttributesPut d x ws i k n t t₃ r
 attributes_put {d} {x} {ws} {i = i} {k = k} e f u v c = record {
@@ -129,50 +107,33 @@ attributes_put {d} {x} {ws} {i = i} {k = k} e f u v c = record {
   most = omega (arith, u.most, v.most, c.most);
 }
 
-pub ruleset attribute = (attribute_absent, attribute_held, attribute_put, rules)
+pub ruleset attribute = (held_row, held_few, attribute_absent, attribute_held, attribute_put, rules)
 
-pub ruleset attributes_of = (first_held, second_held, third_held, attributes_put, rules)
+pub ruleset attributes_of = (attributes_put, rules)
 
 -- ---- word 14
 
 pub word_valid : {ws : List ℕ} {i k n w : ℕ} → WordHeld ws i k n → Word ws i 14 w → valid_word k w ≡ true
 word_valid h w = rw w.is h.valid
 
-pub word_fits : (s : List ℕ) {ws : List ℕ} {i k n : ℕ} → WordHeld ws i k n → length s ≤ 20 → n + length s < 2 ^ 62
-word_fits s h l = omega (arith, h.room)
-
 pub word_put : {ws s t t₁ : List ℕ} {i k n w r : ℕ} → Word ws i 14 w → s ≡ pairs (word_pairs k w) → length s ≤ 20 → Puts s n t t₁ r → WordPut ws i k n t t₁ r
 word_put {k = k} e q l v = record { puts = puts_as (q ∙ ap (λ j. pairs (word_pairs k j)) e.is) v; most = omega (arith, v.counts) }
 
-pub ruleset told = (word_valid, word_fits, word_put, rules)
+pub ruleset told = (word_valid, word_put, rules)
 
 -- ---- the start tag
-
-pub tag_fits : {d x ws : List ℕ} {i n : ℕ} → RowHeld d x ws i n 18876000 → CountFits (n + length (bytes "<")) 20
-tag_fits h = record { fits = omega (arith, h.room) }
-
-pub tagged_held : {d x ws t t₁ : List ℕ} {i k n m : ℕ} → RowHeld d x ws i n 18876000 → NamePut k (bytes "<") n t t₁ m → RowHeld d x ws i m 18875000
-tagged_held h p = record { document = h.document; text = h.text; held = h.held; room = omega (arith, h.room, p.most) }
 
 pub tagged_put : {d x ws t t₁ t₂ : List ℕ} {i k n m r : ℕ} → NamePut k (bytes "<") n t t₁ m → AttributesPut d x ws i k m t₁ t₂ r → TaggedPut d x ws i k n t t₂ r
 tagged_put p q = record { puts = puts_then p.puts q.puts; most = omega (arith, p.most, q.most) }
 
-pub ruleset tagging = (tag_fits, tagged_held, tagged_put, rules)
+pub ruleset tagging = (tagged_put, rules)
 
-module _ {d x ws : List ℕ} {n i put : ℕ} (h : Puttable d x ws n i put) where
-  pub start_held : RowHeld d x ws i put 18876000
-  start_held = record {
-    document = h.held.document;
-    text = h.held.text;
-    held = omega (arith, h.held.held, h.within);
-    room = omega (arith, h.room);
-  }
-
-  pub start_word : {t t₁ : List ℕ} {k l : ℕ} → Word ws i 0 k → TaggedPut d x ws i k put t t₁ l → WordHeld ws i k l
-  start_word w p = record {
-    held = omega (arith, h.held.held, h.within);
-    valid = rw w.is (h.held.words i h.within);
-    room = omega (arith, h.room, p.most);
+module _ (put : ℕ) (r : put + 33554432 < 2 ^ 62) where
+  pub start_word : {d x ws t t₁ : List ℕ} {n i k l : ℕ} → Held d x ws n → i < n → Word ws i 0 k → TaggedPut d x ws i k put t t₁ l → WordHeld ws i k l
+  start_word {i = i} h a w p = record {
+    held = omega (arith, h.held, a);
+    valid = rw w.is (h.words i a);
+    room = omega (arith, r, p.most);
   }
 
 -- the attributes by kind and word 14
@@ -205,7 +166,7 @@ start_put {d} {x} {ws} {i = i} {k = k} w p v =
       most = omega (arith, p.most, v.most);
     }
 
-pub ruleset starts = (start_held, start_word, start_put, rules)
+pub ruleset starts = (held_row, held_few, start_word, start_put, rules)
 
 -- ---- docstrings
 
@@ -287,27 +248,27 @@ doc_none {ws} {t} {i} {put} d x e f = record {
   most = omega arith;
 }
 
-module _ {d x ws t t₁ s : List ℕ} {n i put m : ℕ} (y : Triple) (h : Puttable d x ws n i put) (p : Puts (bytes "<tp:docstring>") put t t₁ m) (z : s ≡ shown d x y) where
+module _ {d x ws t t₁ s : List ℕ} {n put m : ℕ} (y : Triple) (h : Held d x ws n) (r : put + 33554432 < 2 ^ 62) (p : Puts (bytes "<tp:docstring>") put t t₁ m) (z : s ≡ shown d x y) where
   doc_short : length s ≤ 1048576
-  doc_short = rw z (short_shown d x y h.held.document h.held.text)
+  doc_short = rw z (short_shown d x y h.document h.text)
 
   pub doc_room : m + length s < 2 ^ 62
-  doc_room = omega (arith, h.room, p.counts, doc_short)
+  doc_room = omega (arith, r, p.counts, doc_short)
 
   module _ {t₂ : List ℕ} {l : ℕ} (q : Puts s m t₁ t₂ l) where
     pub doc_end : l + length (bytes "</tp:docstring>") < 2 ^ 62
-    doc_end = omega (arith, h.room, p.counts, q.counts, doc_short)
+    doc_end = omega (arith, r, p.counts, q.counts, doc_short)
 
-    pub doc_put : {t₃ : List ℕ} {r : ℕ} → TripleIs ws i 11 y → (y.len ≡ 0 → ⊥) → Puts (bytes "</tp:docstring>") l t₂ t₃ r → DocstringPut d x ws i put t t₃ r
-    doc_put e f v =
+    pub doc_put : {t₃ : List ℕ} {i r : ℕ} → i < n → TripleIs ws i 11 y → (y.len ≡ 0 → ⊥) → Puts (bytes "</tp:docstring>") l t₂ t₃ r → DocstringPut d x ws i put t t₃ r
+    doc_put {i = i} a e f v =
         let w = triple_at 11 (drop (i * 16) ws) in
         let u : s ≡ shown d x w = z ∙ ap (shown d x) e.is in
         record {
           puts =
               puts_as
-              (doc_there d x (doc_use (word_at ws i 0)) w (λ g. f (ap (λ o. o.len) e.is ∙ g)) (h.held.docs i h.within) (h.held.docs_in i h.within))
+              (doc_there d x (doc_use (word_at ws i 0)) w (λ g. f (ap (λ o. o.len) e.is ∙ g)) (h.docs i a) (h.docs_in i a))
               (puts_then p (puts_then (puts_as u q) v));
           most = omega (arith, p.counts, q.counts, v.counts, doc_short);
         }
 
-pub ruleset docs = (doc_none, doc_room, doc_end, doc_put, rules)
+pub ruleset docs = (held_row, held_few, doc_none, doc_room, doc_end, doc_put, rules)

@@ -1,6 +1,6 @@
 -- Laws of the walk: what each turn leaves to do.
 -- Assumes nothing.
-use Prim.Native.Nat.{ℕ, zero, suc, ◌+◌, ◌-◌, ◌*◌, ◌≤◌, ◌<◌, ◌^◌}
+use Prim.Native.Nat.{ℕ, zero, suc, ◌+◌, ◌-◌, ◌*◌, ◌≤◌, ◌<◌}
 use native.Mathlib.Omega.{arith}
 use mathlib.Core.Path.{◌≡◌, refl, ap, sym, subst, ◌∙◌}
 use mathlib.Core.List.{List, [], ◌++◌, append_assoc, append-nil}
@@ -22,7 +22,7 @@ use Rattle.trees.specs.Trees.{tree, more, sizes}
 use Rattle.trees.specs.Shape.{links_of, under, shape_at, types, args, members, annotations, nodes}
 use Rattle.trees.specs.Written.{element_at, tree_at, tag_of, written_tree}
 use Rattle.trees.specs.Writing.{first, too_deep, too_deeps}
-use Rattle.trees.specs.Steps.{group_kinds, group_of, Held, Stands, Sought, NextAt, NoNext, Next, ClosePut}
+use Rattle.trees.specs.Steps.{group_kinds, group_of, Held, Stands, NextAt, NoNext, Next, ClosePut}
 use Rattle.trees.specs.declared.children.Standing.{Standing}
 use Rattle.trees.specs.declared.walk.Walk.{Walk}
 use Rattle.trees.specs.declared.walk.Start.{Start}
@@ -30,7 +30,8 @@ use Rattle.trees.specs.declared.walk.Start.TheVariants.{Closed, Opened}
 use Rattle.std.specs.Prelude.{Result, Ok, Err}
 use Rattle.std.specs.declared.ops.ControlFlow.{ControlFlow}
 use Rattle.std.specs.declared.ops.ControlFlow.TheVariants.{Continue, Break}
-use Rattle.trees.specs.Walk.{rest, bytes_of, bytes_in, inside_of, AmongOpen, IsAround, Resumes, Beginning, Begins, Above, at_top, up, Walking, TopOpen, Walks, Enters, Leaves, Turns, LeavesIs}
+use Rattle.trees.specs.Walk.{rest, bytes_of, bytes_in, inside_of, AmongOpen, IsAround, Resumes, Begins, Above, at_top, up, Walking, TopOpen, Walks, Enters, Leaves, Turns, LeavesIs}
+use Rattle.trees.proofs.Standing.{held_row, held_few}
 use Rattle.trees.proofs.Zipper.{rest_all_on, rest_next, rest_next_on, rest_later, rest_none, rest_pass}
 use Rattle.trees.proofs.Counted.{only, under_most}
 use Rattle.trees.proofs.Opening.{closed_shallow, open_deep, open_shallow}
@@ -95,39 +96,10 @@ begins_as {d} {x} {ws} {n} {i} {o} {put} {t} {t'} h e = subst (λ z. Begins d x 
 -- ---- a turn
 
 module _ {d x ws : List ℕ} {n top : ℕ} {s : Standing} {w : Walk} {out : List ℕ} (h : Walking d x ws n top s w out) where
-  pub walk_sought : Sought ws n w.row w.group w.from s
-  walk_sought = record {
-    few = h.held.few;
-    held = h.held.held;
-    after = h.after;
-    within = h.onward;
-    group = h.group;
-    grouped = h.held.grouped;
-    stands = h.stand;
-  }
-
   pub walk_left : 0 < w.left
   walk_left = omega (arith, h.enough, h.group)
 
-  pub walk_held : w.row * 16 + 16 ≤ length ws
-  walk_held = omega (arith, h.within, h.held.held)
-
-  pub walk_room : w.put + 33554432 < 2 ^ 62
-  walk_room = omega (arith, h.room)
-
-  pub walk_few : w.nodes ≤ 1024
-  walk_few = h.few
-
   module _ {k : ℕ} (q : NextAt ws n w.row w.group w.from s k) where
-    pub enter_begins : Beginning d x ws n k s w.put
-    enter_begins = record { held = h.held; stand = h.stand; within = q.within; room = omega (arith, h.room) }
-
-    pub enter_held : k * 16 + 16 ≤ length ws
-    enter_held = omega (arith, q.within, h.held.held)
-
-    pub enter_few : k < 262144
-    enter_few = omega (arith, q.within, h.held.few)
-
     parent_is : word_at ws k 1 ≡ suc w.row
     parent_is = eqb-true (word_at ws k 1) (suc w.row) (both_true (among (word_at ws k 0) (group_kinds w.group)) (eqb (word_at ws k 1) (suc w.row)) q.is).1
 
@@ -160,8 +132,6 @@ module _ {d x ws : List ℕ} {n top : ℕ} {s : Standing} {w : Walk} {out : List
       is = record {
         fewer = omega (arith, walk_left);
         walks = record {
-          held = h.held;
-          stand = h.stand;
           within = h.within;
           after = omega (arith, h.after, q.onward);
           onward = omega (arith, q.within);
@@ -207,8 +177,6 @@ module _ {d x ws : List ℕ} {n top : ℕ} {s : Standing} {w : Walk} {out : List
           is = record {
             fewer = omega (arith, walk_left);
             walks = record {
-              held = h.held;
-              stand = h.stand;
               within = q.within;
               after = omega arith;
               onward = omega (arith, q.within);
@@ -244,8 +212,6 @@ module _ {d x ws : List ℕ} {n top : ℕ} {s : Standing} {w : Walk} {out : List
       is = record {
         fewer = omega (arith, walk_left);
         walks = record {
-          held = h.held;
-          stand = h.stand;
           within = h.within;
           after = omega arith;
           onward = omega (arith, h.within);
@@ -321,14 +287,14 @@ module _ {d x ws : List ℕ} {n top : ℕ} {s : Standing} {w : Walk} {out : List
               before : w.row < word_at ws m 1 → p < word_at ws m 1
               before l = omega (arith, l, less)
 
-        pub close_up : {parent group from o : ℕ} → (w.row ≡ top → ⊥) → Word ws w.row 1 parent → group ≡ group_of kind → Resumes s w.row end from → IsAround kind w.nodes o → Leaves d x ws n top s w t (Continue record { row = parent - 1; group = group; from = from; nodes = o; put = put; left = w.left - 1 })
-        close_up {parent} {group} {from} {o} z y f r a = go h.above refl refl
+        pub close_up : {parent group from o : ℕ} → Held d x ws n → (w.row ≡ top → ⊥) → Word ws w.row 1 parent → group ≡ group_of kind → Resumes s w.row end from → IsAround kind w.nodes o → Leaves d x ws n top s w t (Continue record { row = parent - 1; group = group; from = from; nodes = o; put = put; left = w.left - 1 })
+        close_up {parent} {group} {from} {o} rows z y f r a = go h.above refl refl
           where
             go : {l : List ℕ} {p : Option ℕ} → Above d x ws n top s w.row w.nodes l p h.turns → l ≡ h.tail → p ≡ h.next → Leaves d x ws n top s w t (Continue record { row = parent - 1; group = group; from = from; nodes = o; put = put; left = w.left - 1 })
             go (at_top e _ _ _) _ _ = absurd (z e)
             go (up {p = p} {a = b} {left = left} {end = after} {next = next} big e few u j m enough passed above) f1 f2 =
                 let g = group_of (word_at ws w.row 0) in
-                let less : p < w.row = omega (arith, e, (h.held.parents w.row h.within (omega (arith, big))).1) in
+                let less : p < w.row = omega (arith, e, (rows.parents w.row h.within (omega (arith, big))).1) in
                 let row_is : p ≡ parent - 1 = omega (arith, y.is, e) in
                 let group_is : g ≡ group = sym (f ∙ ap group_of v.is) in
                 let o_is : b ≡ o = sym (a.is b (u ∙ ap (λ z. inside_of z b) (sym v.is))) in
@@ -341,8 +307,6 @@ module _ {d x ws : List ℕ} {n top : ℕ} {s : Standing} {w : Walk} {out : List
                 let moved : begin ≡ come = λ i. record { row = row_is i; group = group_is i; from = from; nodes = o_is i; put = put; left = w.left - 1 } in
                 let walked : Walking d x ws n top s begin t =
                 record {
-                  held = h.held;
-                  stand = h.stand;
                   within = omega (arith, less, h.within);
                   after = omega (arith, less, facts.0);
                   onward = facts.1;
@@ -369,23 +333,17 @@ module _ {d x ws : List ℕ} {n top : ℕ} {s : Standing} {w : Walk} {out : List
 -- ---- the beginning
 
 module _ {d x ws : List ℕ} {n top : ℕ} where
-  pub top_begins : {s : Standing} → Held d x ws n → top < n → Stands ws n s → Beginning d x ws n top s 0
-  top_begins h l g = record { held = h; stand = g; within = l; room = omega arith }
-
-  module _ {s : Standing} (h : Beginning d x ws n top s 0) where
-    pub top_opens : {t t' : List ℕ} {z : Start} {put : ℕ} → Begins d x ws n top 0 0 t t' (Ok z) → z ≡ Opened put → TopOpen d x ws n top s put t'
-    top_opens {t} b₀ y =
-        let b = begins_as b₀ y in
-        record {
-          held = h.held;
-          stand = h.stand;
-          within = h.within;
-          opens = b.is.opens;
-          begun = b.is.begun;
-          stands = b.is.puts.stands [] (empty_stands 1 t);
-          is = b.is.is;
-          most = omega (arith, b.is.most);
-        }
+  pub top_opens : {t t' : List ℕ} {z : Start} {put : ℕ} → top < n → Begins d x ws n top 0 0 t t' (Ok z) → z ≡ Opened put → TopOpen d x ws n top put t'
+  top_opens {t} l b₀ y =
+      let b = begins_as b₀ y in
+      record {
+        within = l;
+        opens = b.is.opens;
+        begun = b.is.begun;
+        stands = b.is.puts.stands [] (empty_stands 1 t);
+        is = b.is.is;
+        most = omega (arith, b.is.most);
+      }
 
   module _ {t t' : List ℕ} where
     pub top_deep : {k : ℕ} → Begins d x ws n top 0 0 t t' (Err k) → Walks d x ws n top t' (Err k)
@@ -401,15 +359,13 @@ module _ {d x ws : List ℕ} {n top : ℕ} where
       };
     }
 
-module _ {d x ws : List ℕ} {n top put : ℕ} {s : Standing} {out : List ℕ} (h : TopOpen d x ws n top s put out) where
-  pub top_walks : {kind o : ℕ} → Word ws top 0 kind → o ≡ inside_of kind 0 → Walking d x ws n top s (record { row = top; group = 0; from = top + 1; nodes = o; put = put; left = 6 * n }) out
+module _ {d x ws : List ℕ} {n top put : ℕ} {out : List ℕ} (h : TopOpen d x ws n top put out) where
+  pub top_walks : {s : Standing} {kind o : ℕ} → Held d x ws n → Word ws top 0 kind → o ≡ inside_of kind 0 → Walking d x ws n top s (record { row = top; group = 0; from = top + 1; nodes = o; put = put; left = 6 * n }) out
   unfolding shape_at
-  top_walks {kind} {o} v e =
+  top_walks {s} {kind} {o} rows v e =
       let u = under top (links_of n ws) in
       let i : o ≡ inside_of (word_at ws top 0) 0 = e ∙ ap (λ z. inside_of z 0) v.is in
       record {
-        held = h.held;
-        stand = h.stand;
         within = h.within;
         after = omega arith;
         onward = omega (arith, h.within);
@@ -430,7 +386,7 @@ module _ {d x ws : List ℕ} {n top put : ℕ} {s : Standing} {out : List ℕ} (
             ∙ ap (too_deeps (element_at d x ws) o) (sym (rest_all_on ws n top))
             ∙ first-none (too_deeps (element_at d x ws) o (rest (links_of n ws) 0 top (top + 1)));
         enough = omega (arith, under_most ws n top h.within, ap sizes (rest_all_on ws n top), h.within);
-        room = omega (arith, h.most, h.held.few);
+        room = omega (arith, h.most, rows.few);
       }
     where
       inside_one : (b : Bool) → if b 1 0 ≤ 1024
@@ -440,9 +396,6 @@ module _ {d x ws : List ℕ} {n top put : ℕ} {s : Standing} {out : List ℕ} (
       first-none : (a : Option ℕ) → a ≡ first a none
       first-none none = refl
       first-none (some p) = refl
-
-  pub top_held : top * 16 + 16 ≤ length ws
-  top_held = omega (arith, h.within, h.held.held)
 
 -- ---- one turn, and all
 
@@ -494,18 +447,21 @@ module _ {d x ws : List ℕ} {n top : ℕ} {s : Standing} {w : Walk} where
     pub loop_never : {z : Result ℕ ℕ} → w.left ≤ 0 → Walks d x ws n top t z
     loop_never l = absurd (omega (arith, walk_left g.walks, l))
 
-pub ruleset turning = (walk_sought, turn_at, turn_none, turn_deep, turn_enters, turn_leaves, rules)
+pub ruleset turning = (turn_at, turn_none, turn_deep, turn_enters, turn_leaves, rules)
 
 pub ruleset looping = (loop_begins, loop_walks, loop_deep, loop_again, loop_less, loop_ends, loop_never, rules)
 
 pub ruleset topping = (top_opens, top_deep, top_closed, rules)
 
-pub ruleset treeing = (top_begins, rules)
+pub stands_known : {ws : List ℕ} {n : ℕ} {s : Standing} → Stands ws n s → ∥ Stands ws n s ∥₁
+stands_known h = ∣ h ∣₁
 
-pub ruleset tops = (top_walks, top_held, rules)
+pub ruleset treeing = (stands_known, rules)
 
-pub ruleset entering = (enter_begins, enter_held, enter_few, enter_deep, enter_closed, enter_open, walk_left, walk_few, rules)
+pub ruleset tops = (held_row, held_few, top_walks, rules)
+
+pub ruleset entering = (held_row, held_few, enter_deep, enter_closed, enter_open, walk_left, rules)
 
 pub ruleset leaving = (leave_group, walk_left, rules)
 
-pub ruleset closing = (walk_left, walk_held, walk_room, close_top, around_needs, parent_some, close_up, rules)
+pub ruleset closing = (held_row, held_few, walk_left, close_top, around_needs, parent_some, close_up, rules)

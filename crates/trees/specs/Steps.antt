@@ -59,16 +59,6 @@ pub record Stands (ws : List ℕ) (n : ℕ) (s : Standing) : Type 0 where
 abbrev pub child_in : List ℕ → ℕ → ℕ → ℕ → Bool
 child_in ws g i k = among (word_at ws k 0) (group_kinds g) && eqb (word_at ws k 1) (suc i)
 
--- children of row i in group g are sought from a row on among n rows that are held, each kind in a group
-pub record Sought (ws : List ℕ) (n i g from : ℕ) (s : Standing) : Type 0 where
-  pub few : n ≤ 262144
-  pub held : n * 16 ≤ length ws
-  pub after : i < from
-  pub within : from ≤ n
-  pub group : g < 5
-  pub grouped : (k : ℕ) → k < n → among (word_at ws k 0) (group_kinds (group_of (word_at ws k 0))) ≡ true
-  pub stands : Stands ws n s
-
 -- the first child of row i in group g from a row on is row k; in document order the rows before it stand in row i
 pub record NextAt (ws : List ℕ) (n i g from : ℕ) (s : Standing) (k : ℕ) : Type 0 where
   pub onward : from ≤ k
@@ -96,12 +86,6 @@ pub record Next (ws : List ℕ) (n i g from : ℕ) (s : Standing) (r : Result �
 pub record HasChild (ws : List ℕ) (n i : ℕ) (r : Bool) : Type 0 where
   pub some : r ≡ true → (k : ℕ) × (i < k) × (k < n) × (word_at ws k 1 ≡ suc i)
   pub none : r ≡ false → (k : ℕ) → i < k → k < n → word_at ws k 1 ≡ suc i → ⊥
-
--- what putting bytes of row i needs
-pub record Puttable (d x ws : List ℕ) (n i : ℕ) (put : ℕ) : Type 0 where
-  pub held : Held d x ws n
-  pub within : i < n
-  pub room : put + 33554432 < 2 ^ 62
 
 -- the start tag of row i, up to its end
 pub record StartPut (d x ws : List ℕ) (i put : ℕ) (t t' : List ℕ) (r : ℕ) : Type 0 where
@@ -179,13 +163,6 @@ pub record CountFits (n more : ℕ) : Type 0 where
 pub record NamePut (kind : ℕ) (before : List ℕ) (n : ℕ) (t t' : List ℕ) (r : ℕ) : Type 0 where
   pub puts : Puts (before ++ tag_of kind) n t t' r
   pub most : r ≤ n + length before + 20
-
--- the document and the text are within the limit, row i is held, and there is room to count so many more
-pub record RowHeld (d x ws : List ℕ) (i : ℕ) (n more : ℕ) : Type 0 where
-  pub document : length d ≤ 1048576
-  pub text : length x ≤ 1048576
-  pub held : i * 16 + 16 ≤ length ws
-  pub room : n + more < 2 ^ 62
 
 -- what putting an attribute of a value needs, and what it says, by the key that stands before it
 pub record GivenHeld (value before : List ℕ) (n : ℕ) : Type 0 where

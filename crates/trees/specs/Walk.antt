@@ -15,7 +15,7 @@ use Rattle.trees.specs.Trees.{Tree, tree, Forest, bare, joined, map_tree, map_fo
 use Rattle.trees.specs.Shape.{Link, links_of, forest, under, shape_at}
 use Rattle.trees.specs.Written.{element_at, tree_at, tag_of, docstrings, written_tree, written_forest}
 use Rattle.trees.specs.Writing.{is_open, first, too_deep, too_deeps, is_writable, tree_written}
-use Rattle.trees.specs.Steps.{group_kinds, group_of, Held, Stands}
+use Rattle.trees.specs.Steps.{group_kinds, group_of}
 use Rattle.trees.specs.declared.children.Standing.{Standing}
 use Rattle.trees.specs.declared.walk.Walk.{Walk}
 use Rattle.trees.specs.declared.walk.Start.{Start}
@@ -49,8 +49,8 @@ abbrev pub inside_of : ℕ → ℕ → ℕ
 inside_of k o = if (eqb k kinds.node) (suc o) o
 
 -- whether something follows the attributes of row i
-pub record OpenIs (ws : List ℕ) (n i : ℕ) (r : Bool) : Type 0 where
-  pub is : (d x : List ℕ) → Held d x ws n → r ≡ is_open (element_at d x ws i) (under i (links_of n ws))
+pub record OpenIs (d x ws : List ℕ) (n i : ℕ) (r : Bool) : Type 0 where
+  pub is : r ≡ is_open (element_at d x ws i) (under i (links_of n ws))
 
 -- whether a row of a kind would be the 1,025th open node
 pub record IsDeep (kind o : ℕ) (r : Bool) : Type 0 where
@@ -69,12 +69,7 @@ pub record Resumes (s : Standing) (i end r : ℕ) : Type 0 where
   pub ordered : s.ordered ≡ true → r ≡ end
   pub other : s.ordered ≡ false → r ≡ suc i
 
--- what putting row i from the end of its start tag needs, and what it is
-pub record Openable (d x ws : List ℕ) (n i : ℕ) (put : ℕ) : Type 0 where
-  pub held : Held d x ws n
-  pub within : i < n
-  pub room : put + 33554440 < 2 ^ 62
-
+-- what row i is from the end of its start tag up to its first child
 pub record OpenedPut (d x ws : List ℕ) (i o put : ℕ) (t t' : List ℕ) (r : ℕ) : Type 0 where
   pub shallow : word_at ws i 0 ≡ kinds.node → o < 1024
   pub puts : Puts (bytes ">" ++ concat (docstrings (element_at d x ws i).doc)) put t t' r
@@ -91,13 +86,6 @@ OpensIs d x ws i o put t t' (Err k) = DeepNode ws i o k
 
 pub record Opens (d x ws : List ℕ) (i o put : ℕ) (t t' : List ℕ) (r : Result ℕ ℕ) : Type 0 where
   pub is : OpensIs d x ws i o put t t' r
-
--- what putting row i needs
-pub record Beginning (d x ws : List ℕ) (n i : ℕ) (s : Standing) (put : ℕ) : Type 0 where
-  pub held : Held d x ws n
-  pub stand : Stands ws n s
-  pub within : i < n
-  pub room : put + 67108864 < 2 ^ 62
 
 -- row i is closed at once, or it is open, or it is too deep where o nodes are open
 pub record ClosedPut (d x ws : List ℕ) (n i put : ℕ) (t t' : List ℕ) (r : ℕ) : Type 0 where
@@ -152,8 +140,6 @@ pub data Above (d x ws : List ℕ) (n top : ℕ) (s : Standing) : ℕ → ℕ �
 
 -- in a row children of a group are sought from a row on: what is put, and what is left
 pub record Walking (d x ws : List ℕ) (n top : ℕ) (s : Standing) (w : Walk) (out : List ℕ) : Type 0 where
-  pub held : Held d x ws n
-  pub stand : Stands ws n s
   pub within : w.row < n
   pub after : w.row < w.from
   pub onward : w.from ≤ n
@@ -176,9 +162,7 @@ pub record Walking (d x ws : List ℕ) (n top : ℕ) (s : Standing) (w : Walk) (
   pub room : w.put + w.left * 33554432 ≤ 2 ^ 60
 
 -- row `top` is open, and nothing is around it
-pub record TopOpen (d x ws : List ℕ) (n top : ℕ) (s : Standing) (put : ℕ) (out : List ℕ) : Type 0 where
-  pub held : Held d x ws n
-  pub stand : Stands ws n s
+pub record TopOpen (d x ws : List ℕ) (n top : ℕ) (put : ℕ) (out : List ℕ) : Type 0 where
   pub within : top < n
   pub opens : is_open (element_at d x ws top) (under top (links_of n ws)) ≡ true
   pub begun : List ℕ

@@ -1,12 +1,12 @@
 // What stands in a row: its groups, the next child of a group, and whether there is a child at all.
 ghost use Rattle.std.specs.Prelude.{◌≡◌, true, ◌+◌, ◌*◌, ◌≤◌, ◌<◌, length};
-ghost use Rattle.document.specs.Elements.{among};
-ghost use Rattle.trees.specs.Steps.{group_of, Held, Stands, Sought, Next, HasChild, RowsHeld, RowKept, Late, LastNode, NodesStand, Asked, Child, Past, RunPast, GroupPast};
+ghost use Rattle.trees.specs.Steps.{group_of, Held, Stands, Next, HasChild, RowsHeld, RowKept, Late, LastNode, NodesStand, Asked, Child, Past, RunPast, GroupPast};
 
 use crate::lent::Table;
 use document::kinds;
 
 // How the rows stand: in document order; and so that after a node no other child of the same node follows.
+// Two bools: no value goes with either answer.
 #[derive(Clone, Copy)]
 pub struct Standing {
     pub ordered: bool,
@@ -44,10 +44,9 @@ fn last_node(rows: &[u32], k: usize, node: usize) -> usize
     requires { RowKept rows.now k }
     ensures { LastNode rows.now k node result }
 {
-    if items::word(rows, k, 0) == kinds::NODE {
-        k
-    } else {
-        node
+    match items::word(rows, k, 0) {
+        kinds::NODE => k,
+        _ => node,
     }
 }
 
@@ -120,9 +119,12 @@ fn is_child(rows: &[u32], i: usize, group: u32, k: usize) -> bool
 }
 
 // The first child of row i in a group from a row on, or else where the search ended.
+// Not an Option: the walk goes on from where the search ended.
 #[tactic(auto, using(crate::proofs::Standing::looks))]
 pub fn next_child(table: &Table, i: usize, group: u32, from: usize) -> Result<usize, usize>
-    requires { Sought table.now.rows.now table.now.n i group from table.now.standing }
+    requires after { i < from }
+    requires within { from ≤ table.now.n }
+    requires group { group < 5 }
     ensures { Next table.now.rows.now table.now.n i group from table.now.standing result }
 {
     for k in from..table.n {
@@ -139,7 +141,7 @@ pub fn next_child(table: &Table, i: usize, group: u32, from: usize) -> Result<us
 // Whether row i has a child; in document order the next row is one, or there is none.
 #[tactic(auto, using(crate::proofs::Standing::haves))]
 pub fn has_child(table: &Table, i: usize) -> bool
-    requires { Sought table.now.rows.now table.now.n i 0 (i + 1) table.now.standing }
+    requires { i < table.now.n }
     ensures { HasChild table.now.rows.now table.now.n i result }
 {
     for k in i + 1..table.n {

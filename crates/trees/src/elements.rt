@@ -3,7 +3,7 @@ ghost use Rattle.std.specs.Prelude.{◌≡◌, true, ◌+◌, ◌≤◌, ◌<◌
 ghost use Rattle.items.specs.Sound.{valid_word};
 ghost use Rattle.items.specs.Written.{pairs};
 ghost use Rattle.trees.specs.Written.{tag_of, name_key, value_key, word_pairs};
-ghost use Rattle.trees.specs.Steps.{Puttable, StartPut, DocstringPut, ClosePut, keyed, CountFits, NamePut, RowHeld, GivenHeld, GivenPut, AttributePut, AttributesPut, TaggedPut, WordHeld, WordPut};
+ghost use Rattle.trees.specs.Steps.{StartPut, DocstringPut, ClosePut, keyed, CountFits, NamePut, GivenHeld, GivenPut, AttributePut, AttributesPut, TaggedPut, WordHeld, WordPut};
 
 use crate::lent::Table;
 use document::kinds;
@@ -62,8 +62,8 @@ fn put_attribute(
     out: &mut [u8],
     n: usize,
 ) -> usize
-    requires row { RowHeld table.now.document.now table.now.text.now table.now.rows.now i
-        n 6291520 }
+    requires within { i < table.now.n }
+    requires room { n + 6291520 < 2 ^ 62 }
     requires word { k ≤ 11 }
     requires short { length before.now ≤ 20 }
     ensures { AttributePut table.now.document.now table.now.text.now table.now.rows.now i k
@@ -77,7 +77,7 @@ fn put_attribute(
     put_given(value, before, &table.classes, out, n)
 }
 
-// What stands before the value of words 2-4, and of words 5-7.
+// What stands before the value of words 2-4, and of words 5-7. Two functions, for they share no text.
 fn name_before(kind: u32) -> &'static [u8]
     ensures is { result.now ≡ keyed (name_key kind) }
     ensures short { length result.now ≤ 20 }
@@ -132,8 +132,8 @@ fn put_word(rows: &[u32], i: usize, kind: u32, out: &mut [u8], n: usize) -> usiz
 // The attributes of row i but for word 14.
 #[tactic(auto, using(crate::proofs::Texts::attributes_of))]
 fn put_attributes(table: &Table, i: usize, kind: u32, out: &mut [u8], n: usize) -> usize
-    requires { RowHeld table.now.document.now table.now.text.now table.now.rows.now i
-        n 18875000 }
+    requires within { i < table.now.n }
+    requires room { n + 18875000 < 2 ^ 62 }
     ensures { AttributesPut table.now.document.now table.now.text.now table.now.rows.now i kind n
         out.old out.new result }
 {
@@ -145,8 +145,8 @@ fn put_attributes(table: &Table, i: usize, kind: u32, out: &mut [u8], n: usize) 
 // The start tag of row i up to word 14.
 #[tactic(auto, using(crate::proofs::Texts::tagging))]
 fn put_tagged(table: &Table, i: usize, kind: u32, out: &mut [u8], n: usize) -> usize
-    requires { RowHeld table.now.document.now table.now.text.now table.now.rows.now i
-        n 18876000 }
+    requires within { i < table.now.n }
+    requires room { n + 18876000 < 2 ^ 62 }
     ensures { TaggedPut table.now.document.now table.now.text.now table.now.rows.now i kind n
         out.old out.new result }
 {
@@ -157,8 +157,8 @@ fn put_tagged(table: &Table, i: usize, kind: u32, out: &mut [u8], n: usize) -> u
 // The start tag of row i, up to its end.
 #[tactic(auto, using(crate::proofs::Texts::starts))]
 pub fn put_start(table: &Table, i: usize, out: &mut [u8], put: usize) -> usize
-    requires { Puttable table.now.document.now table.now.text.now table.now.rows.now table.now.n i
-        put }
+    requires within { i < table.now.n }
+    requires room { put + 33554432 < 2 ^ 62 }
     ensures { StartPut table.now.document.now table.now.text.now table.now.rows.now i put
         out.old out.new result }
 {
@@ -170,8 +170,8 @@ pub fn put_start(table: &Table, i: usize, out: &mut [u8], put: usize) -> usize
 // The docstring of row i, unless it is empty.
 #[tactic(auto, using(crate::proofs::Texts::docs))]
 pub fn put_docstring(table: &Table, i: usize, out: &mut [u8], put: usize) -> usize
-    requires { Puttable table.now.document.now table.now.text.now table.now.rows.now table.now.n i
-        put }
+    requires within { i < table.now.n }
+    requires room { put + 33554432 < 2 ^ 62 }
     ensures { DocstringPut table.now.document.now table.now.text.now table.now.rows.now i put
         out.old out.new result }
 {

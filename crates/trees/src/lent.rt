@@ -1,4 +1,6 @@
 // What is written from: a document, a text and the rows of a lent table.
+ghost use Rattle.trees.specs.Steps.{Held, Stands};
+
 use crate::children::Standing;
 use scan::ClassTable;
 
@@ -11,4 +13,6 @@ pub struct Table<'a, 'r> {
     pub n: usize,
     pub standing: Standing,
     pub classes: ClassTable,
+    ghost held: { Held document.now text.now rows.now n },
+    ghost stands: { ∥ Stands rows.now n standing ∥₁ },
 }

@@ -34,10 +34,7 @@ fn write_sound<'a>(
     requires { Held document.now text.now rows.now claimed }
     ensures { WritesSound document.now text.now rows.now claimed row out.old out.new result }
 {
-    if claimed <= row {
-        return answers::refuse(out, 20, row);
-    }
-    if !is_writable(items::word(rows, row, 0)) {
+    if claimed <= row || !is_writable(items::word(rows, row, 0)) {
         return answers::refuse(out, 20, row);
     }
     match walk::put_tree(document, text, rows, claimed, row, out) {
@@ -61,10 +58,7 @@ pub fn write_tree<'a>(
     ensures { WritesTree document.now text.now rows.now claimed row
         (length out.old) out.new result }
 {
-    if 1048576 < document.len() {
-        return answers::refuse(out, 2, 1048576);
-    }
-    if 1048576 < text.len() {
+    if 1048576 < document.len() || 1048576 < text.len() {
         return answers::refuse(out, 2, 1048576);
     }
     match soundness::check(document, text, rows, claimed) {

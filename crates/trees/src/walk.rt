@@ -1,8 +1,8 @@
 // The walk over a tree, from element to element in the order of writing. No function calls itself, and nothing is kept but the row that is
 // open: parents say the way back.
 ghost use Rattle.std.specs.Prelude.{◌+◌, ◌≤◌, ◌<◌, ◌^◌, ◌≡◌};
-ghost use Rattle.trees.specs.Steps.{Held, Sought, NextAt, NoNext};
-ghost use Rattle.trees.specs.Walk.{inside_of, OpenIs, IsDeep, AmongOpen, IsAround, Resumes, Openable, Opens, Beginning, Begins, Walking, Enters, Leaves, Turns, TopOpen, Walks};
+ghost use Rattle.trees.specs.Steps.{Held, NextAt, NoNext};
+ghost use Rattle.trees.specs.Walk.{inside_of, OpenIs, IsDeep, AmongOpen, IsAround, Resumes, Opens, Begins, Walking, Enters, Leaves, Turns, TopOpen, Walks};
 
 use crate::children::Standing;
 use crate::lent::Table;
@@ -11,6 +11,7 @@ use document::kinds;
 use std::ops::ControlFlow;
 
 // In row `row` children of a group are sought from row `from` on; so many nodes are open, so many bytes put, and so many turns left at most.
+// No ghost field says that it is under way: that fact is of the buffer too, and each function would have to say that a struct holds the same one.
 #[derive(Clone, Copy)]
 pub struct Walk {
     pub row: usize,
@@ -22,6 +23,7 @@ pub struct Walk {
 }
 
 // The start of an element: it is closed at once, or it is open, its docstring put. Either has the bytes put.
+// Not an Option: both are ways to start, and a start too deep is the `Err` beside them.
 #[derive(Clone, Copy)]
 pub enum Start {
     Closed(usize),
@@ -31,8 +33,9 @@ pub enum Start {
 // Whether something follows the attributes of row i.
 #[tactic(auto, using(crate::proofs::Opening::opening))]
 fn is_open(table: &Table, i: usize) -> bool
-    requires { Sought table.now.rows.now table.now.n i 0 (i + 1) table.now.standing }
-    ensures { OpenIs table.now.rows.now table.now.n i result }
+    requires { i < table.now.n }
+    ensures { OpenIs table.now.document.now table.now.text.now table.now.rows.now table.now.n i
+        result }
 {
     items::word(table.rows, i, 13) != 0 || children::has_child(table, i)
 }
@@ -50,10 +53,9 @@ fn inside(kind: u32, nodes: usize) -> usize
     requires { nodes ≤ 1024 }
     ensures { result ≡ inside_of kind nodes }
 {
-    if kind == kinds::NODE {
-        nodes + 1
-    } else {
-        nodes
+    match kind {
+        kinds::NODE => nodes + 1,
+        _ => nodes,
     }
 }
 
@@ -63,10 +65,9 @@ fn around(kind: u32, nodes: usize) -> usize
     requires { AmongOpen kind nodes }
     ensures { IsAround kind nodes result }
 {
-    if kind == kinds::NODE {
-        nodes - 1
-    } else {
-        nodes
+    match kind {
+        kinds::NODE => nodes - 1,
+        _ => nodes,
     }
 }
 
@@ -79,8 +80,8 @@ fn put_open(
     out: &mut [u8],
     put: usize,
 ) -> Result<usize, usize>
-    requires { Openable table.now.document.now table.now.text.now table.now.rows.now table.now.n i
-        put }
+    requires within { i < table.now.n }
+    requires room { put + 33554440 < 2 ^ 62 }
     ensures { Opens table.now.document.now table.now.text.now table.now.rows.now i nodes put
         out.old out.new result }
 {
@@ -100,8 +101,8 @@ fn put_begin(
     out: &mut [u8],
     put: usize,
 ) -> Result<Start, usize>
-    requires { Beginning table.now.document.now table.now.text.now table.now.rows.now table.now.n i
-        table.now.standing put }
+    requires within { i < table.now.n }
+    requires room { put + 67108864 < 2 ^ 62 }
     ensures { Begins table.now.document.now table.now.text.now table.now.rows.now table.now.n i
         nodes put out.old out.new result }
 {
@@ -125,12 +126,10 @@ fn enter(table: &Table, top: usize, k: usize, w: Walk, out: &mut [u8]) -> Result
 {
     match put_begin(table, k, w.nodes, out, w.put)? {
         Start::Closed(put) => Ok(Walk {
-            row: w.row,
-            group: w.group,
             from: k + 1,
-            nodes: w.nodes,
             put,
             left: w.left - 1,
+            ..w
         }),
         Start::Opened(put) => Ok(Walk {
             row: k,
@@ -191,12 +190,10 @@ fn leave(table: &Table, top: usize, w: Walk, end: usize, out: &mut [u8]) -> Cont
 {
     if w.group < 4 {
         return ControlFlow::Continue(Walk {
-            row: w.row,
             group: w.group + 1,
             from: w.row + 1,
-            nodes: w.nodes,
-            put: w.put,
             left: w.left - 1,
+            ..w
         });
     }
     close(table, top, w, end, out)
@@ -225,6 +222,7 @@ fn one_turn(
 }
 
 // From a walk on to its end, which comes within the turns left.
+// `while` and not `for`: where the next turn stands is what this one found.
 #[tactic(auto, using(crate::proofs::Walking::looping))]
 fn walk_on(table: &Table, top: usize, begun: Walk, out: &mut [u8]) -> Result<usize, usize>
     requires walking { Walking table.now.document.now table.now.text.now table.now.rows.now
@@ -250,7 +248,7 @@ fn walk_on(table: &Table, top: usize, begun: Walk, out: &mut [u8]) -> Result<usi
 #[tactic(auto, using(crate::proofs::Walking::tops))]
 fn walk_top(table: &Table, top: usize, out: &mut [u8], put: usize) -> Result<usize, usize>
     requires opened { TopOpen table.now.document.now table.now.text.now table.now.rows.now
-        table.now.n top table.now.standing put out.old }
+        table.now.n top put out.old }
     ensures { Walks table.now.document.now table.now.text.now table.now.rows.now
         table.now.n top out.new result }
 {
@@ -269,8 +267,7 @@ fn walk_top(table: &Table, top: usize, out: &mut [u8], put: usize) -> Result<usi
 // The tree of row `top`, where it is known how the rows stand.
 #[tactic(auto, using(crate::proofs::Walking::topping))]
 fn put_from(table: &Table, top: usize, out: &mut [u8]) -> Result<usize, usize>
-    requires { Beginning table.now.document.now table.now.text.now table.now.rows.now
-        table.now.n top table.now.standing 0 }
+    requires { top < table.now.n }
     ensures { Walks table.now.document.now table.now.text.now table.now.rows.now
         table.now.n top out.new result }
 {
@@ -290,7 +287,8 @@ pub fn put_tree<'a>(
     top: usize,
     out: &mut [u8],
 ) -> Result<usize, usize>
-    requires { (Held document.now text.now rows.now n) × (top < n) }
+    requires held { Held document.now text.now rows.now n }
+    requires within { top < n }
     ensures { Walks document.now text.now rows.now n top out.new result }
 {
     let table = Table {

@@ -11,38 +11,9 @@ use lib.ListN.{length, get_or}
 use Rattle.utf8.proofs.Sequences.{below}
 use Rattle.utf16.specs.Outcome.{Exceeds, Below, Limited, Block, IsAscii}
 
-pub exceeds_here : {over : Bool} {b limit : ℕ} → limit < b → Exceeds over b limit true
-exceeds_here h = record { is = λ e. let z : ◌≡◌ {A = ℕ} 0 1 = cc in absurd (omega arith) }
-
-pub exceeds_before : {over : Bool} {b limit : ℕ} → b ≤ limit → Exceeds over b limit over
-exceeds_before h = record { is = λ e. (e, h) }
-
-pub ruleset exceeding = (exceeds_here, exceeds_before, rules)
-
 -- a loop over units, after i of them
 pub record Limiting (raw : List ℕ) (from first second : ℕ) (over : Bool) (i : ℕ) : Type 0 where
   pub is : over ≡ false → Below raw from i first second
-
-pub limit_begins : {raw : List ℕ} {from first second : ℕ} → Limiting raw from first second false 0
-limit_begins = record { is = λ e. record { each = λ i h. absurd (omega arith) } }
-
-module _ {raw : List ℕ} {from first second i : ℕ} {over : Bool} (g : Limiting raw from first second over i) where
-  pub limit_more : {one two : Bool} → Exceeds over (get_or raw (from + i * 2) 0) first one → Exceeds one (get_or raw (from + i * 2 + 1) 0) second two → Limiting raw from first second two (i + 1)
-  limit_more p q = record {
-    is = λ e.
-        let t = q.is e in
-        let s = p.is t.0 in
-        record {
-          each = λ j h.
-              below j i ((g.is s.0).each j)
-              (λ k. let f : j ≡ i = omega arith in rw f (s.1, t.1));
-        };
-  }
-
-  pub limit_ends : 32 ≤ i → Limited raw from first second (not over)
-  limit_ends h = record { is = λ e. record { each = λ j k. (g.is (not-true over e)).each j (omega arith) } }
-
-pub ruleset limits = (limit_begins, limit_more, limit_ends, rules)
 
 module _ {raw : List ℕ} {at : ℕ} {big : Bool} where
   pub ascii_short : IsAscii big raw at false

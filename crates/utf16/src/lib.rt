@@ -31,7 +31,8 @@ fn joined(a: u8, b: u8) -> u32
     a as u32 * 256 + b as u32
 }
 
-// The unit at a place.
+// The unit at a place. Which byte order it is, is a value that a document tells, and the definitions speak of it; as a parameter of the
+// type it would make each function twice.
 fn unit(raw: &[u8], at: usize, big: bool) -> u32
     requires { at + 1 < length raw.now }
     ensures { IsUnit big raw.now at result }
@@ -80,6 +81,7 @@ fn within(raw: &[u8], from: usize, first: u8, second: u8) -> bool
     requires { from + 64 ≤ length raw.now }
     ensures { Limited raw.now from first second result }
 {
+    // Every byte is looked at, with no way out, so that the compiler makes vectors of the loop.
     let mut over = false;
     for i in 0..32 {
         let at = from + i * 2;
@@ -144,6 +146,7 @@ fn put_units(
 {
     let mut at = from;
     let mut n = count;
+    // A character moves the place by one unit or two, so no range has it.
     while at + 1 < raw.len() {
         if from + 64 <= at {
             return Ok(Step { next: at, count: n });
@@ -193,6 +196,7 @@ fn put_all(raw: &[u8], big: bool, out: &mut [u8]) -> Result<usize, usize>
 {
     let mut at = 2;
     let mut n = 0;
+    // The next place is what the call found, so no range has it.
     while at + 1 < raw.len() {
         let step = put_some(raw, at, big, out, n)?;
         at = step.next;

@@ -5,32 +5,14 @@ use mathlib.Core.Path.{◌≡◌, refl, sym, ◌∙◌}
 use mathlib.Core.List.{List, [], ◌∷◌}
 use mathlib.Core.Bool.{Bool, true, false}
 use borrow.Author.Rules.{rules}
-use borrow.Author.Tests.{le-leb, lt-leb}
 use native.Mathlib.Numerals.{add-one}
 use native.Mathlib.Omega.{arith}
-use lib.Dec.{leb}
 use lib.ListN.{length, drop, get_or, drop_of_length-le}
 use lib.Seq.{drop-cons, drop-nil}
 use Rattle.slices.specs.Bytes.{if}
 use Rattle.utf8.specs.WellFormed.{Range, to, table, within, begins, sequence}
 use Rattle.utf8.specs.Sequence.{continuation, taken}
 use Rattle.utf8.proofs.Sequences.{Only, Misses, rest, only, missed, below}
-
-module _ (s : List ℕ) (at low high : ℕ) where
-  pub byte_below : at < length s → get_or s at 0 < low → false ≡ begins (to low high ∷ []) (drop at s)
-  byte_below h l = rw (drop-cons s at 0 h, lt-leb low (get_or s at 0) l)
-
-  pub byte_above : at < length s → low ≤ get_or s at 0 → leb (get_or s at 0) high ≡ begins (to low high ∷ []) (drop at s)
-  byte_above h l = rw (drop-cons s at 0 h, le-leb low (get_or s at 0) l) (either (leb (get_or s at 0) high))
-    where
-      either : (t : Bool) → t ≡ if t true false
-      either true = refl
-      either false = refl
-
-  pub byte_end : length s ≤ at → false ≡ begins (to low high ∷ []) (drop at s)
-  byte_end h = rw (drop_of_length-le s h)
-
-pub ruleset bytes = (byte_below, byte_above, byte_end, rules)
 
 -- the bytes after a place, by the byte at it and those after it
 begins_next : (r : Range) (rs : List Range) (s : List ℕ) (at : ℕ) → begins (r ∷ rs) (drop at s) ≡ if (begins (r ∷ []) (drop at s)) (begins rs (drop (at + 1) s)) false

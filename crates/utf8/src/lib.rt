@@ -32,7 +32,9 @@ fn largest(s: &[u8], from: usize, n: usize) -> u8
 
 // Past whole blocks of n bytes below 128.
 fn blocks(s: &[u8], from: usize, n: usize) -> usize
-    requires { (from ≤ length s.now) × (0 < n) × (n ≤ 128) }
+    requires in_bounds { from ≤ length s.now }
+    requires nonempty { 0 < n }
+    requires short { n ≤ 128 }
     ensures { Ascii s.now from result }
 {
     slices::blocks(s, from, n, |at| largest(s, at, n) <= 127)
@@ -53,7 +55,7 @@ fn continues(s: &[u8], at: usize, low: u8, high: u8) -> bool
     at < s.len() && low <= s[at] && s[at] <= high
 }
 
-// 3 if a byte of a range stands at a place and a continuation byte after it, or 0.
+// 3 if a byte of a range stands at a place and a continuation byte after it, or 0, as the definition answers.
 #[tactic(auto, using(crate::proofs::Follows::takes))]
 fn three(s: &[u8], at: usize, low: u8, high: u8) -> usize
     requires { at ≤ length s.now }
@@ -65,7 +67,7 @@ fn three(s: &[u8], at: usize, low: u8, high: u8) -> usize
     0
 }
 
-// 4 if a byte of a range stands at a place and two continuation bytes after it, or 0.
+// 4 if a byte of a range stands at a place and two continuation bytes after it, or 0. One function of a count would be a loop for each character.
 #[tactic(auto, using(crate::proofs::Follows::takes))]
 fn four(s: &[u8], at: usize, low: u8, high: u8) -> usize
     requires { at ≤ length s.now }
@@ -77,7 +79,7 @@ fn four(s: &[u8], at: usize, low: u8, high: u8) -> usize
     0
 }
 
-// The length of the well-formed sequence at a place, or 0.
+// The length of the well-formed sequence at a place, or 0, as the definition answers.
 #[tactic(auto, using(crate::proofs::Follows::firsts))]
 fn sequence(s: &[u8], at: usize) -> usize
     requires { at < length s.now }
@@ -109,12 +111,13 @@ pub fn ascii_start(s: &[u8]) -> usize
     ascii_run(s, blocks(s, 0, 128))
 }
 
-// The place of the first ill-formed sequence, or the length.
+// The place of the first ill-formed sequence, or the length, as the definition answers.
 #[tactic(auto, using(crate::proofs::Finding::finds))]
 pub fn ill_formed(s: &[u8]) -> usize
     ensures { result ≡ ill_formed s.now }
 {
     let mut at = ascii_run(s, blocks(s, 0, 128));
+    // The next place is what the call found, so no range has it.
     while at < s.len() {
         let n = sequence(s, at);
         if n == 0 {
@@ -178,7 +181,7 @@ pub fn point4(a: u8, b: u8, c: u8, d: u8) -> u32
         + (d as u32 - 0x80)
 }
 
-// The length of the White_Space character at a place, or 0.
+// The length of the White_Space character at a place, or 0, as the definition answers.
 #[tactic(auto, using(crate::proofs::Points::points))]
 fn white(s: &[u8], at: usize) -> usize
     requires boundary { Boundary s.now at }
@@ -206,13 +209,14 @@ fn white(s: &[u8], at: usize) -> usize
     0
 }
 
-// The first place that is not White_Space, or the length.
+// The first place that is not White_Space, or the length: the text begins there in either case.
 #[tactic(auto, using(crate::proofs::Trims::trims))]
 fn trim_start(s: &[u8]) -> usize
     requires { ill_formed s.now ≡ length s.now }
     ensures { Starts s.now result }
 {
     let mut at = 0;
+    // The next place is what the call found, so no range has it.
     while at < s.len() {
         let n = white(s, at);
         if n == 0 {
@@ -231,19 +235,21 @@ fn back(s: &[u8], end: usize) -> usize
     ensures { Last s.now end result }
 {
     let mut at = end - 1;
+    // By `matches!` the proof is not told that the byte at the end is outside of the range.
     while 0 < at && 0x80 <= s[at] && s[at] <= 0xbf {
         at -= 1;
     }
     at
 }
 
-// The end of the last character that is not White_Space, or 0.
+// The end of the last character that is not White_Space, or 0: the text ends there in either case.
 #[tactic(auto, using(crate::proofs::Ends::ends))]
 fn trim_end(s: &[u8]) -> usize
     requires { ill_formed s.now ≡ length s.now }
     ensures { Ends s.now result }
 {
     let mut end = s.len();
+    // The next place is what the call found, so no range has it.
     while 0 < end {
         let at = back(s, end);
         if white(s, at) == 0 {

@@ -1,6 +1,6 @@
 -- Laws of writing an arg: its annotations are those among the rows after it.
 -- Assumes nothing.
-use Prim.Native.Nat.{ℕ, zero, suc, ◌+◌, ◌-◌, ◌*◌, ◌≤◌, ◌<◌, ◌^◌}
+use Prim.Native.Nat.{ℕ, zero, suc, ◌+◌, ◌-◌, ◌*◌, ◌≤◌, ◌<◌}
 use native.Mathlib.Omega.{arith}
 use native.Mathlib.Nat.{add-zero, zero-add}
 use mathlib.Core.Path.{◌≡◌, refl, ap, sym, subst, ◌∙◌}
@@ -9,7 +9,7 @@ use mathlib.Core.Bool.{Bool, true, false, not, and-false}
 use borrow.Author.Rules.{rules}
 use borrow.Author.Tests.{ne_eqb}
 use lib.Dec.{T, eqb}
-use lib.ListN.{length, drop, get_or}
+use lib.ListN.{drop, get_or}
 use lib.Seq.{get_or-drop}
 use Rattle.slices.specs.Bytes.{if, bytes, empty}
 use Rattle.tables.specs.Triple.{shown}
@@ -20,8 +20,8 @@ use Rattle.items.specs.Words.{RowWords, triple_at, viewed, rows_shown, word_at, 
 use Rattle.items.specs.Written.{Annotation, Arg, Pair, pairs, optional, tag, closing_tag, concat, element, written_annotation, written_arg}
 use Rattle.items.specs.Content.{direction, annotation_of, annotations, arg_of}
 use Rattle.items.proofs.Children.{annotations_append}
-use Rattle.writers.specs.Rows.{words_in, row_at, rows_in, any_child, SomeChild, Held, RowHeld, Last}
-use Rattle.writers.specs.Writes.{Scannable, annotations_in, AnnotationsPut, name_at, type_at, direction_at, ArgTagPut, ArgPut, CountFits}
+use Rattle.writers.specs.Rows.{words_in, row_at, rows_in, any_child, SomeChild, Held, Last}
+use Rattle.writers.specs.Writes.{annotations_in, AnnotationsPut, name_at, type_at, direction_at, ArgTagPut, ArgPut}
 use Rattle.writers.proofs.Texts.{puts_as, present_shown, shown_one}
 
 -- the rows from row i on, in two parts
@@ -154,26 +154,4 @@ module _ {d x ws : List ℕ} {i to p : ℕ} {b : Bool} (e : p ≡ i + 1) (o : i 
       most = omega (arith, q.most, s.counts, w.most, z.counts, o, e);
     }
 
--- what the calls need
-module _ {d x ws : List ℕ} {i to n : ℕ} (h : Scannable d x ws i to n) (o : i < to) where
-  pub arg_held : RowHeld d x ws i
-  arg_held = record { document = h.document; text = h.text; few = omega (arith, o, h.few); held = omega (arith, o, h.held) }
-
-  pub arg_room : CountFits n 16777216
-  arg_room = record { fits = omega (arith, o, h.room) }
-
-  module _ {t t₁ : List ℕ} {m : ℕ} (q : ArgTagPut d x ws i n t t₁ m) where
-    pub arg_end : m + length (bytes "/>") < 2 ^ 62
-    arg_end = omega (arith, o, h.room, q.most)
-
-    pub arg_opens : m + length (bytes ">") < 2 ^ 62
-    arg_opens = omega (arith, o, h.room, q.most)
-
-    module _ {t₂ : List ℕ} {u p : ℕ} (e : p ≡ i + 1) (s : Puts (bytes ">") m t₁ t₂ u) where
-      pub arg_scans : Scannable d x ws p to u
-      arg_scans = record { document = h.document; text = h.text; onward = omega (arith, e, o); few = h.few; held = h.held; room = omega (arith, o, e, h.room, q.most, s.counts) }
-
-      pub arg_closes : {t₃ : List ℕ} {v : ℕ} → AnnotationsPut d x ws p p to u t₂ t₃ v → v + length (bytes "</arg>") < 2 ^ 62
-      arg_closes w = omega (arith, o, e, h.room, q.most, s.counts, w.most)
-
-pub ruleset args = (arg_bare, arg_full, arg_held, arg_room, arg_end, arg_opens, arg_scans, arg_closes, rules)
+pub ruleset args = (arg_bare, arg_full, rules)

@@ -32,26 +32,6 @@ use Rattle.writers.proofs.Scans.{last_all}
 use Rattle.writers.proofs.Texts.{puts_as}
 use Rattle.writers.proofs.Members.{member_row, member_within}
 
--- kinds
-module _ {k : ℕ} where
-  pub writable_three : k ≡ 3 → Writable k true
-  writable_three e = record { is = rw (eq-eqb k 3 e) }
-
-  pub writable_five : (k ≡ 3 → ⊥) → k ≡ 5 → Writable k true
-  writable_five a e = record { is = rw (ne_eqb k 3 a, eq-eqb k 5 e) }
-
-  pub writable_six : (k ≡ 3 → ⊥) → (k ≡ 5 → ⊥) → k ≡ 6 → Writable k true
-  writable_six a b e = record { is = rw (ne_eqb k 3 a, ne_eqb k 5 b, eq-eqb k 6 e) }
-
-  pub writable_seven : (k ≡ 3 → ⊥) → (k ≡ 5 → ⊥) → (k ≡ 6 → ⊥) → Writable k (eqb k 7)
-  writable_seven a b c = record { is = rw (ne_eqb k 3 a, ne_eqb k 5 b, ne_eqb k 6 c) (or-false (eqb k 7)) }
-    where
-      or-false : (b : Bool) → b ≡ if b true false
-      or-false true = refl
-      or-false false = refl
-
-pub ruleset writable_kinds = (writable_three, writable_five, writable_six, writable_seven, rules)
-
 -- the content of row i
 drop-map : {A B : Type 0} (f : A → B) (i : ℕ) (l : List A) → drop i (map f l) ≡ map f (drop i l)
 drop-map f zero l = refl
@@ -92,23 +72,23 @@ module _ (t : List Row) (i : ℕ) (r : Row) where
       go false false false true e = absurd (subst T e tt)
       go false false false false e = refl
 
-module _ {d x ws : List ℕ} {m i k : ℕ} (h : MemberScannable d x ws m i) (w : Word ws i 0 k) where
-  kind_is : {n : ℕ} → k ≡ n → (row_at d x ws i).kind ≡ n
-  kind_is e = get_or-drop (i * 16) ws 0 0 ∙ sym w.is ∙ e
+module _ {ws : List ℕ} {m i k : ℕ} (h : MemberScannable ws m i) (w : Word ws i 0 k) where
+  kind_is : (d x : List ℕ) {n : ℕ} → k ≡ n → (row_at d x ws i).kind ≡ n
+  kind_is d x e = get_or-drop (i * 16) ws 0 0 ∙ sym w.is ∙ e
 
-  module _ {t t' : List ℕ} {n r : ℕ} where
+  module _ {d x t t' : List ℕ} {n r : ℕ} where
     pub item_annotation : k ≡ 6 → AnnotationPut d x ws i n t t' r → ItemPut d x ws m i n t t' r
     unfolding annotation_at
     item_annotation e q = record {
       item = annotated (annotation_of (row_at d x ws i));
-      is = content_is d x ws m i h.within ∙ item_six (rows_shown d x ws m) i (row_at d x ws i) (kind_is e);
+      is = content_is d x ws m i h.within ∙ item_six (rows_shown d x ws m) i (row_at d x ws i) (kind_is d x e);
       puts = q.puts;
     }
 
     pub item_arg : k ≡ 7 → ArgPut d x ws i m n t t' r → ItemPut d x ws m i n t t' r
     item_arg e q = record {
       item = argument (arg_of (rows_shown d x ws m) i (row_at d x ws i));
-      is = content_is d x ws m i h.within ∙ item_seven (rows_shown d x ws m) i (row_at d x ws i) (kind_is e);
+      is = content_is d x ws m i h.within ∙ item_seven (rows_shown d x ws m) i (row_at d x ws i) (kind_is d x e);
       puts = q.puts m h.held (last_all h.within);
     }
 
@@ -125,19 +105,17 @@ module _ {d x ws : List ℕ} {m i k : ℕ} (h : MemberScannable d x ws m i) (w :
         go : (z : Bool) → eqb k 3 ≡ z → ItemPut d x ws m i n t t' r
         go true e = record {
           item = method (member_of (rows_shown d x ws m) i (row_at d x ws i));
-          is = content_is d x ws m i h.within ∙ item_three (rows_shown d x ws m) i (row_at d x ws i) (kind_is (eqb-true k 3 e));
+          is = content_is d x ws m i h.within ∙ item_three (rows_shown d x ws m) i (row_at d x ws i) (kind_is d x (eqb-true k 3 e));
           puts = puts_as (ap (λ n. written_member n (member_of (rows_shown d x ws m) i (row_at d x ws i))) (ap (λ z. if z (bytes "method") (bytes "signal")) e)) q.puts;
         }
         go false e = record {
           item = signal (member_of (rows_shown d x ws m) i (row_at d x ws i));
-          is = content_is d x ws m i h.within ∙ item_five (rows_shown d x ws m) i (row_at d x ws i) (kind_is (five e));
+          is = content_is d x ws m i h.within ∙ item_five (rows_shown d x ws m) i (row_at d x ws i) (kind_is d x (five e));
           puts = puts_as (ap (λ n. written_member n (member_of (rows_shown d x ws m) i (row_at d x ws i))) (ap (λ z. if z (bytes "method") (bytes "signal")) e)) q.puts;
         }
 
-pub item_scans : {d x ws : List ℕ} {m i n : ℕ} → n < 4294967296 → MemberScannable d x ws m i → Scannable d x ws i m n
+pub item_scans : {ws : List ℕ} {m i n : ℕ} → n < 4294967296 → MemberScannable ws m i → Scannable ws i m n
 item_scans s h = record {
-  document = h.document;
-  text = h.text;
   onward = omega (arith, h.within);
   few = h.held.few;
   held = h.held.held;
@@ -157,12 +135,18 @@ writable_true y e = record { is = sym e ∙ y.is }
 
 -- sound rows are held
 module _ {d x ws : List ℕ} {n : ℕ} (h : Admitted d x ws n) where
+  pub admitted_document : length d ≤ 1048576
+  admitted_document = h.document
+
+  pub admitted_text : length x ≤ 1048576
+  admitted_text = h.text
+
   pub admitted_rows : Held ws n
   admitted_rows = record { few = sound_claimed d x ws n h.rows; held = sound_held d x ws n h.rows; parents = λ k l. sound_parent d x ws n h.rows k l }
 
   module _ {i : ℕ} (l : i < n) where
-    pub admitted_scans : MemberScannable d x ws n i
-    admitted_scans = record { document = h.document; text = h.text; held = admitted_rows; within = l }
+    pub admitted_scans : MemberScannable ws n i
+    admitted_scans = record { held = admitted_rows; within = l }
 
     pub admitted_few : i < 262144
     admitted_few = omega (arith, l, admitted_rows.few)
@@ -189,7 +173,7 @@ module _ {d x ws t t' : List ℕ} {n i : ℕ} {r : Result ℕ Fault} where
       let k : m ≡ length (written c) = q.puts.counts ∙ omega arith in
       record { says = subst (λ o. Says (item_written i (length t) o) (length t) t' r) (sym q.is) (rw (l, k) at s) }
 
-pub ruleset rows = (zero_room, writable_true, admitted_scans, admitted_few, admitted_held, no_row, no_kind, row_written, rules)
+pub ruleset rows = (zero_room, writable_true, admitted_document, admitted_text, admitted_scans, admitted_few, admitted_held, no_row, no_kind, row_written, rules)
 
 -- the answers
 module _ {d x ws t' : List ℕ} {n i room : ℕ} {r : Result ℕ Fault} where

@@ -1,6 +1,6 @@
 -- Laws of writing a method or a signal: its args and annotations are those among the rows after it.
 -- Assumes nothing.
-use Prim.Native.Nat.{ℕ, zero, suc, ◌+◌, ◌-◌, ◌*◌, ◌≤◌, ◌<◌, ◌^◌}
+use Prim.Native.Nat.{ℕ, zero, suc, ◌+◌, ◌-◌, ◌*◌, ◌≤◌, ◌<◌}
 use native.Mathlib.Omega.{arith}
 use mathlib.Core.Path.{◌≡◌, refl, ap, sym, subst, ◌∙◌}
 use mathlib.Core.List.{List, [], ◌∷◌, ◌++◌, map, append_assoc, append-nil}
@@ -21,20 +21,19 @@ use Rattle.items.specs.Words.{RowWords, triple_at, viewed, rows_shown, word_at, 
 use Rattle.items.specs.Written.{Annotation, Arg, named, tag, closing_tag, concat, written_annotation, written_arg, written_member}
 use Rattle.items.specs.Content.{Row, annotations, arg_of, args, member_of}
 use Rattle.items.proofs.Children.{args_append}
-use Rattle.items.specs.Order.{InOrder}
-use Rattle.writers.specs.Rows.{words_in, row_at, rows_in, any_child, Child, SomeChildren, Held, RowHeld, Last, Ordered, ChildOf}
-use Rattle.writers.specs.Writes.{Puttable, ShownPut, Scannable, annotations_in, AnnotationsPut, ArgPut, if_arg, IfArgPut, ArgsScannable, Turn, args_in, NotesScannable, tag_of, MemberTagPut, MemberEndPut, MemberScannable, ChildrenPut, MemberPut, CountFits, KindPut}
+use Rattle.writers.specs.Rows.{words_in, row_at, rows_in, any_child, Child, SomeChildren, Held, RowHeld, Last}
+use Rattle.writers.specs.Writes.{annotations_in, ArgPut, if_arg, IfArgPut, ArgsScannable, Turn, args_in, tag_of, MemberTagPut, MemberEndPut, MemberScannable, ChildrenPut, MemberPut, CountFits, KindPut}
 use Rattle.writers.proofs.Scans.{last_all}
 use Rattle.writers.proofs.Texts.{puts_as, present_shown, shown_one}
 use Rattle.writers.proofs.Args.{Clear, later_clear, no_child, before_clear, shown_parts, own_annotations, any_annotation, element_bare, element_full, empty_map}
 
 -- one row, if it is an arg
-module _ {d x ws : List ℕ} {m p i n : ℕ} {b : Bool} (c : Child ws 7 p i b) where
-  pub arg_not : {t : List ℕ} → b ≡ false → IfArgPut d x ws m p i n t t n
+module _ {ws : List ℕ} {m p i n : ℕ} {b : Bool} (c : Child ws 7 p i b) where
+  pub arg_not : {d x t : List ℕ} → b ≡ false → IfArgPut d x ws m p i n t t n
   unfolding if_arg
   arg_not f = record { puts = rw (sym c.is ∙ f) puts_none; most = omega arith }
 
-  module _ {o : Bool} (h : Turn d x ws m p o i n) where
+  module _ {o : Bool} (h : Turn ws m p o i n) where
     child_parent : b ≡ true → word_at ws i 1 ≡ p
     child_parent f = parent_of (eqb (get_or (drop (i * 16) ws) 0 0) 7) (sym c.is ∙ f)
       where
@@ -42,41 +41,12 @@ module _ {d x ws : List ℕ} {m p i n : ℕ} {b : Bool} (c : Child ws 7 p i b) w
         parent_of true g = sym (get_or-drop (i * 16) ws 1 0) ∙ eqb-true (get_or (drop (i * 16) ws) 1 0) p g
         parent_of false g = absurd (subst T (sym g) tt)
 
-    pub turn_child : b ≡ true → ChildOf ws m p i o
-    turn_child f = record { orders = h.orders; after = h.after; parent = child_parent f }
-
     module _ {to : ℕ} (l : Last ws m i to) where
-      pub turn_scans : Scannable d x ws i to n
-      turn_scans = record {
-        document = h.document;
-        text = h.text;
-        onward = omega (arith, l.onward);
-        few = omega (arith, l.within, h.held.few);
-        held = omega (arith, l.within, h.held.held);
-        room = omega (arith, l.within, h.held.few, h.room);
-      }
-
-      pub arg_there : {t t' : List ℕ} {r : ℕ} → b ≡ true → ArgPut d x ws i to n t t' r → IfArgPut d x ws m p i n t t' r
+      pub arg_there : {d x t t' : List ℕ} {r : ℕ} → b ≡ true → ArgPut d x ws i to n t t' r → IfArgPut d x ws m p i n t t' r
       unfolding if_arg
       arg_there f q = record { puts = rw (sym c.is ∙ f) (q.puts m h.held l); most = omega (arith, l.within, h.held.few, q.most) }
 
-module _ {d x ws : List ℕ} {m p i n : ℕ} {o : Bool} (h : Turn d x ws m p o i n) where
-  pub turn_few : i < 262144
-  turn_few = omega (arith, h.within, h.held.few)
-
-  pub turn_held : i * 16 + 16 ≤ length ws
-  turn_held = omega (arith, h.within, h.held.held)
-
-  pub turn_rows : Held ws m
-  turn_rows = h.held
-
-  pub turn_within : i < m
-  turn_within = h.within
-
-pub last_onward : {ws : List ℕ} {m i to : ℕ} → Last ws m i to → i < to
-last_onward l = l.onward
-
-pub ruleset turns = (arg_not, turn_child, turn_scans, arg_there, turn_few, turn_held, turn_rows, turn_within, last_onward, rules)
+pub ruleset turns = (arg_not, arg_there, rules)
 
 -- the args of row p less one among the rows from row k on
 argued_or : (b : Bool) (a : Arg) (l : List Arg) → concat (map written_arg (if b (a ∷ l) l)) ≡ if b (written_arg a) [] ++ concat (map written_arg l)
@@ -106,11 +76,11 @@ pub record Arguing (d x ws : List ℕ) (m p n : ℕ) (t₀ t : List ℕ) (k l : 
   pub within : k ≤ m
   pub same : length t ≡ length t₀
 
-pub argue_begins : {d x ws t : List ℕ} {m p n : ℕ} {o : Bool} → ArgsScannable d x ws m p o → Arguing d x ws m p n t t p n
+pub argue_begins : {d x ws t : List ℕ} {m p n : ℕ} {o : Bool} → ArgsScannable ws m p o → Arguing d x ws m p n t t p n
 argue_begins g = record { done = []; left = refl; puts = puts_none; most = omega arith; onward = omega arith; within = g.onward; same = refl }
 
 module _ {d x ws t₀ t : List ℕ} {m p n k l : ℕ} (g : Arguing d x ws m p n t₀ t k l) where
-  pub argue_ends : {o : Bool} → ArgsScannable d x ws m p o → m ≤ k → KindPut (args_in d x ws m p p) n t₀ t l
+  pub argue_ends : {o : Bool} → ArgsScannable ws m p o → m ≤ k → KindPut (args_in d x ws m p p) n t₀ t l
   argue_ends w h =
       let z = no_arg d x ws m p k (omega (arith, h)) in
       record {
@@ -137,10 +107,8 @@ module _ {d x ws t₀ t : List ℕ} {m p n k l : ℕ} (g : Arguing d x ws m p n 
           same = s ∙ g.same;
         }
 
-    pub argue_turn : {o : Bool} → ArgsScannable d x ws m p o → CountFits n 2305843009213693952 → Turn d x ws m p o k l
+    pub argue_turn : {o : Bool} → ArgsScannable ws m p o → CountFits n 2305843009213693952 → Turn ws m p o k l
     argue_turn w s = record {
-      document = w.document;
-      text = w.text;
       held = w.held;
       after = g.onward;
       within = h;
@@ -150,14 +118,7 @@ module _ {d x ws t₀ t : List ℕ} {m p n k l : ℕ} (g : Arguing d x ws m p n 
 
 pub ruleset argues = (argue_begins, argue_ends, argue_more, argue_turn, rules)
 
--- the start and closing tags
-module _ {d x ws t t' : List ℕ} {i kind n r : ℕ} where
-  pub tag_method : kind ≡ 3 → ShownPut d x ws i 2 (bytes "<method name=\"") n t t' r → MemberTagPut d x ws i kind n t t' r
-  tag_method e p = record { puts = rw (eq-eqb kind 3 e) p.puts; most = omega (arith, p.most) }
-
-  pub tag_signal : (kind ≡ 3 → ⊥) → ShownPut d x ws i 2 (bytes "<signal name=\"") n t t' r → MemberTagPut d x ws i kind n t t' r
-  tag_signal e p = record { puts = rw (ne_eqb kind 3 e) p.puts; most = omega (arith, p.most) }
-
+-- the closing tags
 module _ {t t' : List ℕ} {kind n r : ℕ} where
   pub end_method : kind ≡ 3 → Puts (bytes "</method>") n t t' r → MemberEndPut kind n t t' r
   unfolding closing_tag
@@ -167,72 +128,22 @@ module _ {t t' : List ℕ} {kind n r : ℕ} where
   unfolding closing_tag
   end_signal e p = record { puts = rw (ne_eqb kind 3 e) p }
 
-module _ {d x ws : List ℕ} {i n : ℕ} (h : RowHeld d x ws i) (s : n < 4294967296) where
-  pub method_name : Puttable d x ws i 2 (bytes "<method name=\"") n
-  method_name = record { held = h; word = omega arith; room = omega (arith, s) }
+pub ruleset tags = (end_method, end_signal, rules)
 
-  pub signal_name : Puttable d x ws i 2 (bytes "<signal name=\"") n
-  signal_name = record { held = h; word = omega arith; room = omega (arith, s) }
-
-pub end_room : (n : ℕ) → n + 16 < 2 ^ 62 → n + length (bytes "</method>") < 2 ^ 62
-end_room n h = omega (arith, h)
-
-pub ruleset tags = (tag_method, tag_signal, end_method, end_signal, method_name, signal_name, end_room, rules)
-
--- what the calls for the children need, and what they come to
-module _ {d x ws : List ℕ} {m i p : ℕ} (h : MemberScannable d x ws m i) (e : p ≡ i + 1) where
-  pub member_args : {o : Bool} → Ordered ws m i o → ArgsScannable d x ws m p o
-  member_args {o} c = record {
-    document = h.document;
-    text = h.text;
-    held = h.held;
-    onward = omega (arith, e, h.within);
-    orders = record { some = omega (arith, e); order = λ f k g. ordered f k (omega (arith, e, g)) };
-  }
-    where
-      ordered : o ≡ true → (k : ℕ) → i ≡ k → InOrder ws m k
-      ordered f k z = subst (InOrder ws m) z (c.is f)
-
-  pub member_notes : NotesScannable d x ws m p
-  member_notes = record { document = h.document; text = h.text; held = h.held; onward = omega (arith, e, h.within) }
-
-  pub children_put : {t t₁ t₂ : List ℕ} {n l r : ℕ} → KindPut (args_in d x ws m p p) n t t₁ l → KindPut (annotations_in d x ws p p m) l t₁ t₂ r → ChildrenPut d x ws m i n t t₂ r
-  children_put q w =
+-- what is put of the children
+module _ {ws : List ℕ} {m i p : ℕ} (h : MemberScannable ws m i) (e : p ≡ i + 1) where
+  pub children_put : {d x t t₁ t₂ : List ℕ} {n l r : ℕ} → KindPut (args_in d x ws m p p) n t t₁ l → KindPut (annotations_in d x ws p p m) l t₁ t₂ r → ChildrenPut d x ws m i n t t₂ r
+  children_put {d} {x} q w =
       let f : p ≡ suc i = omega (arith, e) in
       record {
         puts = puts_as (ap (λ k. args_in d x ws m k k ++ annotations_in d x ws k k m) f) (puts_then q.puts w.puts);
         most = omega (arith, q.most, w.most);
       }
 
-pub first_inside : {n : ℕ} → CountFits n 3458764513820540928 → CountFits n 2305843009213693952
-first_inside s = record { fits = omega (arith, s.fits) }
-
-pub next_inside : {b t t₁ : List ℕ} {n l : ℕ} → CountFits n 3458764513820540928 → KindPut b n t t₁ l → CountFits l 2305843009213693952
-next_inside s q = record { fits = omega (arith, s.fits, q.most) }
-
-module _ {d x ws : List ℕ} {m p n : ℕ} (h : NotesScannable d x ws m p) where
-  pub notes_scan : CountFits n 2305843009213693952 → Scannable d x ws p m n
-  notes_scan s = record {
-    document = h.document;
-    text = h.text;
-    onward = h.onward;
-    few = h.held.few;
-    held = h.held.held;
-    room = omega (arith, h.held.few, s.fits);
-  }
-
-  pub notes_inside : {t t' : List ℕ} {r : ℕ} → AnnotationsPut d x ws p p m n t t' r → KindPut (annotations_in d x ws p p m) n t t' r
-  notes_inside q = record { puts = q.puts; most = omega (arith, q.most, h.held.few) }
-
-pub ruleset notes = (notes_scan, notes_inside, rules)
-
-pub member_held : {d x ws : List ℕ} {m i : ℕ} → MemberScannable d x ws m i → Held ws m
-member_held h = h.held
-
-pub member_within : {d x ws : List ℕ} {m i : ℕ} → MemberScannable d x ws m i → i < m
+pub member_within : {ws : List ℕ} {m i : ℕ} → MemberScannable ws m i → i < m
 member_within h = h.within
 
-pub ruleset inner = (member_args, member_notes, children_put, first_inside, next_inside, member_held, member_within, rules)
+pub ruleset inner = (children_put, member_within, rules)
 
 -- the args of row i are those among the rows after it
 pub clear_args : (d x ws : List ℕ) (t : List Row) (p i a : ℕ) → Clear ws p i a → args t p i (rows_in d x ws i a) ≡ []
@@ -326,7 +237,7 @@ module _ (d x ws : List ℕ) (m i kind : ℕ) (h : Held ws m) (o : i < m) where
       ∙ sym (element_full (tag_of kind) (named (name_of d x ws i) ∷ []) (children_of d x ws m i) f)
       ∙ ap (written_member (tag_of kind)) (sym member_is)
 
-module _ {d x ws t t₁ : List ℕ} {m i kind n l : ℕ} (h : MemberScannable d x ws m i) (q : MemberTagPut d x ws i kind n t t₁ l) {b : Bool} (c : SomeChildren ws (i + 1) m b) where
+module _ {d x ws t t₁ : List ℕ} {m i kind n l : ℕ} (h : MemberScannable ws m i) (q : MemberTagPut d x ws i kind n t t₁ l) {b : Bool} (c : SomeChildren ws (i + 1) m b) where
   pub member_bare : {t₂ : List ℕ} {r : ℕ} → b ≡ false → Puts (bytes "\"/>") l t₁ t₂ r → MemberPut d x ws m i kind n t t₂ r
   member_bare f s = record {
     puts = puts_as (member_bare_bytes d x ws m i kind h.held h.within (sym (some_inside d x ws m i kind h.held h.within refl c) ∙ f)) (puts_then q.puts s);
@@ -338,28 +249,8 @@ module _ {d x ws t t₁ : List ℕ} {m i kind n l : ℕ} (h : MemberScannable d 
   }
 
 -- what the calls need
-module _ {d x ws : List ℕ} {m i : ℕ} (h : MemberScannable d x ws m i) where
-  pub member_row : RowHeld d x ws i
-  member_row = record { document = h.document; text = h.text; few = omega (arith, h.within, h.held.few); held = omega (arith, h.within, h.held.held) }
+module _ {ws : List ℕ} {m i : ℕ} (h : MemberScannable ws m i) where
+  pub member_row : RowHeld ws i
+  member_row = record { few = omega (arith, h.within, h.held.few); held = omega (arith, h.within, h.held.held) }
 
-  pub member_few : m ≤ 262144
-  member_few = h.held.few
-
-  pub member_rows : m * 16 ≤ length ws
-  member_rows = h.held.held
-
-  module _ {t t₁ : List ℕ} {kind n l : ℕ} (o : n < 4294967296) (q : MemberTagPut d x ws i kind n t t₁ l) where
-    pub member_ends : l + length (bytes "\"/>") < 2 ^ 62
-    member_ends = omega (arith, q.most, o)
-
-    pub member_opens : l + length (bytes "\">") < 2 ^ 62
-    member_opens = omega (arith, q.most, o)
-
-    module _ {t₂ : List ℕ} {u : ℕ} (s : Puts (bytes "\">") l t₁ t₂ u) where
-      pub member_small : CountFits u 3458764513820540928
-      member_small = record { fits = omega (arith, q.most, o, s.counts) }
-
-      pub member_closes : {t₃ : List ℕ} {v : ℕ} → ChildrenPut d x ws m i u t₂ t₃ v → v + 16 < 2 ^ 62
-      member_closes w = omega (arith, q.most, o, s.counts, w.most)
-
-pub ruleset members = (member_bare, member_full, member_row, member_few, member_rows, member_within, member_ends, member_opens, member_small, member_closes, rules)
+pub ruleset members = (member_bare, member_full, member_row, member_within, rules)

@@ -8,8 +8,8 @@ use mathlib.Core.List.{List, [], ◌∷◌, ◌++◌, append_assoc, append-nil}
 use mathlib.Core.Option.{Option, none, some}
 use mathlib.Core.Bool.{Bool, true, false, not, ◌||◌}
 use borrow.Author.Rules.{rules}
-use borrow.Author.Tests.{lt-ltb, le-ltb, le-leb, lt-leb, ltb-true, ltb-false, not-true, not-false}
-use lib.Dec.{eqb, leb, ltb}
+use borrow.Author.Tests.{lt-ltb, le-ltb, ltb-true, ltb-false, not-true, not-false}
+use lib.Dec.{eqb, ltb}
 use lib.ListN.{length, drop, get_or, set, replicate, length-append, length-set, drop_of_length-le}
 use lib.Seq.{drop-cons, get_or-drop}
 use Rattle.slices.specs.Bytes.{if}
@@ -42,27 +42,13 @@ use Rattle.writers.proofs.Scans.{last_all}
 use Rattle.writers.proofs.Texts.{shown_one}
 use Rattle.writers.proofs.Args.{shown_parts, own_annotations}
 use Rattle.writers.proofs.Members.{clear_args, length-rows, own_args, concat-append}
-use Rattle.writers.proofs.Entry.{content_is, content_past, admitted_rows, admitted_held, admits}
+use Rattle.writers.proofs.Entry.{content_is, content_past, admitted_document, admitted_text, admitted_rows, admits}
 
 -- ---- the run of a row
 
 pub record Running (ws : List ℕ) (n i k : ℕ) : Type 0 where
   pub after : i < k
   pub within : k ≤ n
-
-pub run_begins : {ws : List ℕ} {n i : ℕ} → i < n → Running ws n i (i + 1)
-run_begins h = record { after = omega arith; within = omega (arith, h) }
-
-module _ {ws : List ℕ} {n i k : ℕ} (g : Running ws n i k) where
-  pub run_over : n ≤ k → RunEnd ws n i n
-  run_over h = record { onward = omega (arith, g.after, g.within); within = omega arith; is = λ l. absurd (omega (arith, l)) }
-
-  module _ (h : k < n) where
-    pub run_found : {q : ℕ} → Word ws k 1 q → q ≤ i → RunEnd ws n i k
-    run_found c l = record { onward = g.after; within = g.within; is = λ m. omega (arith, c.is, l) }
-
-    pub run_more : Running ws n i (k + 1)
-    run_more = record { after = omega (arith, g.after); within = omega (arith, h) }
 
 pub reach_run : {ws : List ℕ} {n i r : ℕ} {o : Bool} → outcome.Orders ws n o → o ≡ true → RunEnd ws n i r → Reach ws n i r
 reach_run {ws} {n} {i} {r} a e g = record {
@@ -74,7 +60,7 @@ reach_run {ws} {n} {i} {r} a e g = record {
 pub reach_all : {ws : List ℕ} {n i : ℕ} → i < n → Reach ws n i n
 reach_all h = record { onward = h; within = omega arith; none = λ j k a b c d. absurd (omega (arith, c, d)) }
 
-pub ruleset runs = (run_begins, run_over, run_found, run_more, reach_run, reach_all, rules)
+pub ruleset runs = (reach_run, reach_all, rules)
 
 -- ---- the content of row i among the rows that it reaches
 
@@ -249,7 +235,7 @@ module _ {d x ws is : List ℕ} {n slots : ℕ} {r : prelude.Option ℕ} (g : Mi
       fine = λ f. record { items = all_items g e; room = l };
     }
 
-pub ruleset vetting = (vet_missing, vet_few, vet_fine, admitted_rows, rules)
+pub ruleset vetting = (vet_missing, vet_few, vet_fine, rules)
 
 module _ {d x ws is : List ℕ} {n slots : ℕ} where
   pub vet_document : 1048576 < length d → Vets d x ws n is slots (Err (fault 2 1048576))
@@ -296,17 +282,17 @@ row_item {ws} {n = n} a c = record { is = sym c.item ∙ ap (is_item ws n) (sym 
 pub row_below : {ws is : List ℕ} {n k i : ℕ} → At is k i → Asks ws n is k → i < n
 row_below a c = item_below (row_item a c)
 
-module _ {d x ws : List ℕ} {n i to : ℕ} (a : Admitted d x ws n) (g : Reach ws n i to) where
-  pub row_scans : MemberScannable d x ws to i
-  row_scans = record { document = a.document; text = a.text; held = fewer d x ws n i to (admitted_rows a) g; within = g.onward }
+module _ {ws : List ℕ} {n i to : ℕ} (h : Held ws n) (g : Reach ws n i to) where
+  pub row_scans : MemberScannable ws to i
+  row_scans = record { held = fewer [] [] ws n i to h g; within = g.onward }
 
-  pub row_put : {is t t' : List ℕ} {k m r : ℕ} → At is k i → ItemPut d x ws to i m t t' r → RowPut d x ws n is k m t t' r
-  row_put {t = t} {t' = t'} {m = m} {r = r} b q = record {
-    put = subst (λ j. ItemPut d x ws n j m t t' r) b.same (record { item = q.item; is = content_within d x ws n i to (admitted_rows a) g ∙ q.is; puts = q.puts });
+  pub row_put : {d x is t t' : List ℕ} {k m r : ℕ} → At is k i → ItemPut d x ws to i m t t' r → RowPut d x ws n is k m t t' r
+  row_put {d} {x} {t = t} {t' = t'} {m = m} {r = r} b q = record {
+    put = subst (λ j. ItemPut d x ws n j m t t' r) b.same (record { item = q.item; is = content_within d x ws n i to h g ∙ q.is; puts = q.puts });
   }
 
-pub row_held : {d x ws is : List ℕ} {n k i : ℕ} → Admitted d x ws n → At is k i → Asks ws n is k → i * 16 + 16 ≤ length ws
-row_held a b c = admitted_held a (row_below b c)
+pub row_held : {ws is : List ℕ} {n k i : ℕ} → Held ws n → At is k i → Asks ws n is k → i * 16 + 16 ≤ length ws
+row_held h b c = omega (arith, row_below b c, h.held)
 
 pub row_writable : {ws is : List ℕ} {n k i q : ℕ} → Word ws i 0 q → At is k i → Asks ws n is k → Writable q true
 row_writable w a c = item_writable (row_item a c) w
@@ -314,7 +300,7 @@ row_writable w a c = item_writable (row_item a c) w
 pub row_asked : {ws is : List ℕ} {n k : ℕ} → Asks ws n is k → k < length is
 row_asked c = c.within
 
-pub ruleset row = (row_asked, row_below, row_writable, row_scans, row_put, row_held, admitted_rows, rules)
+pub ruleset row = (row_asked, row_below, row_writable, row_scans, row_put, row_held, rules)
 
 -- ---- the loop: texts are put, and their ends
 
@@ -442,17 +428,6 @@ refuses {ends = ends} z s = record { says = s; ends_left_lem = z.is ∙ clear_al
 
 pub ruleset refusing = (refuses, rules)
 
-pub fits_not : {n room : ℕ} → room < n → Fits n room false
-fits_not h = record { is = rw (lt-ltb _ _ h) }
-
-pub fits_word : {n room : ℕ} → n ≤ room → Fits n room (leb n 4294967295)
-fits_word {n} {room} h = record { is = rw (le-ltb room n h) (go n) }
-  where
-    go : (n : ℕ) → leb n 4294967295 ≡ not (ltb 4294967295 n)
-    go n = below 4294967295 n (λ l. rw (lt-leb n 4294967295 l, lt-ltb 4294967295 n l)) (λ l. rw (le-leb n 4294967295 l, le-ltb 4294967295 n l))
-
-pub ruleset fitting = (fits_not, fits_word, rules)
-
 or-true : (a : Bool) → a || true ≡ true
 or-true true = refl
 or-true false = refl
@@ -514,7 +489,7 @@ fit_written {d} {x} {ws} {is} {n = n} w s a b f = record { left = rw (a, b) at (
 pub fit_held : {d x ws : List ℕ} {n : ℕ} → Admitted d x ws n → n * 16 ≤ length ws
 fit_held a = (admitted_rows a).held
 
-pub ruleset written_fit = (fit_written, fit_held, rules)
+pub ruleset written_fit = (fit_written, fit_held, admitted_document, admitted_text, admitted_rows, rules)
 
 -- ---- the entry
 

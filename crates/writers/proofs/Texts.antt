@@ -23,7 +23,7 @@ use Rattle.items.specs.Written.{Annotation, Pair, pair, pairs, optional, tag, co
 use Rattle.items.specs.Content.{present, annotation_of, annotations}
 use Rattle.writers.specs.Rows.{Child, row_at, rows_in, RowHeld}
 use Rattle.writers.proofs.Scans.{rows_one}
-use Rattle.writers.specs.Writes.{ShownAt, Puttable, ShownPut, annotation_at, AnnotationPut, if_annotation, IfAnnotationPut, Scannable, annotations_in, AnnotationsPut, name_at, type_at, direction_at, PairsPut, DirectionPut, ArgTagPut, CountFits}
+use Rattle.writers.specs.Writes.{ShownAt, ShownPut, annotation_at, AnnotationPut, if_annotation, IfAnnotationPut, Scannable, annotations_in, AnnotationsPut, name_at, type_at, direction_at, PairsPut, DirectionPut, ArgTagPut}
 
 -- the same bytes in other words
 pub puts_as : {xs ys t t' : List ℕ} {n r : ℕ} → xs ≡ ys → Puts xs n t t' r → Puts ys n t t' r
@@ -46,18 +46,15 @@ short_shown : (d x : List ℕ) (t : Triple) → length d ≤ 1048576 → length 
 unfolding shown
 short_shown d x t h k = short-part d x (resolved d x t) h k
 
-module _ {d x ws : List ℕ} {i k : ℕ} (h : RowHeld d x ws i) where
-  pub shown_is : {t : Triple} {s : List ℕ} → TripleIs ws i k t → s ≡ shown d x t → ShownAt d x ws i k s
-  shown_is {t} p g = record { is = g ∙ ap (shown d x) p.is; short = rw g (short_shown d x t h.document h.text) }
+module _ {d x ws : List ℕ} {i k : ℕ} where
+  pub shown_is : {t : Triple} {s : List ℕ} → length d ≤ 1048576 → length x ≤ 1048576 → TripleIs ws i k t → s ≡ shown d x t → ShownAt d x ws i k s
+  shown_is {t} a b p g = record { is = g ∙ ap (shown d x) p.is; short = rw g (short_shown d x t a b) }
 
   pub shown_put : {s before t t' : List ℕ} {n r : ℕ} → ShownAt d x ws i k s → Puts (before ++ escape s) n t t' r → ShownPut d x ws i k before n t t' r
   shown_put {s} {before} e p = record {
     puts = rw e.is at p;
     most = omega (arith, p.counts, length-append before (escape s), escape_most s, e.short);
   }
-
-pub value_room : {d x ws s before : List ℕ} {i k n : ℕ} → ShownAt d x ws i k s → Puttable d x ws i k before n → (n + length before + 6 * length s < 2 ^ 62)
-value_room e h = omega (arith, h.room, e.short)
 
 -- absent shows nothing
 absent_source : (a b c : Bool) → a && b && c ≡ true → a ≡ true
@@ -97,16 +94,6 @@ annotation_put {d} {x} {ws} {i = i} p q s =
           (puts_then p.puts (puts_then q.puts s));
       most = omega (arith, p.most, q.most, s.counts);
     }
-
-module _ {d x ws : List ℕ} {i n : ℕ} (h : RowHeld d x ws i) (s : n + 16777216 < 2 ^ 62) where
-  pub annotation_name : Puttable d x ws i 2 (bytes "<annotation name=\"") n
-  annotation_name = record { held = h; word = omega arith; room = omega (arith, s) }
-
-  pub annotation_value : {t t₁ : List ℕ} {m : ℕ} → ShownPut d x ws i 2 (bytes "<annotation name=\"") n t t₁ m → Puttable d x ws i 5 (bytes "\" value=\"") m
-  annotation_value p = record { held = h; word = omega arith; room = omega (arith, s, p.most) }
-
-pub annotation_end : {d x ws t t₁ t₂ : List ℕ} {i n m : ℕ} (l : ℕ) → n + 16777216 < 2 ^ 62 → ShownPut d x ws i 2 (bytes "<annotation name=\"") n t t₁ m → ShownPut d x ws i 5 (bytes "\" value=\"") m t₁ t₂ l → l + length (bytes "\"/>") < 2 ^ 62
-annotation_end l s p q = omega (arith, s, p.most, q.most)
 
 -- one row shown, and those after it
 pub shown_one : (d x ws : List ℕ) (k n : ℕ) → rows_in d x ws k (suc n) ≡ row_at d x ws k ∷ rows_in d x ws (suc k) n
@@ -148,7 +135,7 @@ pub record Annotating (d x ws : List ℕ) (p from to n : ℕ) (t₀ t : List ℕ
   pub within : k ≤ to
   pub same : length t ≡ length t₀
 
-pub note_begins : {d x ws t : List ℕ} {p from to n : ℕ} → Scannable d x ws from to n → Annotating d x ws p from to n t t from n
+pub note_begins : {d x ws t : List ℕ} {p from to n : ℕ} → Scannable ws from to n → Annotating d x ws p from to n t t from n
 note_begins g = record { done = []; left = refl; puts = puts_none; most = omega arith; onward = omega arith; within = g.onward; same = refl }
 
 module _ {d x ws t₀ t : List ℕ} {p from to n k m : ℕ} (g : Annotating d x ws p from to n t₀ t k m) where
@@ -181,9 +168,9 @@ module _ {d x ws t₀ t : List ℕ} {p from to n k m : ℕ} (g : Annotating d x 
           same = s ∙ g.same;
         }
 
-    module _ (w : Scannable d x ws from to n) where
-      pub note_held : RowHeld d x ws k
-      note_held = record { document = w.document; text = w.text; few = omega (arith, h, w.few); held = omega (arith, h, w.held) }
+    module _ (w : Scannable ws from to n) where
+      pub note_held : RowHeld ws k
+      note_held = record { few = omega (arith, h, w.few); held = omega (arith, h, w.held) }
 
       pub note_room : m + 16777216 < 2 ^ 62
       note_room = omega (arith, h, g.most, g.onward, w.room)
@@ -214,19 +201,6 @@ module _ {d x ws : List ℕ} {i n : ℕ} where
       type_bytes : (s : List ℕ) → (bytes " type=\"" ++ escape s) ++ bytes "\"" ≡ pairs (record { key = bytes "type"; value = s } ∷ [])
       type_bytes s = ap (λ l. bytes " type=\"" ++ l) (sym (append-nil (escape s ++ 34 ∷ [])))
 
-module _ {d x ws : List ℕ} {i n : ℕ} (h : RowHeld d x ws i) (s : CountFits n 8388608) where
-  pub arg_name : Puttable d x ws i 2 (bytes " name=\"") n
-  arg_name = record { held = h; word = omega arith; room = omega (arith, s.fits) }
-
-  pub arg_type : Puttable d x ws i 5 (bytes " type=\"") n
-  arg_type = record { held = h; word = omega arith; room = omega (arith, s.fits) }
-
-pub name_end : {d x ws t t₁ : List ℕ} {i n : ℕ} (m : ℕ) → CountFits n 8388608 → ShownPut d x ws i 2 (bytes " name=\"") n t t₁ m → m + length (bytes "\"") < 2 ^ 62
-name_end m s p = omega (arith, s.fits, p.most)
-
-pub type_end : {d x ws t t₁ : List ℕ} {i n : ℕ} (m : ℕ) → CountFits n 8388608 → ShownPut d x ws i 5 (bytes " type=\"") n t t₁ m → m + length (bytes "\"") < 2 ^ 62
-type_end m s p = omega (arith, s.fits, p.most)
-
 module _ {ws : List ℕ} {i n w : ℕ} (e : Word ws i 14 w) where
   pub direction_none : {t : List ℕ} → w ≡ 0 → DirectionPut ws i n t t n
   unfolding direction_at
@@ -243,27 +217,6 @@ module _ {ws : List ℕ} {i n w : ℕ} (e : Word ws i 14 w) where
         let z : word_at ws i 14 ≡ suc (suc (w - 2)) = sym e.is ∙ omega (arith, f, g) in
         record { puts = rw z p; most = omega (arith, p.counts) }
 
-pub direction_room : (n : ℕ) → CountFits n 32 → n + length (bytes " direction=\"out\"") < 2 ^ 62
-direction_room n s = omega (arith, s.fits)
-
-pub inward_room : (n : ℕ) → CountFits n 32 → n + length (bytes " direction=\"in\"") < 2 ^ 62
-inward_room n s = omega (arith, s.fits)
-
--- room for each attribute of an arg
-pub arg_start : (n : ℕ) → CountFits n 16777216 → n + length (bytes "<arg") < 2 ^ 62
-arg_start n s = omega (arith, s.fits)
-
-module _ {n m : ℕ} {t t₁ : List ℕ} (s : CountFits n 16777216) (p : Puts (bytes "<arg") n t t₁ m) where
-  pub first_room : CountFits m 8388608
-  first_room = record { fits = omega (arith, s.fits, p.counts) }
-
-  module _ {ps : List Pair} {l : ℕ} {t₂ : List ℕ} (q : PairsPut ps m t₁ t₂ l) where
-    pub second_room : CountFits l 8388608
-    second_room = record { fits = omega (arith, s.fits, p.counts, q.most) }
-
-    pub third_room : {qs : List Pair} {k : ℕ} {t₃ : List ℕ} → PairsPut qs l t₂ t₃ k → CountFits k 32
-    third_room w = record { fits = omega (arith, s.fits, p.counts, q.most, w.most) }
-
 pairs-append : (ps qs : List Pair) → pairs (ps ++ qs) ≡ pairs ps ++ pairs qs
 pairs-append [] qs = refl
 pairs-append (p ∷ ps) qs = ap (◌++◌ (pair p.key p.value)) (pairs-append ps qs) ∙ sym (append_assoc (pair p.key p.value) (pairs ps) (pairs qs))
@@ -277,8 +230,8 @@ arg_tag {d} {x} {ws} {i = i} p q s w = record {
     tag_bytes : (ps qs rs : List Pair) → bytes "<arg" ++ (pairs ps ++ (pairs qs ++ pairs rs)) ≡ bytes "<arg" ++ pairs (ps ++ (qs ++ rs))
     tag_bytes ps qs rs = ap (λ l. bytes "<arg" ++ l) (ap (◌++◌ (pairs ps)) (sym (pairs-append qs rs)) ∙ sym (pairs-append ps (qs ++ rs)))
 
-pub ruleset texts = (shown_is, shown_put, value_room, annotation_name, annotation_value, annotation_end, annotation_put, annotation_is, annotation_not, rules)
+pub ruleset texts = (shown_is, shown_put, annotation_put, annotation_is, annotation_not, rules)
 
 pub ruleset notes = (note_begins, note_ends, note_more, note_held, note_room, rules)
 
-pub ruleset tags = (arg_unnamed, arg_named, arg_typed, arg_name, arg_type, name_end, type_end, arg_start, direction_none, direction_inward, direction_outward, direction_room, inward_room, first_room, second_room, third_room, arg_tag, rules)
+pub ruleset tags = (arg_unnamed, arg_named, arg_typed, direction_none, direction_inward, direction_outward, arg_tag, rules)

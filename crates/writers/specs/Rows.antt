@@ -24,10 +24,8 @@ pub record Held (ws : List ℕ) (n : ℕ) : Type 0 where
   pub held : n * 16 ≤ length ws
   pub parents : (k : ℕ) → k < n → word_at ws k 1 ≤ k
 
--- the document and the text are within the limit, and row i is held
-pub record RowHeld (d x ws : List ℕ) (i : ℕ) : Type 0 where
-  pub document : length d ≤ 1048576
-  pub text : length x ≤ 1048576
+-- row i is held
+pub record RowHeld (ws : List ℕ) (i : ℕ) : Type 0 where
   pub few : i < 262144
   pub held : i * 16 + 16 ≤ length ws
 

@@ -20,8 +20,8 @@ pub record ShownAt (d x ws : List ℕ) (i k : ℕ) (s : List ℕ) : Type 0 where
   pub short : length s ≤ 1048576
 
 -- what putting it needs: the row is held, and there is room for the count
-pub record Puttable (d x ws : List ℕ) (i k : ℕ) (before : List ℕ) (n : ℕ) : Type 0 where
-  pub held : RowHeld d x ws i
+pub record Puttable (ws : List ℕ) (i k : ℕ) (before : List ℕ) (n : ℕ) : Type 0 where
+  pub held : RowHeld ws i
   pub word : k ≤ 11
   pub room : n + length before + 6291456 < 2 ^ 62
 
@@ -48,9 +48,7 @@ pub record IfAnnotationPut (d x ws : List ℕ) (p i n : ℕ) (t t' : List ℕ) (
 
 -- what putting the children of a row needs that stand among the rows from one on up to another: the rows are held, and there
 -- is room for the count
-pub record Scannable (d x ws : List ℕ) (from to : ℕ) (n : ℕ) : Type 0 where
-  pub document : length d ≤ 1048576
-  pub text : length x ≤ 1048576
+pub record Scannable (ws : List ℕ) (from to : ℕ) (n : ℕ) : Type 0 where
   pub onward : from ≤ to
   pub few : to ≤ 262144
   pub held : to * 16 ≤ length ws
@@ -107,17 +105,13 @@ pub record IfArgPut (d x ws : List ℕ) (m p i n : ℕ) (t t' : List ℕ) (r : �
   pub most : r ≤ n + 4398046511104
 
 -- what putting the args of row p less one needs: m rows are held
-pub record ArgsScannable (d x ws : List ℕ) (m p : ℕ) (ordered : Bool) : Type 0 where
-  pub document : length d ≤ 1048576
-  pub text : length x ≤ 1048576
+pub record ArgsScannable (ws : List ℕ) (m p : ℕ) (ordered : Bool) : Type 0 where
   pub held : Held ws m
   pub onward : p ≤ m
   pub orders : Orders ws m p ordered
 
 -- and what putting one of them needs
-pub record Turn (d x ws : List ℕ) (m p : ℕ) (ordered : Bool) (i : ℕ) (n : ℕ) : Type 0 where
-  pub document : length d ≤ 1048576
-  pub text : length x ≤ 1048576
+pub record Turn (ws : List ℕ) (m p : ℕ) (ordered : Bool) (i : ℕ) (n : ℕ) : Type 0 where
   pub held : Held ws m
   pub after : p ≤ i
   pub within : i < m
@@ -129,9 +123,7 @@ unfoldable pub args_in : List ℕ → List ℕ → List ℕ → ℕ → ℕ → 
 args_in d x ws m p i = concat (map written_arg (args (rows_shown d x ws m) p i (rows_in d x ws i (m - i))))
 
 -- what putting the annotations of row p less one needs
-pub record NotesScannable (d x ws : List ℕ) (m p : ℕ) : Type 0 where
-  pub document : length d ≤ 1048576
-  pub text : length x ≤ 1048576
+pub record NotesScannable (ws : List ℕ) (m p : ℕ) : Type 0 where
   pub held : Held ws m
   pub onward : p ≤ m
 
@@ -151,9 +143,7 @@ pub record MemberEndPut (kind n : ℕ) (t t' : List ℕ) (r : ℕ) : Type 0 wher
   pub puts : Puts (closing_tag (tag_of kind)) n t t' r
 
 -- what putting row i with its children needs
-pub record MemberScannable (d x ws : List ℕ) (m i : ℕ) : Type 0 where
-  pub document : length d ≤ 1048576
-  pub text : length x ≤ 1048576
+pub record MemberScannable (ws : List ℕ) (m i : ℕ) : Type 0 where
   pub held : Held ws m
   pub within : i < m
 

@@ -1,5 +1,5 @@
 // The children of a row: whether there are some, where the next one is, where their own children end.
-ghost use Rattle.std.specs.Prelude.{◌≡◌, ◌*◌, ◌+◌, ◌≤◌, ◌<◌, length};
+ghost use Rattle.std.specs.Prelude.{◌*◌, ◌+◌, ◌≤◌, ◌<◌, length};
 ghost use Rattle.items.specs.Words.{Word};
 ghost use Rattle.writers.specs.Rows.{Child, SomeChild, SomeChildren, NextChild, Stray, Held, Ordered, ChildOf, Last, RunEnd, Reach};
 ghost use Rattle.soundness.specs.Outcome as outcome;
@@ -8,7 +8,8 @@ use document::kinds;
 
 // The parent's row of row i, plus one.
 fn parent_at(rows: &[u32], i: usize) -> usize
-    requires { (i < 262144) × (i * 16 + 16 ≤ length rows.now) }
+    requires few { i < 262144 }
+    requires held { i * 16 + 16 ≤ length rows.now }
     ensures { Word rows.now i 1 result }
 {
     items::word(rows, i, 1) as usize
@@ -50,6 +51,8 @@ pub fn has_children(rows: &[u32], p: usize, to: usize) -> bool
 }
 
 // The first row from one on up to another whose parent's row plus one is p, or the other.
+// Not an Option: callers want where a range of rows ends, and with no such row that is the other.
+// A loop of its own, as that of `run_end` is: a test handed to one loop would need clauses for the rows that it reads.
 pub fn next_child(rows: &[u32], from: usize, to: usize, p: usize) -> usize
     requires onward { from ≤ to }
     requires few { to ≤ 262144 }
@@ -94,6 +97,7 @@ pub fn is_ordered(rows: &[u32], n: usize, i: usize) -> bool
 }
 
 // Where the children of row j end, itself a child of row p less one.
+// Not an Option, as above; `ordered` is a bool, for no value goes with that answer.
 pub fn last_child(rows: &[u32], n: usize, j: usize, p: usize, ordered: bool) -> usize
     requires rows { Held rows.now n }
     requires within { j < n }
@@ -108,6 +112,7 @@ pub fn last_child(rows: &[u32], n: usize, j: usize, p: usize, ordered: bool) -> 
 }
 
 // The first row after row i whose parent is not after row i, or n: where what stands in row i ends, in document order.
+// Not an Option: a range of rows ends at n too.
 fn run_end(rows: &[u32], n: usize, i: usize) -> usize
     requires rows { Held rows.now n }
     requires within { i < n }
@@ -122,6 +127,7 @@ fn run_end(rows: &[u32], n: usize, i: usize) -> usize
 }
 
 // A row from which on none stands in row i, nor in what stands in row i: near in document order, else n.
+// Not an Option: a range of rows ends at n too.
 pub fn reach(rows: &[u32], n: usize, i: usize, ordered: bool) -> usize
     requires rows { Held rows.now n }
     requires within { i < n }

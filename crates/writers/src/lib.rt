@@ -27,12 +27,14 @@ struct Source<'a> {
     text: &'a [u8],
     rows: &'a [u32],
     classes: &'a ClassTable,
+    ghost short_document: { length document.now ≤ 1048576 },
+    ghost short_text: { length text.now ≤ 1048576 },
 }
 
 // What the triple from word k on of row i shows.
 #[tactic(auto, using(crate::proofs::Texts::texts))]
 fn shown_at<'a>(source: &Source<'a>, i: usize, k: usize) -> &'a [u8]
-    requires row { RowHeld source.now.document.now source.now.text.now source.now.rows.now i }
+    requires row { RowHeld source.now.rows.now i }
     requires word { k ≤ 11 }
     ensures { ShownAt source.now.document.now source.now.text.now source.now.rows.now i k
         result.now }
@@ -46,7 +48,7 @@ fn shown_at<'a>(source: &Source<'a>, i: usize, k: usize) -> &'a [u8]
 
 // Puts bytes as they are, then, escaped, what the triple from word k on of row i shows.
 fn put_shown(source: &Source, i: usize, k: usize, before: &[u8], out: &mut [u8], n: usize) -> usize
-    requires { Puttable source.now.document.now source.now.text.now source.now.rows.now i k before.now n }
+    requires { Puttable source.now.rows.now i k before.now n }
     ensures { ShownPut source.now.document.now source.now.text.now source.now.rows.now i k
         before.now n out.old out.new result }
 {
@@ -56,7 +58,7 @@ fn put_shown(source: &Source, i: usize, k: usize, before: &[u8], out: &mut [u8],
 
 // Row i as an annotation.
 fn put_annotation(source: &Source, i: usize, out: &mut [u8], n: usize) -> usize
-    requires row { RowHeld source.now.document.now source.now.text.now source.now.rows.now i }
+    requires row { RowHeld source.now.rows.now i }
     requires room { n + 16777216 < 2 ^ 62 }
     ensures { AnnotationPut source.now.document.now source.now.text.now source.now.rows.now i n
         out.old out.new result }
@@ -68,7 +70,7 @@ fn put_annotation(source: &Source, i: usize, out: &mut [u8], n: usize) -> usize
 
 // Row i as an annotation, if it is one of row p less one.
 fn put_if_annotation(source: &Source, p: usize, i: usize, out: &mut [u8], n: usize) -> usize
-    requires row { RowHeld source.now.document.now source.now.text.now source.now.rows.now i }
+    requires row { RowHeld source.now.rows.now i }
     requires room { n + 16777216 < 2 ^ 62 }
     ensures { IfAnnotationPut source.now.document.now source.now.text.now source.now.rows.now p i n
         out.old out.new result }
@@ -89,7 +91,7 @@ fn put_annotations(
     out: &mut [u8],
     n: usize,
 ) -> usize
-    requires { Scannable source.now.document.now source.now.text.now source.now.rows.now from to n }
+    requires { Scannable source.now.rows.now from to n }
     ensures { AnnotationsPut source.now.document.now source.now.text.now source.now.rows.now p from to n
         out.old out.new result }
 {
@@ -102,7 +104,7 @@ fn put_annotations(
 
 // The name of the arg in row i, if it has one.
 fn put_arg_name(source: &Source, i: usize, out: &mut [u8], n: usize) -> usize
-    requires row { RowHeld source.now.document.now source.now.text.now source.now.rows.now i }
+    requires row { RowHeld source.now.rows.now i }
     requires room { CountFits n 8388608 }
     ensures { PairsPut (optional (name_at source.now.document.now source.now.text.now source.now.rows.now i)) n
         out.old out.new result }
@@ -116,7 +118,7 @@ fn put_arg_name(source: &Source, i: usize, out: &mut [u8], n: usize) -> usize
 
 // The type of the arg in row i.
 fn put_arg_type(source: &Source, i: usize, out: &mut [u8], n: usize) -> usize
-    requires row { RowHeld source.now.document.now source.now.text.now source.now.rows.now i }
+    requires row { RowHeld source.now.rows.now i }
     requires room { CountFits n 8388608 }
     ensures { PairsPut (type_at source.now.document.now source.now.text.now source.now.rows.now i) n
         out.old out.new result }
@@ -142,7 +144,7 @@ fn put_direction(rows: &[u32], i: usize, out: &mut [u8], n: usize) -> usize
 
 // The start tag of an arg, up to its end.
 fn put_arg_tag(source: &Source, i: usize, out: &mut [u8], n: usize) -> usize
-    requires row { RowHeld source.now.document.now source.now.text.now source.now.rows.now i }
+    requires row { RowHeld source.now.rows.now i }
     requires room { CountFits n 16777216 }
     ensures { ArgTagPut source.now.document.now source.now.text.now source.now.rows.now i n out.old
         out.new result }
@@ -156,7 +158,7 @@ fn put_arg_tag(source: &Source, i: usize, out: &mut [u8], n: usize) -> usize
 // Row i as an arg; no row from row `to` on is a child of it.
 fn put_arg(source: &Source, i: usize, to: usize, out: &mut [u8], n: usize) -> usize
     requires within { i < to }
-    requires scan { Scannable source.now.document.now source.now.text.now source.now.rows.now i to n }
+    requires scan { Scannable source.now.rows.now i to n }
     ensures { ArgPut source.now.document.now source.now.text.now source.now.rows.now i to n out.old
         out.new result }
 {
@@ -180,7 +182,7 @@ fn put_if_arg(
     out: &mut [u8],
     n: usize,
 ) -> usize
-    requires { Turn source.now.document.now source.now.text.now source.now.rows.now count p ordered i n }
+    requires { Turn source.now.rows.now count p ordered i n }
     ensures { IfArgPut source.now.document.now source.now.text.now source.now.rows.now count p i n
         out.old out.new result }
 {
@@ -201,7 +203,7 @@ fn put_args(
     out: &mut [u8],
     n: usize,
 ) -> usize
-    requires scan { ArgsScannable source.now.document.now source.now.text.now source.now.rows.now count p ordered }
+    requires scan { ArgsScannable source.now.rows.now count p ordered }
     requires room { CountFits n 2305843009213693952 }
     ensures { KindPut (args_in source.now.document.now source.now.text.now source.now.rows.now count p p) n
         out.old out.new result }
@@ -215,7 +217,8 @@ fn put_args(
 
 // The annotations of row p less one.
 fn put_notes(source: &Source, count: usize, p: usize, out: &mut [u8], n: usize) -> usize
-    requires { (NotesScannable source.now.document.now source.now.text.now source.now.rows.now count p) × (CountFits n 2305843009213693952) }
+    requires scan { NotesScannable source.now.rows.now count p }
+    requires room { CountFits n 2305843009213693952 }
     ensures { KindPut (annotations_in source.now.document.now source.now.text.now source.now.rows.now p p count)
         n out.old out.new result }
 {
@@ -223,16 +226,16 @@ fn put_notes(source: &Source, count: usize, p: usize, out: &mut [u8], n: usize) 
 }
 
 // The start tag of a method or a signal, up to the end of its name.
+// Apart from `put_member_end`: put together from the bare name of a tag, either would take one more call for each piece.
 fn put_member_tag(source: &Source, i: usize, kind: u32, out: &mut [u8], n: usize) -> usize
-    requires row { RowHeld source.now.document.now source.now.text.now source.now.rows.now i }
+    requires row { RowHeld source.now.rows.now i }
     requires room { n < 4294967296 }
     ensures { MemberTagPut source.now.document.now source.now.text.now source.now.rows.now i kind n
         out.old out.new result }
 {
-    if kind == kinds::METHOD {
-        put_shown(source, i, 2, b"<method name=\"", out, n)
-    } else {
-        put_shown(source, i, 2, b"<signal name=\"", out, n)
+    match kind {
+        kinds::METHOD => put_shown(source, i, 2, b"<method name=\"", out, n),
+        _ => put_shown(source, i, 2, b"<signal name=\"", out, n),
     }
 }
 
@@ -241,16 +244,15 @@ fn put_member_end(kind: u32, out: &mut [u8], n: usize) -> usize
     requires { n + 16 < 2 ^ 62 }
     ensures { MemberEndPut kind n out.old out.new result }
 {
-    if kind == kinds::METHOD {
-        writer::put_text(out, n, b"</method>")
-    } else {
-        writer::put_text(out, n, b"</signal>")
+    match kind {
+        kinds::METHOD => writer::put_text(out, n, b"</method>"),
+        _ => writer::put_text(out, n, b"</signal>"),
     }
 }
 
 // The children of row i: args before annotations.
 fn put_children(source: &Source, count: usize, i: usize, out: &mut [u8], n: usize) -> usize
-    requires scan { MemberScannable source.now.document.now source.now.text.now source.now.rows.now count i }
+    requires scan { MemberScannable source.now.rows.now count i }
     requires room { CountFits n 3458764513820540928 }
     ensures { ChildrenPut source.now.document.now source.now.text.now source.now.rows.now count i n
         out.old out.new result }
@@ -263,7 +265,7 @@ fn put_children(source: &Source, count: usize, i: usize, out: &mut [u8], n: usiz
 
 // Row i as a method or a signal.
 fn put_member(source: &Source, count: usize, i: usize, kind: u32, out: &mut [u8], n: usize) -> usize
-    requires scan { MemberScannable source.now.document.now source.now.text.now source.now.rows.now count i }
+    requires scan { MemberScannable source.now.rows.now count i }
     requires room { n < 4294967296 }
     ensures { MemberPut source.now.document.now source.now.text.now source.now.rows.now count i kind n
         out.old out.new result }
@@ -290,7 +292,7 @@ fn is_writable(kind: u32) -> bool
 // Row i, whose kind is given.
 #[tactic(auto, using(crate::proofs::Entry::items))]
 fn put_item(source: &Source, count: usize, i: usize, kind: u32, out: &mut [u8], n: usize) -> usize
-    requires scan { MemberScannable source.now.document.now source.now.text.now source.now.rows.now count i }
+    requires scan { MemberScannable source.now.rows.now count i }
     requires kind { Word source.now.rows.now i 0 kind }
     requires writable { Writable kind true }
     requires room { n < 4294967296 }
@@ -399,7 +401,7 @@ fn vet_items<'a>(
     asked: &[u32],
     slots: usize,
 ) -> Result<(), Fault>
-    requires { Admitted document.now text.now rows.now n }
+    requires { Held rows.now n }
     ensures { VetsItems document.now text.now rows.now n asked.now slots result }
 {
     if let Some(row) = first_missing(rows, n, asked) {
@@ -452,7 +454,7 @@ fn put_row(
     out: &mut [u8],
     n: usize,
 ) -> usize
-    requires admitted { Admitted source.now.document.now source.now.text.now source.now.rows.now count }
+    requires rows { Held source.now.rows.now count }
     requires asks { Asks source.now.rows.now count asked.now k }
     requires order { outcome.Orders source.now.rows.now count ordered }
     requires room { n < 4294967296 }
@@ -466,6 +468,7 @@ fn put_row(
 }
 
 // The items of the rows asked for, and where each ends; says how many bytes they are, or 4,294,967,296 if a word does not count them.
+// That number and not an Option: it is the place that refusal 21 tells.
 #[tactic(auto, using(crate::proofs::Several::adding))]
 fn put_rows(
     source: &Source,
@@ -475,7 +478,7 @@ fn put_rows(
     out: &mut [u8],
     ends: &mut [u32],
 ) -> usize
-    requires admitted { Admitted source.now.document.now source.now.text.now source.now.rows.now count }
+    requires rows { Held source.now.rows.now count }
     requires fit { Fit source.now.rows.now count asked.now (length ends.old) }
     requires order { outcome.Orders source.now.rows.now count ordered }
     ensures { SeveralPut source.now.document.now source.now.text.now source.now.rows.now count

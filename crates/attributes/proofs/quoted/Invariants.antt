@@ -6,7 +6,7 @@ use Rattle.attributes.proofs.Found.{Quoting}
 use Rattle.attributes.proofs.quoted.Given as goal
 
 abbrev pub invariant-loop-at : goal.invariant-loop-at
-invariant-loop-at l = Quoting l.quote l.doc l.from l.at l.kind
+invariant-loop-at l = Quoting l.quote l.doc l.from l.at l.form
 
 abbrev pub decreases-loop-at : goal.decreases-loop-at
 decreases-loop-at l = length l.doc - l.at

@@ -1,7 +1,7 @@
--- What `elements::enumvalue_row` leaves to show.
+-- `elements::enumvalue_row` meets its contract.
 -- Assumes nothing.
-use Rattle.elements.proofs.Rows.{elements}
+use Rattle.elements.proofs.Rows.{enumvalue_done}
 use Rattle.elements.proofs.enumvalue_row.Goals as goal
 
 pub returns : goal.returns
-returns c = search elements
+returns c = enumvalue_done c.requires.ready c.new-head.ensures c.put_row.ensures

@@ -1,7 +1,7 @@
--- What `elements::member_row` leaves to show.
+-- `elements::member_row` meets its contract.
 -- Assumes nothing.
-use Rattle.elements.proofs.Rows.{elements}
+use Rattle.elements.proofs.Rows.{member_done}
 use Rattle.elements.proofs.member_row.Goals as goal
 
 pub returns : goal.returns
-returns c = search elements
+returns c = member_done c.requires.ready c.new-head.ensures c.put_row.ensures

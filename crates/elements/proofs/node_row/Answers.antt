@@ -1,7 +1,7 @@
--- What `elements::node_row` leaves to show.
+-- `elements::node_row` meets its contract.
 -- Assumes nothing.
-use Rattle.elements.proofs.Rows.{elements}
+use Rattle.elements.proofs.Rows.{node_done}
 use Rattle.elements.proofs.node_row.Goals as goal
 
 pub returns : goal.returns
-returns c = search elements
+returns c = node_done c.requires.ready c.new-head.ensures c.put_row.ensures

@@ -1,7 +1,7 @@
--- What `elements::typed_row` leaves to show.
+-- `elements::typed_row` meets its contract.
 -- Assumes nothing.
-use Rattle.elements.proofs.Rows.{elements}
+use Rattle.elements.proofs.Rows.{typed_done}
 use Rattle.elements.proofs.typed_row.Goals as goal
 
 pub returns : goal.returns
-returns c = search elements
+returns c = typed_done c.requires.ready c.requires.of_kind c.new-head.ensures c.put_row.ensures

@@ -1,7 +1,7 @@
--- What `elements::untyped_row` leaves to show.
+-- `elements::untyped_row` meets its contract.
 -- Assumes nothing.
-use Rattle.elements.proofs.Rows.{elements}
+use Rattle.elements.proofs.Rows.{untyped_done}
 use Rattle.elements.proofs.untyped_row.Goals as goal
 
 pub returns : goal.returns
-returns c = search elements
+returns c = untyped_done c.requires.ready c.requires.of_kind c.new-head.ensures c.put_row.ensures

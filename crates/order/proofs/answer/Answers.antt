@@ -2,12 +2,14 @@
 -- Assumes nothing.
 use Rattle.order.proofs.Answering.{entry}
 use Rattle.order.proofs.answer.Goals as goal
+use Rattle.order.proofs.answer.Goals.{then-document-gt1048576-via-then-document-gt1048576, then-document-gt1048576-via-else-document-gt1048576+then-text-gt1048576}
 
 pub returns-then-document-gt1048576 : goal.returns-then-document-gt1048576
-returns-then-document-gt1048576 c = search entry
-
-pub returns-then-text-gt1048576 : goal.returns-then-text-gt1048576
-returns-then-text-gt1048576 c = search entry
+returns-then-document-gt1048576 c =
+    elim c.then-document-gt1048576.branch [
+      | then-document-gt1048576-via-then-document-gt1048576 w ↦ search entry
+      | then-document-gt1048576-via-else-document-gt1048576+then-text-gt1048576 w ↦ search entry
+    ]
 
 pub returns-in-Err : goal.returns-in-Err
 returns-in-Err c = search entry

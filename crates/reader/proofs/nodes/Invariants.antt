@@ -3,17 +3,13 @@
 use Prim.Native.Nat.{◌-◌}
 use mathlib.Core.Path.{◌≡◌}
 use lib.ListN.{length}
-use Rattle.document.specs.Outcome.{lent, name_at}
+use Rattle.document.specs.Outcome.{lent_to, name_at, Keeps}
 use Rattle.reader.proofs.Rooted.{Sofar}
 use Rattle.reader.proofs.nodes.Given as goal
 
 abbrev pub invariant-loop-f : goal.invariant-loop-f
 invariant-loop-f l =
-    Sofar l.doc (name_at l.doc l.at l.len) l.initial.opened l.initial.w (lent l.initial.rows l.initial.warnings l.initial.text) l.opened l.w (lent l.rows l.warnings l.text)
-    × (length l.rows ≡ length l.initial.rows)
-    × (length l.warnings ≡ length l.initial.warnings)
-    × (length l.text ≡ length l.initial.text)
-    × (length l.opened ≡ length l.initial.opened)
+    Keeps l.initial.r l.r × Sofar l.initial.r.doc.now (name_at l.initial.r.doc.now l.at l.len) l.initial.opened l.initial.w (lent_to l.initial.r) l.opened l.w (lent_to l.r) × (length l.opened ≡ length l.initial.opened)
 
 abbrev pub decreases-loop-f : goal.decreases-loop-f
-decreases-loop-f l = length l.doc - l.w.fill.at
+decreases-loop-f l = length l.initial.r.doc.now - l.w.fill.at

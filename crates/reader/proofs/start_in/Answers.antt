@@ -3,8 +3,8 @@
 use Rattle.reader.proofs.Turning.{begun_open, begun_child}
 use Rattle.reader.proofs.start_in.Goals as goal
 
-pub returns-then-c-eq-NODE : goal.returns-then-c-eq-NODE
-returns-then-c-eq-NODE c = begun_open c.requires.started c.if-c-eq-NODE.true c.wide-i.ensures c.open_node.ensures
+pub returns-then-c-eq-NODE-clause-is : goal.returns-then-c-eq-NODE-clause-is
+returns-then-c-eq-NODE-clause-is c = begun_open c.requires.started c.if-c-eq-NODE.true c.wide-i.ensures c.open_node.ensures
 
-pub returns : goal.returns
-returns c = begun_child c.requires.started c.wide-i.ensures c.read_child.ensures
+pub returns-clause-is : goal.returns-clause-is
+returns-clause-is c = begun_child c.requires.started c.wide-i.ensures c.read_child.ensures.is

@@ -8,7 +8,7 @@ use Rattle.references.proofs.reference_at.Goals as goal
 pub returns-in_err-c : goal.returns-in_err-c
 returns-in_err-c c =
     let p = err_from_is_err_and c.from_residual.result c.from_residual.ensures.1 in
-    rw (p.1, p.2) (piece_bad c.args.v.now c.args.at c.requires.1 c.find-end.ensures (omega arith) c.reference_of.ensures c.in_err-c.was)
+    rw (p.1, p.2) (piece_bad c.args.v.now c.args.at c.requires.ampersand c.find-end.ensures (omega arith) c.reference_of.ensures c.in_err-c.was)
 
 pub returns : goal.returns
-returns c = piece_char c.args.v.now c.args.at c.requires.1 c.find-end.ensures (omega arith) c.reference_of.ensures c.in_ok-c.was
+returns c = piece_char c.args.v.now c.args.at c.requires.ampersand c.find-end.ensures (omega arith) c.reference_of.ensures c.in_ok-c.was

@@ -1,31 +1,7 @@
 -- `shown::interface_name` meets its contract.
 -- Assumes nothing.
-use Rattle.shown.proofs.Tests.{tests}
+use Rattle.shown.proofs.Tests.{short_interface}
 use Rattle.shown.proofs.interface_name.Goals as goal
 
-pub raw-requires : goal.raw-requires
-raw-requires c = search tests
-
-pub interface_name-requires : goal.interface_name-requires
-interface_name-requires c = search tests
-
-pub returns-then-v-eq1 : goal.returns-then-v-eq1
-returns-then-v-eq1 c = search tests
-
-pub slice_bounds-changed-end : goal.slice_bounds-changed-end
-slice_bounds-changed-end c = search tests
-
-pub changed-n-requires : goal.changed-n-requires
-changed-n-requires c = search tests
-
-pub slice_bounds-own-end : goal.slice_bounds-own-end
-slice_bounds-own-end c = search tests
-
-pub slice_bounds-interface_name-end : goal.slice_bounds-interface_name-end
-slice_bounds-interface_name-end c = search tests
-
-pub interface_name-requires-2 : goal.interface_name-requires-2
-interface_name-requires-2 c = search tests
-
 pub returns : goal.returns
-returns c = search tests
+returns c = c.tested.ensures _ _ (λ x r is. is) short_interface

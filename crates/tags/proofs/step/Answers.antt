@@ -10,7 +10,7 @@ returns-in_err-place c =
     rw (p.1, p.2) (step_fault c.args.at c.args.len c.token.ensures (c.in_err-place.was {u = tt}))
 
 pub returns-in-End : goal.returns-in-End
-returns-in-End c = step_end c.args.at c.args.len c.token.ensures c.requires.1 (rw c.in-End.is at (c.in_ok-place.was {u = tt})) c.new.ensures c.showing.ensures
+returns-in-End c = step_end c.args.at c.args.len c.token.ensures c.requires.named (rw c.in-End.is at (c.in_ok-place.was {u = tt})) c.new.ensures c.showing.ensures
 
 pub returns-in-Start : goal.returns-in-Start
 returns-in-Start c = step_start c.args.at c.args.len c.token.ensures (rw c.in-Start.is at (c.in_ok-place.was {u = tt}))

@@ -3,5 +3,5 @@
 use Rattle.telepathy.proofs.Bodies.{contents}
 use Rattle.telepathy.proofs.content.Goals as goal
 
-pub returns : goal.returns
-returns c = search contents
+pub returns-clause-is : goal.returns-clause-is
+returns-clause-is c = search contents

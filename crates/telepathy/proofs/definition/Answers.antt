@@ -11,13 +11,10 @@ definition_row-requires c = search all_definitions
 pub enum_known-g : goal.enum_known-g
 enum_known-g c = search all_definitions
 
-pub shape_of-warnings : goal.shape_of-warnings
-shape_of-warnings c = search all_definitions
-
-pub returns-in_err-g : goal.returns-in_err-g
-returns-in_err-g c =
+pub returns-in_err-g-clause-is : goal.returns-in_err-g-clause-is
+returns-in_err-g-clause-is c =
     let p = err_from_is_err_and c.from_residual.result c.from_residual.ensures.1 in
     rw (p.1, p.2) (opening_fault c.definition_row.ensures (c.in_err-g.was {u = tt}))
 
-pub returns : goal.returns
-returns c = definition_done c.definition_row.ensures (c.in_ok-g.was {u = tt}) c.rest.ensures
+pub returns-clause-is : goal.returns-clause-is
+returns-clause-is c = definition_done c.definition_row.ensures (c.in_ok-g.was {u = tt}) c.rest.ensures.is

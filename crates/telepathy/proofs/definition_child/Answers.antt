@@ -7,25 +7,16 @@ use Rattle.telepathy.proofs.definition_child.Goals as goal
 pub holds-requires : goal.holds-requires
 holds-requires c = search children
 
-pub shape_of-rows-then-holds : goal.shape_of-rows-then-holds
-shape_of-rows-then-holds c = search children
-
-pub shape_of-warnings-then-holds : goal.shape_of-warnings-then-holds
-shape_of-warnings-then-holds c = search children
-
-pub shape_of-text-then-holds : goal.shape_of-text-then-holds
-shape_of-text-then-holds c = search children
-
-pub returns-then-holds : goal.returns-then-holds
-returns-then-holds c = search children
+pub returns-then-holds-clause-is : goal.returns-then-holds-clause-is
+returns-then-holds-clause-is c = search children
 
 pub docstring_or_skip-requires : goal.docstring_or_skip-requires
 docstring_or_skip-requires c = search children
 
-pub returns-in_err-fill : goal.returns-in_err-fill
-returns-in_err-fill c =
+pub returns-in_err-fill-clause-is : goal.returns-in_err-fill-clause-is
+returns-in_err-fill-clause-is c =
     let p = err_from_is_err_and c.from_residual.result c.from_residual.ensures.1 in
     rw (p.1, p.2) (child_other_fault c.requires.of_kind c.holds.ensures c.if-holds.false c.docstring_or_skip.ensures (c.in_err-fill.was {u = tt}))
 
-pub returns : goal.returns
-returns c = child_other_done c.requires.of_kind c.holds.ensures c.if-holds.false c.docstring_or_skip.ensures c.requires.few (c.in_ok-fill.was {u = tt})
+pub returns-clause-is : goal.returns-clause-is
+returns-clause-is c = child_other_done c.requires.of_kind c.holds.ensures c.if-holds.false c.docstring_or_skip.ensures c.requires.few (c.in_ok-fill.was {u = tt})

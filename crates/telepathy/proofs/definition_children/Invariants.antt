@@ -1,15 +1,14 @@
 -- `telepathy::definition_children` meets its contract: the run has come from the place asked to the present one, with the parts seen. The measure is what is left of the document.
 -- Assumes nothing.
 use Prim.Native.Nat.{◌-◌}
-use mathlib.Core.Path.{◌≡◌}
 use lib.ListN.{length}
-use Rattle.document.specs.Outcome.{lent}
+use Rattle.document.specs.Outcome.{lent_to, Keeps}
 use Rattle.telepathy.proofs.Bodies.{Sofar}
 use Rattle.telepathy.proofs.definition_children.Given as goal
 
 abbrev pub invariant-loop-closing : goal.invariant-loop-closing
 invariant-loop-closing l =
-    Sofar l.doc l.kind l.at l.len l.i l.initial.g (lent l.initial.rows l.initial.warnings l.initial.text) l.g l.p (lent l.rows l.warnings l.text) × (length l.rows ≡ length l.initial.rows) × (length l.warnings ≡ length l.initial.warnings) × (length l.text ≡ length l.initial.text)
+    Keeps l.initial.r l.r × Sofar l.initial.r.doc.now l.kind l.at l.len l.i l.initial.g (lent_to l.initial.r) l.g l.p (lent_to l.r)
 
 abbrev pub decreases-loop-closing : goal.decreases-loop-closing
-decreases-loop-closing l = length l.doc - l.g.at
+decreases-loop-closing l = length l.initial.r.doc.now - l.g.at

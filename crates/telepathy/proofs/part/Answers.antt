@@ -14,13 +14,10 @@ part_row-requires c = search openings
 pub enum_known-g : goal.enum_known-g
 enum_known-g c = search openings
 
-pub shape_of-warnings : goal.shape_of-warnings
-shape_of-warnings c = search openings
-
-pub returns-in_err-g : goal.returns-in_err-g
-returns-in_err-g c =
+pub returns-in_err-g-clause-is : goal.returns-in_err-g-clause-is
+returns-in_err-g-clause-is c =
     let p = err_from_is_err_and c.from_residual.result c.from_residual.ensures.1 in
     rw (p.1, p.2) (opening_fault c.part_row.ensures (c.in_err-g.was {u = tt}))
 
-pub returns : goal.returns
-returns c = part_done c.part_row.ensures (c.in_ok-g.was {u = tt}) c.part_content.ensures
+pub returns-clause-is : goal.returns-clause-is
+returns-clause-is c = part_done c.requires.of_kind c.part_row.ensures (c.in_ok-g.was {u = tt}) c.contents.ensures.is

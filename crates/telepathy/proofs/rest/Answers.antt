@@ -10,10 +10,10 @@ judge-requires c = record {
   of_kind = search rests;
 }
 
-pub returns-in_err-inner : goal.returns-in_err-inner
-returns-in_err-inner c =
+pub returns-in_err-inner-clause-is : goal.returns-in_err-inner-clause-is
+returns-in_err-inner-clause-is c =
     let p = err_from_is_err_and c.from_residual.result c.from_residual.ensures.1 in
-    rw (p.1, p.2) (rest_fault c.content.ensures (c.in_err-inner.was {u = tt}))
+    rw (p.1, p.2) (rest_fault c.content.ensures.is (c.in_err-inner.was {u = tt}))
 
-pub returns : goal.returns
-returns c = rest_done c.content.ensures (c.in_ok-inner.was {u = tt}) c.judge.ensures
+pub returns-clause-is : goal.returns-clause-is
+returns-clause-is c = rest_done c.content.ensures.is (c.in_ok-inner.was {u = tt}) c.judge.ensures

@@ -3,8 +3,8 @@
 use Rattle.writers.proofs.Members.{tags}
 use Rattle.writers.proofs.put_member_end.Goals as goal
 
-pub returns-then-kind-eq-METHOD : goal.returns-then-kind-eq-METHOD
-returns-then-kind-eq-METHOD c = search tags
+pub returns-in-3 : goal.returns-in-3
+returns-in-3 c = search tags
 
-pub returns-else-kind-eq-METHOD : goal.returns-else-kind-eq-METHOD
-returns-else-kind-eq-METHOD c = search tags
+pub returns-in_default : goal.returns-in_default
+returns-in_default c = search tags

@@ -1,8 +1,7 @@
 -- What `attributes::few::plain_end` leaves to show. Its loop is in Invariants.antt.
 -- Assumes nothing.
-use Prim.Native.Nat.{◌-◌}
 use Rattle.std.proofs.Common.{arith}
-use Rattle.attributes.proofs.Starting.{plain_more, plains}
+use Rattle.attributes.proofs.Starting.{plain_more}
 use Rattle.attributes.proofs.few.plain_end.Goals as goal
 
 pub loop-at-preserved-then-k-lt8 : goal.loop-at-preserved-then-k-lt8

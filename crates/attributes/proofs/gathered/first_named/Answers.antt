@@ -3,6 +3,7 @@
 use Rattle.std.proofs.Common.{◌≡◌, ◌∙◌, Bool, true, false, get_or, sym, subst, arith}
 use mathlib.Core.Option.{some}
 use Rattle.std.proofs.lemmas.List.{get_or_default}
+use Rattle.document.specs.declared.Form.{Form}
 use Rattle.attributes.specs.declared.Attribute.{Attribute}
 use Rattle.attributes.specs.Lookup.{blank, wanted, value_of, Picks}
 use Rattle.attributes.proofs.First.{turn_hit, turn_rest, turn_end}
@@ -10,7 +11,7 @@ use Rattle.attributes.proofs.gathered.first_named.Goals as goal
 
 -- what a read past the end would give
 abbrev none_read : Attribute
-none_read = record { name = 0; name_len = 0; value = 0; value_len = 0; kind = 0; tp = false; twin = false }
+none_read = record { name = 0; name_len = 0; value = 0; value_len = 0; form = Form.Absent; tp = false; twin = false }
 
 pub returns-then-is_wanted : goal.returns-then-is_wanted
 returns-then-is_wanted c =

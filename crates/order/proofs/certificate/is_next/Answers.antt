@@ -3,5 +3,5 @@
 use Rattle.order.proofs.Checking.{nexts}
 use Rattle.order.proofs.certificate.is_next.Goals as goal
 
-pub returns : goal.returns
-returns c = search nexts
+pub returns-then-is_noted : goal.returns-then-is_noted
+returns-then-is_noted c = search nexts

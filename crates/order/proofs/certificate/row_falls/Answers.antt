@@ -12,13 +12,13 @@ edge_falls-requires c = record { few = held_few c.args.by_name.now.table.now.hel
 pub edge_falls-requires-2 : goal.edge_falls-requires-2
 edge_falls-requires-2 c = record { few = held_few c.args.by_name.now.table.now.held; row = search row_falling; target = search row_falling }
 
-pub told-requires : goal.told-requires
-told-requires c = record { held = row_held c.args.by_name.now.table.now.held c.requires; whole = search row_falling; less = search row_falling }
+pub bears_none-requires : goal.bears_none-requires
+bears_none-requires c = record { held = row_held c.args.by_name.now.table.now.held c.requires; whole = search row_falling; less = search row_falling }
 
 pub returns : goal.returns
 returns c = row_told
-    c.word-2.ensures
-    c.wide-up.ensures
+    c.parent.ensures
+    c.in_ok-i.was
     c.requires
     c.find_target-whole.ensures
     c.find_target-less.ensures
@@ -26,4 +26,6 @@ returns c = row_told
     (ap not c.if-not-edge_falls.false)
     c.edge_falls-2.ensures
     (ap not c.if-not-edge_falls-2.false)
-    c.told.ensures
+    c.word.ensures
+    c.if-word-ne-MEMBER.false
+    c.bears_none.ensures

@@ -2,6 +2,7 @@
 -- Assumes nothing.
 use Rattle.order.proofs.Reaching.{lefts}
 use Rattle.order.proofs.chains.is_left_on_circle.Goals as goal
+use Rattle.order.proofs.chains.is_left_on_circle.Goals.{then-is_definition, else-is_definition}
 
-pub returns-then-not-is_definition : goal.returns-then-not-is_definition
-returns-then-not-is_definition c = search lefts
+pub returns-else-given-p-eq0 : goal.returns-else-given-p-eq0
+returns-else-given-p-eq0 c = elim c.if-is_definition.branch [ then-is_definition w ↦ search lefts | else-is_definition w ↦ search lefts ]

@@ -3,5 +3,5 @@
 use Rattle.order.proofs.Finding.{names}
 use Rattle.order.proofs.definitions.has_name.Goals as goal
 
-pub returns : goal.returns
-returns c = search names
+pub returns-then-is_definition : goal.returns-then-is_definition
+returns-then-is_definition c = search names

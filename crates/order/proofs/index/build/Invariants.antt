@@ -6,6 +6,3 @@ use Rattle.order.proofs.index.build.Given as goal
 
 abbrev pub invariant-loop-k : goal.invariant-loop-k
 invariant-loop-k l = over Building l.table l.k l.initial.heads l.initial.work l.heads l.work
-
-abbrev pub decreases-loop-k : goal.decreases-loop-k
-decreases-loop-k l = l.k

@@ -5,7 +5,7 @@ use Rattle.sheets.proofs.Naming.{Seeking}
 use Rattle.sheets.proofs.file_names.next.Given as goal
 
 abbrev pub invariant-loop-at : goal.invariant-loop-at
-invariant-loop-at l = Seeking l.list l.from l.at
+invariant-loop-at l = Seeking l.list l.at
 
 abbrev pub decreases-loop-at : goal.decreases-loop-at
 decreases-loop-at l = length l.list - l.at

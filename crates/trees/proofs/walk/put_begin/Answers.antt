@@ -8,4 +8,4 @@ returns-then-not-is_open c = search beginning
 
 pub returns : goal.returns
 returns c =
-    begins_open c.requires c.put_start-tagged.ensures c.is_open.ensures c.if-not-is_open.false c.in_ok-opened.ensures
+    begins_open c.put_start-tagged.ensures c.is_open.ensures c.if-not-is_open.false c.in_ok-opened.ensures

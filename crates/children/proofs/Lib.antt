@@ -1,0 +1,3 @@
+-- The laws of the loop over children.
+-- Assumes nothing.
+pub mod Loop
