@@ -1,7 +1,7 @@
 -- Bytes put at a count into a lent text that may be full.
 -- Assumes nothing.
 use Prim.Native.Nat.{ℕ, ◌+◌, ◌/◌, ◌%◌, ◌≤◌, ◌<◌}
-use mathlib.Core.Path.{◌≡◌, refl, sym, ◌∙◌}
+use mathlib.Core.Path.{◌≡◌, refl, sym, ◌∙◌, subst}
 use mathlib.Core.List.{List, [], ◌∷◌, ◌++◌, append-nil, append_assoc}
 use borrow.Author.Rules.{rules}
 use borrow.Author.Tests.{lt-ltb, le-ltb}
@@ -25,6 +25,10 @@ puts_then {xs} {ys} p q = record {
   counts = rw length-append (omega (arith, p.counts, q.counts));
   stands = λ zs r. rw append_assoc at (q.stands (zs ++ xs) (p.stands zs r));
 }
+
+-- the same bytes in other words
+pub puts_as : {xs ys t t' : List ℕ} {n r : ℕ} → xs ≡ ys → Puts xs n t t' r → Puts ys n t t' r
+puts_as {t = t} {t' = t'} {n = n} {r = r} e p = subst (λ l. Puts l n t t' r) e p
 
 -- a loop that puts bytes, after i of them
 pub record Putting (bytes : List ℕ) (n : ℕ) (t₀ t : List ℕ) (i m : ℕ) : Type 0 where

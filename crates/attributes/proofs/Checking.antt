@@ -25,6 +25,7 @@ use Rattle.document.specs.Outcome.{is_none, is_absent}
 use Rattle.document.specs.declared.Form.{Form}
 use Rattle.document.specs.declared.Value.{Value}
 use Rattle.attributes.specs.declared.Attribute.{Attribute}
+use Rattle.attributes.specs.declared.asked.Sought.TheVariants.{Named}
 use Rattle.faults.specs.declared.Fault.{Fault}
 
 -- ---- whether a name came before
@@ -79,11 +80,11 @@ fit_there {doc} a f = rw f.form (go (all plain (attr_of doc a).raw))
     go false = refl
 
 -- the first with a name that lies in the document is there where the name is listed
-first_listed : (doc : List ℕ) (at n : ℕ) (xs : List Attribute) → at + n ≤ length doc → ((k : ℕ) → k < length xs → Fit doc 0 (length doc) (get_or xs k blank)) → there (value_of (first_by (wanted doc at n false doc) xs)) ≡ listed (part doc at n) (map (attr_of doc) xs)
+first_listed : (doc : List ℕ) (at n : ℕ) (xs : List Attribute) → at + n ≤ length doc → ((k : ℕ) → k < length xs → Fit doc 0 (length doc) (get_or xs k blank)) → there (value_of (first_by (wanted doc (Named at n) doc) xs)) ≡ listed (part doc at n) (map (attr_of doc) xs)
 unfolding first_by
 first_listed doc at n [] l h = refl
 first_listed doc at n (x ∷ xs) l h =
-    there_if (wanted doc at n false doc x) x (first_by (wanted doc at n false doc) xs) (fit_there x (h 0 (omega arith)))
+    there_if (wanted doc (Named at n) doc x) x (first_by (wanted doc (Named at n) doc) xs) (fit_there x (h 0 (omega arith)))
     ∙ rw (name_within (keyed_at doc at n) doc x (h 0 (omega arith)).name, le-leb (at + n) (length doc) l, first_listed doc at n xs l (λ k b. h (suc k) (omega arith)))
 
 -- ---- one attribute
@@ -133,19 +134,11 @@ module _ {doc : List ℕ} {xs : List Attribute} {i : ℕ} (h : i < length xs) (g
   pub judge_asks : Fit doc 0 (length doc) (get_or xs i blank) × (length doc ≤ 1048576)
   judge_asks = (g.fitted.rule i (omega arith), g.small)
 
-  -- what `first_named` asks
-  pub judge_below : {m : ℕ} → m ≡ among (get_or xs i blank).twin i → m ≤ length xs
-  judge_below {m} e = rw e (go (get_or xs i blank).twin)
-    where
-      go : (t : Bool) → among t i ≤ length xs
-      go true = omega arith
-      go false = omega arith
-
-  pub judge_is : {m : ℕ} {v : Value} {r : Result (Unit {0}) Fault} → m ≡ among (get_or xs i blank).twin i → Picks (wanted doc (get_or xs i blank).name (get_or xs i blank).name_len false doc) xs m v → Weighs doc (get_or xs i blank) v r → Judges doc xs i r
+  pub judge_is : {m : ℕ} {v : Value} {r : Result (Unit {0}) Fault} → m ≡ among (get_or xs i blank).twin i → Picks (wanted doc (Named (get_or xs i blank).name (get_or xs i blank).name_len) doc) xs m v → Weighs doc (get_or xs i blank) v r → Judges doc xs i r
   unfolding value_in first_by
   judge_is {m} {v} {r} e p w = record { is = rw (← seen (get_or xs i blank).twin refl (rw e at p)) w.is }
     where
-      seen : (t : Bool) → (get_or xs i blank).twin ≡ t → Picks (wanted doc (get_or xs i blank).name (get_or xs i blank).name_len false doc) xs (among t i) v → there v ≡ listed (attr_of doc (get_or xs i blank)).name (attrs_of doc xs i)
+      seen : (t : Bool) → (get_or xs i blank).twin ≡ t → Picks (wanted doc (Named (get_or xs i blank).name (get_or xs i blank).name_len) doc) xs (among t i) v → there v ≡ listed (attr_of doc (get_or xs i blank)).name (attrs_of doc xs i)
       seen true f p =
           let e : length (take i xs) ≡ i = length-take-le i xs (omega arith) in
           ap there p.is

@@ -12,6 +12,7 @@ use lib.Seq.{drop-cons, length-take-le, get_or-take}
 use Rattle.document.specs.declared.Value.{Value}
 use Rattle.attributes.specs.Lookup.{blank, wanted, KeyTable, first_by, value_of, value_in, values_in, Picks, PicksAll}
 use Rattle.attributes.specs.declared.Attribute.{Attribute}
+use Rattle.attributes.specs.declared.asked.Sought.TheVariants.{Named, TpType}
 
 -- ---- a loop over the first n: a turn has its number, and what is asked of all is what is asked of the rest
 
@@ -53,7 +54,7 @@ module _ (p : Attribute → Bool) (xs : List Attribute) (n : ℕ) where
 -- ---- the seven values
 
 module _ {keys : List ℕ} (k : KeyTable keys) {doc : List ℕ} {xs : List Attribute} {n : ℕ} where
-  pub all_values : {a b c d e f g : Value} → Picks (wanted keys 0 4 false doc) xs n a → Picks (wanted keys 4 4 false doc) xs n b → Picks (wanted keys 8 5 false doc) xs n c → Picks (wanted keys 13 6 false doc) xs n d → Picks (wanted keys 19 9 false doc) xs n e → Picks (wanted keys 28 6 false doc) xs n f → Picks (wanted keys 0 0 true doc) xs n g → PicksAll doc xs n (record { name = a; ty = b; value = c; access = d; direction = e; suffix = f; tp = g })
+  pub all_values : {a b c d e f g : Value} → Picks (wanted keys (Named 0 4) doc) xs n a → Picks (wanted keys (Named 4 4) doc) xs n b → Picks (wanted keys (Named 8 5) doc) xs n c → Picks (wanted keys (Named 13 6) doc) xs n d → Picks (wanted keys (Named 19 9) doc) xs n e → Picks (wanted keys (Named 28 6) doc) xs n f → Picks (wanted keys TpType doc) xs n g → PicksAll doc xs n (record { name = a; ty = b; value = c; access = d; direction = e; suffix = f; tp = g })
   unfolding values_in
   all_values a b c d e f g =
       let a' = rw k.is at a in

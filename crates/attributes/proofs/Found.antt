@@ -12,9 +12,9 @@ use lib.Dec.{eqb}
 use lib.ListN.{length, drop, get_or, drop_of_length-le}
 use lib.Seq.{drop-cons}
 use Rattle.std.specs.Prelude.{Option, Some, None}
-use Rattle.slices.specs.Bytes.{if, other, span, past}
+use Rattle.slices.specs.Bytes.{other, span, past}
 use Rattle.slices.specs.Run.{Run}
-use Rattle.slices.proofs.Runs.{Running, run_begins, run_more, run_stops, run_ends, other_true, other_false}
+use Rattle.slices.proofs.Runs.{Running, run_begins, run_more, run_stops, other_true, other_false}
 use Rattle.slices.proofs.Ends.{run_span, run_rest, run_empty, run_some}
 use Rattle.scan.specs.Classes.{white, name_byte}
 use Rattle.scan.specs.Ignorable.{quote}
@@ -31,18 +31,6 @@ module _ {b : ℕ} where
   pub special_above : 38 < b → false ≡ special b
   special_above h = rw (ne_eqb b 38 (omega arith), ne_eqb b 9 (omega arith), ne_eqb b 10 (omega arith), ne_eqb b 13 (omega arith))
 
-  pub special_ampersand : b ≡ 38 → true ≡ special b
-  special_ampersand e = rw e
-
-  pub special_tab : b ≡ 9 → true ≡ special b
-  special_tab e = rw e
-
-  pub special_feed : b ≡ 10 → true ≡ special b
-  special_feed e = rw e
-
-  pub special_below : (b ≡ 38 → ⊥) → (b ≡ 9 → ⊥) → (b ≡ 10 → ⊥) → eqb b 13 ≡ special b
-  special_below e f g = rw (ne_eqb b 38 e, ne_eqb b 9 f, ne_eqb b 10 g)
-
 -- a loop over a value that began at from and stands at at: the form of what is left, after this form, is what was asked
 pub record Quoting (q : ℕ) (doc : List ℕ) (from at : ℕ) (form : Form) : Type 0 where
   pub run : Running (other q) doc from at
@@ -51,19 +39,12 @@ pub record Quoting (q : ℕ) (doc : List ℕ) (from at : ℕ) (form : Form) : Ty
 pub quote_begins : {q : ℕ} {doc : List ℕ} {from : ℕ} → from ≤ length doc → Quoting q doc from from Form.Plain
 quote_begins h = record { run = run_begins h; left = refl }
 
-either : (k : Form) (t : Bool) → if t k k ≡ k
-either k true = refl
-either k false = refl
-
 module _ {q : ℕ} {doc : List ℕ} {from at : ℕ} {form : Form} (g : Quoting q doc from at form) where
   pub quote_closes : at < length doc → get_or doc at 0 ≡ q → Quotes q doc from (record { end = at; form = form })
   quote_closes h e = record {
     run = run_stops g.run h (other_false _ _ e);
     form = sym (g.left ∙ rw (drop-cons doc at 0 h, other_false _ _ e));
   }
-
-  pub quote_ends : length doc ≤ at → Quotes q doc from (record { end = at; form = form })
-  quote_ends h = record { run = run_ends g.run h; form = sym (g.left ∙ rw (drop_of_length-le doc h)) }
 
   -- a byte above both quotes is plain
   pub quote_high : at < length doc → 39 < get_or doc at 0 → q ≤ 39 → Quoting q doc from (at + 1) form
@@ -76,20 +57,11 @@ module _ {q : ℕ} {doc : List ℕ} {from at : ℕ} {form : Form} (g : Quoting q
       }
 
   module _ (h : at < length doc) (o : get_or doc at 0 ≡ q → ⊥) {t : Bool} (e : t ≡ special (get_or doc at 0)) where
-    pub quote_special : t ≡ true → Quoting q doc from (at + 1) Form.Changed
-    quote_special f = record {
-      run = run_more g.run h (other_true _ _ o);
-      left = g.left ∙ rw (drop-cons doc at 0 h, other_true _ _ o, sym e ∙ f, either Form.Changed);
-    }
-
     pub quote_plain : t ≡ false → Quoting q doc from (at + 1) form
     quote_plain f = record {
       run = run_more g.run h (other_true _ _ o);
       left = g.left ∙ rw (drop-cons doc at 0 h, other_true _ _ o, sym e ∙ f, add-one);
     }
-
--- what answers every need of the loop over a value
-pub ruleset quotes = (quote_high, special_above, special_ampersand, special_tab, special_feed, special_below, quote_begins, quote_closes, quote_ends, quote_special, quote_plain, rules)
 
 -- what fits between two places fits between two that are further apart
 pub fit_wide : {doc : List ℕ} {from from' to to' : ℕ} {a : Attribute} → from' ≤ from → to ≤ to' → Fit doc from to a → Fit doc from' to' a
@@ -155,7 +127,7 @@ module _ {doc : List ℕ} {name n : ℕ} {tp : Bool} {at : ℕ} (g : Named doc n
             is = rw (add-one at, add-one v.end, drop-cons doc at 0 h, sym e ∙ f, to_close, drop-cons doc v.end 0 l, p, r);
           }
 
-pub ruleset values = (quote_low, value_ended, value_other, value_unclosed, value_found, rules)
+pub ruleset values = (value_ended, value_other, value_unclosed, value_found, rules)
 
 -- at the `=`, whatever the name: what is left is from the opening quote on
 pub equals_opens : (name : ℕ) (n : List ℕ) {doc : List ℕ} {at q : ℕ} → at < length doc → get_or doc at 0 ≡ 61 → Run white doc (at + 1) q → equals name n (drop at doc) at ≡ open_quote name n (drop q doc) q

@@ -27,9 +27,6 @@ use Rattle.attributes.specs.declared.TagValues.{TagValues}
 -- ---- the end: the check, and the values
 
 module _ {doc : List ℕ} {xs : List Attribute} {n at : ℕ} {v : Result (Unit {0}) Fault} (c : Checks doc xs n v) where
-  pub finish_fault : {f : Fault} → v ≡ Err f → Finishes doc xs n at (Err f)
-  finish_fault e = record { is = (rw e at c).is }
-
   pub finish_all : {w : Values} → v ≡ (Ok tt) → PicksAll doc xs n w → Finishes doc xs n at (Ok (record { end = at; values = w }))
   finish_all e g = let d = (rw e at c).is in record { is = (d.0, d.1, refl, g.is) }
 
@@ -52,7 +49,8 @@ extend_many : (xs : List Attr) (p : ℕ) → extend xs (too_many p) ≡ too_many
 extend_many [] p = refl
 extend_many (x ∷ xs) p = ap (with x) (extend_many xs p)
 
-gather_none : (n : ℕ) (l : List ℕ) (at : ℕ) → attribute l at ≡ absent → gather n l at ≡ gathered [] l at
+-- what gathering comes to where there is no attribute
+pub gather_none : (n : ℕ) (l : List ℕ) (at : ℕ) → attribute l at ≡ absent → gather n l at ≡ gathered [] l at
 unfolding gather
 gather_none zero l at e = rw e
 gather_none (suc n) l at e = rw e

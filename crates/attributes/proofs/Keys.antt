@@ -3,7 +3,7 @@
 use Prim.Native.Nat.{ℕ, suc, ◌+◌, ◌-◌, ◌≤◌, ◌<◌, ◌^◌}
 use mathlib.Core.Path.{◌≡◌, sym, ◌∙◌}
 use mathlib.Core.List.{List}
-use mathlib.Core.Bool.{Bool, true, false, and-false}
+use mathlib.Core.Bool.{Bool, false, and-false}
 use borrow.Author.Rules.{rules}
 use borrow.Author.Tests.{le-leb, lt-leb, eq-eqb, ne_eqb}
 use native.Mathlib.Decide.{dec_le}
@@ -24,7 +24,7 @@ use Rattle.scan.proofs.Prefixes.{Within, colons_within, name_from}
 use Rattle.document.specs.Tags.{is_tp_type_lem}
 use Rattle.document.specs.Prefixes.{tp_type_by}
 use Rattle.document.proofs.Prefixes.{tp_type}
-use Rattle.attributes.specs.Lookup.{part_is, keyed_at, wanted_at}
+use Rattle.attributes.specs.Lookup.{part_is, keyed_at}
 
 -- a part that runs past the document is of no kind
 pub part_past : (p : List ℕ → Bool) (doc : List ℕ) (at n : ℕ) → length doc < at + n → false ≡ part_is p doc at n
@@ -63,15 +63,7 @@ module _ (doc keys : List ℕ) (at n key len : ℕ) where
       let m : (key + len) - key ≡ len = omega arith in
       part_within (keyed_at keys key len) doc at n r h ((rw m at e) ∙ rw (le-leb (key + len) (length keys) k))
 
--- one or the other
-module _ (doc keys : List ℕ) (at n key len : ℕ) (is-tp tp : Bool) where
-  pub wanted_tp : tp ≡ true → is-tp ≡ wanted_at keys key len tp doc at n is-tp
-  wanted_tp e = rw e
-
-  pub wanted_key : {r : Bool} → tp ≡ false → r ≡ part_is (keyed_at keys key len) doc at n → r ≡ wanted_at keys key len tp doc at n is-tp
-  wanted_key e q = rw e q
-
-pub ruleset keys = (part_past, part_within, key_past, key_other, key_same, wanted_tp, wanted_key, rules)
+pub ruleset keys = (part_past, part_within, key_past, key_other, key_same, rules)
 
 -- ---- a tp type's name, by its colons
 

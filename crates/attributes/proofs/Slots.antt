@@ -21,12 +21,12 @@ use Rattle.references.specs.Unescape.{plain, unescape}
 use Rattle.references.proofs.Shapes.{unescape_plain}
 use Rattle.document.specs.declared.Form.{Form}
 use Rattle.document.specs.Outcome.{is_absent}
-use Rattle.document.specs.Tags.{Attr, Shown, attribute, is_tp_type_lem, check}
+use Rattle.document.specs.Tags.{Attr, Shown, absent, attribute, is_tp_type_lem, check}
 use Rattle.document.specs.declared.Value.{Value}
 use Rattle.attributes.specs.One.{part, attr_of, Fit, Finds}
 use Rattle.attributes.specs.Lookup.{blank, name_is, keyed, is_tp_lem, first_by, value_of, value_in, values_in}
 use Rattle.attributes.specs.Outcome.{attrs_of, listed, there, Gathers}
-use Rattle.attributes.specs.Slots.{class_of, Starts, Plain}
+use Rattle.attributes.specs.Slots.{class_of, Opened, Plain}
 use Rattle.attributes.specs.declared.Attribute.{Attribute}
 use Rattle.attributes.specs.declared.Start.{Start}
 use Rattle.attributes.proofs.Checking.{name_within, back, back_more, member_listed, fit_there, onto, onto_onto, onto_also, onto_none}
@@ -124,26 +124,29 @@ unlisted doc n (y ∷ ys) e = go (same (attr_of doc y).name n) refl (of_class do
 
 -- ---- one attribute
 
-module _ {doc : List ℕ} {at : ℕ} {s : Start} (g : Starts doc at s) (b : s.class < 8) where
+module _ {doc : List ℕ} {at : ℕ} {s : Start} (g : Opened doc at s) where
+  pub slot_class : s.class < 8
+  slot_class = rw g.class (classed (part doc g.name g.len)).below
+
   pub slot_within : s.value ≤ length doc
-  slot_within = (g.some b).within
+  slot_within = g.within
 
   pub slot_after : at < s.value
-  slot_after = (g.some b).onward
+  slot_after = g.onward
 
   pub slot_low : s.quote ≤ 39
-  slot_low = (g.some b).low
+  slot_low = g.low
 
   module _ {end : ℕ} (c : Plain s.quote doc s.value end) (h : end < length doc) where
     -- the attribute, of which the code keeps the value alone
     abbrev one : Attribute
     one = record {
-      name = (g.some b).name;
-      name_len = (g.some b).len;
+      name = g.name;
+      name_len = g.len;
       value = s.value;
       value_len = end - s.value;
       form = Form.Plain;
-      tp = is_tp_type_lem (part doc (g.some b).name (g.some b).len);
+      tp = is_tp_type_lem (part doc g.name g.len);
       twin = true;
     }
 
@@ -152,25 +155,24 @@ module _ {doc : List ℕ} {at : ℕ} {s : Start} (g : Starts doc at s) (b : s.cl
 
     one_found : Finds attribute doc at (Some (record { attribute = one; end = end + 1 }))
     one_found =
-        let o = g.some b in
         let q = c.value h in
         let r : span (other s.quote) (drop s.value doc) ≡ part doc s.value (end - s.value) = run_span q.run in
         let l : past (other s.quote) (drop s.value doc) ≡ drop end doc = run_rest q.run in
         let p : s.value + length (span (other s.quote) (drop s.value doc)) ≡ end = sym q.run.ends in
         record {
           onward = (
-            omega (arith, o.onward, slot_onward),
+            omega (arith, g.onward, slot_onward),
             omega arith,
             record {
-              name = omega (arith, o.before, slot_onward);
+              name = omega (arith, g.before, slot_onward);
               value = omega (arith, slot_onward);
-              short = omega (arith, o.onward, slot_onward);
+              short = omega (arith, g.onward, slot_onward);
               form = q.form ∙ rw r;
               tp = refl;
             },
             refl,
           );
-          is = o.is ∙ rw (add-one end, l, drop-cons doc end 0 h, p, r);
+          is = g.is ∙ rw (add-one end, l, drop-cons doc end 0 h, p, r);
         }
 
     one_shown : unescape (attr_of doc one).raw ≡ text (attr_of doc one).raw
@@ -223,71 +225,70 @@ module _ {doc : List ℕ} {from : ℕ} {slots : List Value} {at : ℕ} (g : Slot
       g.each 6 (omega arith)
       ∙ value_same (of_class doc 6) is_tp_lem doc from at (λ y f. sym (f.tp ∙ (classed (attr_of doc y).name).tp)) (take g.n g.xs) fits
 
-  module _ {s : Start} (c : Starts doc at s) where
-    pub slots_end : 8 ≤ s.class → Gathers doc from (Ok (record { end = at; values = record { name = get_or slots 0 no_value; ty = get_or slots 1 no_value; value = get_or slots 2 no_value; access = get_or slots 3 no_value; direction = get_or slots 4 no_value; suffix = get_or slots 5 no_value; tp = get_or slots 6 no_value } }))
-    unfolding values_in
-    slots_end h =
-        let e : check [] (attrs_of doc g.xs g.n) ≡ onto g.shown (check (back (attrs_of doc g.xs g.n) []) []) = rw append-nil at (g.checked []) in
-        gather_ends g.so {o = None} (record { onward = tt; is = c.none h }) refl (record {
-          is = (
-            g.shown ++ [],
-            e,
-            refl,
-            rw (
-              by_name (bytes "name") 0 (omega arith) (λ n. (classed n).name),
-              by_name (bytes "type") 1 (omega arith) (λ n. (classed n).ty),
-              by_name (bytes "value") 2 (omega arith) (λ n. (classed n).value),
-              by_name (bytes "access") 3 (omega arith) (λ n. (classed n).access),
-              by_name (bytes "direction") 4 (omega arith) (λ n. (classed n).direction),
-              by_name (bytes "suffix") 5 (omega arith) (λ n. (classed n).suffix),
-              by_type,
-            ),
-          );
-        })
+  pub slots_end : attribute (drop at doc) at ≡ absent → Gathers doc from (Ok (record { end = at; values = record { name = get_or slots 0 no_value; ty = get_or slots 1 no_value; value = get_or slots 2 no_value; access = get_or slots 3 no_value; direction = get_or slots 4 no_value; suffix = get_or slots 5 no_value; tp = get_or slots 6 no_value } }))
+  unfolding values_in
+  slots_end h =
+      let e : check [] (attrs_of doc g.xs g.n) ≡ onto g.shown (check (back (attrs_of doc g.xs g.n) []) []) = rw append-nil at (g.checked []) in
+      gather_ends g.so {o = None} (record { onward = tt; is = h }) refl (record {
+        is = (
+          g.shown ++ [],
+          e,
+          refl,
+          rw (
+            by_name (bytes "name") 0 (omega arith) (λ n. (classed n).name),
+            by_name (bytes "type") 1 (omega arith) (λ n. (classed n).ty),
+            by_name (bytes "value") 2 (omega arith) (λ n. (classed n).value),
+            by_name (bytes "access") 3 (omega arith) (λ n. (classed n).access),
+            by_name (bytes "direction") 4 (omega arith) (λ n. (classed n).direction),
+            by_name (bytes "suffix") 5 (omega arith) (λ n. (classed n).suffix),
+            by_type,
+          ),
+        );
+      })
 
-    module _ (b : s.class < 8) {end : ℕ} (d : Plain s.quote doc s.value end) (h : end < length doc) (e : is_absent (get_or slots s.class no_value) ≡ true) where
-      abbrev new : Attribute
-      new = one c b d h
+  module _ {s : Start} (c : Opened doc at s) {end : ℕ} (d : Plain s.quote doc s.value end) (h : end < length doc) (e : is_absent (get_or slots s.class no_value) ≡ true) where
+    abbrev new : Attribute
+    new = one c d h
 
-      empty_slot : there (get_or slots s.class no_value) ≡ false
-      empty_slot = rw e
+    empty_slot : there (get_or slots s.class no_value) ≡ false
+    empty_slot = rw e
 
-      more : filled (set slots s.class (value_of (some new))) ≡ suc (filled slots)
-      more = filled_more slots s.class (value_of (some new)) (omega (arith, g.long)) empty_slot refl
+    more : filled (set slots s.class (value_of (some new))) ≡ suc (filled slots)
+    more = filled_more slots s.class (value_of (some new)) (omega (arith, g.long, slot_class c)) empty_slot refl
 
-      room : g.n < 8
-      room = omega (arith, g.count, g.long, more, filled_within (set slots s.class (value_of (some new))), length-set slots s.class (value_of (some new)))
+    room : g.n < 8
+    room = omega (arith, g.count, g.long, more, filled_within (set slots s.class (value_of (some new))), length-set slots s.class (value_of (some new)))
 
-      taken : take (g.n + 1) (set g.xs g.n new) ≡ take g.n g.xs ++ new ∷ []
-      taken = rw add-one (take-suc-set g.xs g.n new (omega (arith, room, g.so.long)))
+    taken : take (g.n + 1) (set g.xs g.n new) ≡ take g.n g.xs ++ new ∷ []
+    taken = rw add-one (take-suc-set g.xs g.n new (omega (arith, room, g.so.long)))
 
-      no_first : first_by (of_class doc s.class) (take g.n g.xs) ≡ none
-      no_first = first-none (of_class doc s.class) doc from at (take g.n g.xs) fits (sym (ap there (g.each s.class b)) ∙ empty_slot)
+    no_first : first_by (of_class doc s.class) (take g.n g.xs) ≡ none
+    no_first = first-none (of_class doc s.class) doc from at (take g.n g.xs) fits (sym (ap there (g.each s.class (slot_class c))) ∙ empty_slot)
 
-      not_listed : listed (attr_of doc new).name (attrs_of doc g.xs g.n) ≡ false
-      not_listed = unlisted doc (attr_of doc new).name (take g.n g.xs) (rw (c.some b).class at no_first)
+    not_listed : listed (attr_of doc new).name (attrs_of doc g.xs g.n) ≡ false
+    not_listed = unlisted doc (attr_of doc new).name (take g.n g.xs) (rw c.class at no_first)
 
-      pub slots_more : Slotting doc from (set slots s.class (value_of (some new))) (end + 1)
-      unfolding value_in
-      slots_more = record {
-        xs = set g.xs g.n new;
-        n = g.n + 1;
-        count = add-one g.n ∙ ap suc g.count ∙ sym more;
-        long = length-set slots s.class (value_of (some new)) ∙ g.long;
-        so = gather_more g.so (one_found c b d h) refl room (omega arith);
-        shown = g.shown ++ record { attr = attr_of doc new; value = (attr_of doc new).raw } ∷ [];
-        checked = λ zs. rw (taken, map-append, append_assoc, g.checked, member_listed, not_listed, one_shown c b d h, onto_also, onto_onto, back_more);
-        each = λ k l. at_class k l (eqb k s.class) refl;
-      }
-        where
-          at_class : (k : ℕ) → k < 8 → (t : Bool) → eqb k s.class ≡ t → get_or (set slots s.class (value_of (some new))) k no_value ≡ value_in (of_class doc k) (take (g.n + 1) (set g.xs g.n new))
-          at_class k l true m =
-              let q : k ≡ s.class = eqb-true k s.class m in
-              let p : of_class doc s.class new ≡ true = eq-eqb (class_of (attr_of doc new).name) s.class (sym (c.some b).class) in
-              rw (q, get_or-set_same slots s.class (value_of (some new)) no_value (omega (arith, g.long)), taken, first_last (of_class doc s.class) (take g.n g.xs) new no_first p)
-          at_class k l false m =
-              let q : k ≡ s.class → ⊥ = eqb-false k s.class m in
-              let p : of_class doc k new ≡ false = ne_eqb (class_of (attr_of doc new).name) k (λ r. q (sym r ∙ sym (c.some b).class)) in
-              rw (get_or-set_other slots s.class k (value_of (some new)) no_value q, taken, first_more (of_class doc k) (take g.n g.xs) new p) (g.each k l)
+    pub slots_more : Slotting doc from (set slots s.class (value_of (some new))) (end + 1)
+    unfolding value_in
+    slots_more = record {
+      xs = set g.xs g.n new;
+      n = g.n + 1;
+      count = add-one g.n ∙ ap suc g.count ∙ sym more;
+      long = length-set slots s.class (value_of (some new)) ∙ g.long;
+      so = gather_more g.so (one_found c d h) refl room (omega arith);
+      shown = g.shown ++ record { attr = attr_of doc new; value = (attr_of doc new).raw } ∷ [];
+      checked = λ zs. rw (taken, map-append, append_assoc, g.checked, member_listed, not_listed, one_shown c d h, onto_also, onto_onto, back_more);
+      each = λ k l. at_class k l (eqb k s.class) refl;
+    }
+      where
+        at_class : (k : ℕ) → k < 8 → (t : Bool) → eqb k s.class ≡ t → get_or (set slots s.class (value_of (some new))) k no_value ≡ value_in (of_class doc k) (take (g.n + 1) (set g.xs g.n new))
+        at_class k l true m =
+            let q : k ≡ s.class = eqb-true k s.class m in
+            let p : of_class doc s.class new ≡ true = eq-eqb (class_of (attr_of doc new).name) s.class (sym c.class) in
+            rw (q, get_or-set_same slots s.class (value_of (some new)) no_value (omega (arith, g.long, slot_class c)), taken, first_last (of_class doc s.class) (take g.n g.xs) new no_first p)
+        at_class k l false m =
+            let q : k ≡ s.class → ⊥ = eqb-false k s.class m in
+            let p : of_class doc k new ≡ false = ne_eqb (class_of (attr_of doc new).name) k (λ r. q (sym r ∙ sym c.class)) in
+            rw (get_or-set_other slots s.class k (value_of (some new)) no_value q, taken, first_more (of_class doc k) (take g.n g.xs) new p) (g.each k l)
 
-pub ruleset slotting = (slot_within, slot_low, slots_begin, slots_inside, slots_end, rules)
+pub ruleset slotting = (slot_class, slot_within, slot_low, slots_begin, slots_inside, slots_end, rules)

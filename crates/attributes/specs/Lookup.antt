@@ -8,6 +8,8 @@ use Rattle.document.specs.declared.Value.{Value}
 use Rattle.document.specs.declared.Values.{Values}
 use Rattle.attributes.specs.One.{part}
 use Rattle.attributes.specs.declared.Attribute.{Attribute}
+use Rattle.attributes.specs.declared.asked.Sought.{Sought}
+use Rattle.attributes.specs.declared.asked.Sought.TheVariants.{Named, TpType}
 
 -- the struct that stands for no attribute
 abbrev pub blank : Attribute
@@ -33,13 +35,13 @@ keyed_at keys key len n = leb (key + len) (length keys) && keyed (part keys key 
 abbrev pub is_tp_lem : Attribute → Bool
 is_tp_lem a = a.tp
 
--- what is asked of an attribute, by its name's place and length and whether it is a tp type: the tp type, or the key
-abbrev pub wanted_at : List ℕ → ℕ → ℕ → Bool → List ℕ → ℕ → ℕ → Bool → Bool
-wanted_at keys key len true doc at n tp = tp
-wanted_at keys key len false doc at n tp = part_is (keyed_at keys key len) doc at n
+-- what is asked of an attribute, by its name's place and length and whether it is a tp type: the key, or the tp type
+abbrev pub wanted_at : List ℕ → Sought → List ℕ → ℕ → ℕ → Bool → Bool
+wanted_at keys (Named key len) doc at n tp = part_is (keyed_at keys key len) doc at n
+wanted_at keys TpType doc at n tp = tp
 
-abbrev pub wanted : List ℕ → ℕ → ℕ → Bool → List ℕ → Attribute → Bool
-wanted keys key len asked doc a = wanted_at keys key len asked doc a.name a.name_len a.tp
+abbrev pub wanted : List ℕ → Sought → List ℕ → Attribute → Bool
+wanted keys sought doc a = wanted_at keys sought doc a.name a.name_len a.tp
 
 -- the keys of a tag's values, but for the tp type
 pub record KeyTable (keys : List ℕ) : Type 0 where

@@ -6,7 +6,6 @@ use Rattle.slices.specs.Run.{Run}
 use Rattle.references.specs.Unescape.{plain}
 use Rattle.document.specs.declared.Form.{Form}
 use Rattle.document.specs.Tags.{Attr, Found, absent, found, is_tp_type_lem}
-use Rattle.document.specs.declared.Form.{Form}
 use Rattle.attributes.specs.declared.Attribute.{Attribute}
 use Rattle.attributes.specs.declared.ValueEnd.{ValueEnd}
 use Rattle.attributes.specs.declared.Located.{Located}

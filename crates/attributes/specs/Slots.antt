@@ -4,7 +4,7 @@ use Rattle.std.specs.Prelude.{ℕ, ◌+◌, ◌*◌, ◌≤◌, ◌<◌, ◌≡�
 use Rattle.slices.specs.Bytes.{if, bytes, other, span, past, all, same}
 use Rattle.scan.specs.Classes.{name_byte}
 use Rattle.document.specs.declared.Form.{Form}
-use Rattle.document.specs.Tags.{Found, absent, close_quote, attribute, is_tp_type_lem}
+use Rattle.document.specs.Tags.{Found, close_quote, attribute, is_tp_type_lem}
 use Rattle.attributes.specs.One.{part, Quotes}
 use Rattle.attributes.specs.declared.Start.{Start}
 use Rattle.attributes.specs.declared.Known.{Known}
@@ -34,15 +34,6 @@ pub record Opened (doc : List ℕ) (from : ℕ) (r : Start) : Type 0 where
   pub low : r.quote ≤ 39
   pub is : attribute (drop from doc) from ≡ valued name (part doc name len) r.quote (drop r.value doc) r.value
 
--- what looking for the usual form says: nothing where it is not found
-pub record Quick (doc : List ℕ) (from : ℕ) (r : Start) : Type 0 where
-  pub some : r.class < 8 → Opened doc from r
-
--- what looking for any form says
-pub record Starts (doc : List ℕ) (from : ℕ) (r : Start) : Type 0 where
-  pub some : r.class < 8 → Opened doc from r
-  pub none : 8 ≤ r.class → attribute (drop from doc) from ≡ absent
-
 -- four bytes as a number
 pub record Four (s : List ℕ) (at r : ℕ) : Type 0 where
   pub is : r ≡ get_or s at 0 + 256 * get_or s (at + 1) 0 + 65536 * get_or s (at + 2) 0 + 16777216 * get_or s (at + 3) 0
@@ -57,9 +48,6 @@ pub record Key (doc : List ℕ) (at : ℕ) (r : Known) : Type 0 where
   pub short : r.len ≤ 9
   pub bytes : all name_byte (part doc at r.len) ≡ true
   pub class : r.class ≡ class_of (part doc at r.len)
-
-pub record Knows (doc : List ℕ) (at : ℕ) (r : Known) : Type 0 where
-  pub key : r.class < 8 → Key doc at r
 
 -- the first k bytes from a place on are above quotes and special bytes, and there is one more where k is below 8
 pub record High (doc : List ℕ) (at k : ℕ) : Type 0 where

@@ -2,6 +2,13 @@
 ghost use Rattle.std.specs.Prelude.{◌≡◌};
 ghost use Rattle.attributes.specs.Lookup.{part_is, keyed_at, wanted_at};
 
+// What is sought: the name that is so many bytes of the keys from a place on, or a tp type.
+#[derive(Clone, Copy)]
+pub enum Sought {
+    Named { key: u32, len: u32 },
+    TpType,
+}
+
 // Whether the n bytes from a place on are the key, so many bytes of the keys from its place on: length first, then bytes.
 #[tactic(auto, using(crate::proofs::Keys::keys))]
 fn is_key(doc: &[u8], at: u32, n: u32, keys: &[u8], key: u32, len: u32) -> bool
@@ -23,21 +30,12 @@ fn is_key(doc: &[u8], at: u32, n: u32, keys: &[u8], key: u32, len: u32) -> bool
     slices::equal_long(&doc[from..to], &keys[begin..end])
 }
 
-// Whether an attribute is a tp type, where that is asked, or else its name, n bytes from a place on, is the key.
-pub fn is_wanted(
-    doc: &[u8],
-    at: u32,
-    n: u32,
-    is_tp: bool,
-    keys: &[u8],
-    key: u32,
-    len: u32,
-    tp: bool,
-) -> bool
-    ensures { result ≡ wanted_at keys.now key len tp doc.now «at» n is_tp }
+// Whether an attribute is what is sought: its name is n bytes from a place on, and it is a tp type or not.
+pub fn is_wanted(doc: &[u8], at: u32, n: u32, is_tp: bool, keys: &[u8], sought: Sought) -> bool
+    ensures { result ≡ wanted_at keys.now sought doc.now «at» n is_tp }
 {
-    if tp {
-        return is_tp;
+    match sought {
+        Sought::Named { key, len } => is_key(doc, at, n, keys, key, len),
+        Sought::TpType => is_tp,
     }
-    is_key(doc, at, n, keys, key, len)
 }

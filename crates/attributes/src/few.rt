@@ -1,6 +1,6 @@
-// The usual tag: each value goes straight into the slot of its name's class. A tag with two names of a class, or a value that is changed or not closed, is gathered by `some`.
+// The usual tag: each value goes straight into the slot of its name's class. A tag with two names of a class, or a value that is changed or
+// not closed, is gathered by `some`.
 ghost use Rattle.std.specs.Prelude.{◌≤◌, ◌<◌, length};
-ghost use Rattle.attributes.specs.Lookup.{KeyTable};
 ghost use Rattle.attributes.specs.Outcome.{Gathers};
 ghost use Rattle.attributes.specs.Slots.{High, Plain};
 
@@ -50,26 +50,21 @@ fn plain_end(doc: &[u8], from: usize, quote: u8) -> usize
     at
 }
 
-// The attributes from a place on.
+// The names that mean something, one after another.
+const KEYS: &[u8] = b"nametypevalueaccessdirectionsuffix";
+
+// The attributes from a place on, and their values: 17 at one too many; then, one by one, duplicate before reference.
 #[tactic(auto, using(crate::proofs::Slots::slotting))]
-pub fn gather(
-    doc: &[u8],
-    classes: &ClassTable,
-    keys: &[u8],
-    from: usize,
-) -> Result<TagValues, Fault>
+pub fn attributes(doc: &[u8], classes: &ClassTable, from: usize) -> Result<TagValues, Fault>
     requires inside { from ≤ length doc.now }
     requires small { length doc.now ≤ 1048576 }
-    requires key_table { KeyTable keys.now }
     ensures { Gathers doc.now from result }
 {
     let mut slots = [Value::ABSENT; 8];
     let mut at = from;
     // Not a `for`: where the next attribute begins is what was found.
     loop {
-        let s = start_at(doc, classes, at);
-        let class = s.class;
-        if 8 <= class {
+        let Some(s) = start_at(doc, classes, at) else {
             let v = Values {
                 name: slots[0],
                 ty: slots[1],
@@ -80,15 +75,16 @@ pub fn gather(
                 tp: slots[6],
             };
             return Ok(TagValues { end: at, values: v });
-        }
+        };
+        let class = s.class;
         let value = s.value;
         let end = plain_end(doc, value, s.quote);
         if doc.len() <= end {
-            return some::gather(doc, classes, keys, from);
+            return some::gather(doc, classes, KEYS, from);
         }
         let before = slots[class];
         if !before.is_absent() {
-            return some::gather(doc, classes, keys, from);
+            return some::gather(doc, classes, KEYS, from);
         }
         slots[class] = Value {
             at: value as u32,

@@ -4,27 +4,19 @@ ghost use Rattle.attributes.specs.Lookup.{wanted, KeyTable, Picks, PicksAll};
 ghost use Rattle.attributes.specs.One.{Fit};
 ghost use Rattle.attributes.specs.Outcome.{among, Checkable, Weighs, Judges, Checks, Finishes};
 
-use crate::asked::is_wanted;
+use crate::asked::{Sought, is_wanted};
 use crate::{Attribute, TagValues, references_of};
 use document::{Form, Value, Values};
 use faults::Fault;
 
-// The value of the first of the first n with the key, or the first tp type where that is asked; kind 0 where there is none.
-fn first_named(
-    doc: &[u8],
-    attrs: &[Attribute],
-    n: usize,
-    keys: &[u8],
-    key: u32,
-    len: u32,
-    tp: bool,
-) -> Value
+// The value of the first of the first n that is sought; absent where there is none.
+fn first_named(doc: &[u8], attrs: &[Attribute], n: usize, keys: &[u8], sought: Sought) -> Value
     requires { n ≤ length attrs.now }
-    ensures { Picks (wanted keys.now key len tp doc.now) attrs.now n result }
+    ensures { Picks (wanted keys.now sought doc.now) attrs.now n result }
 {
     for i in 0..n {
         let a = attrs[i];
-        if is_wanted(doc, a.name, a.name_len, a.tp, keys, key, len, tp) {
+        if is_wanted(doc, a.name, a.name_len, a.tp, keys, sought) {
             return Value {
                 at: a.value,
                 len: a.value_len,
@@ -42,13 +34,13 @@ fn values(doc: &[u8], attrs: &[Attribute], n: usize, keys: &[u8]) -> Values
     ensures { PicksAll doc.now attrs.now n result }
 {
     Values {
-        name: first_named(doc, attrs, n, keys, 0, 4, false),
-        ty: first_named(doc, attrs, n, keys, 4, 4, false),
-        value: first_named(doc, attrs, n, keys, 8, 5, false),
-        access: first_named(doc, attrs, n, keys, 13, 6, false),
-        direction: first_named(doc, attrs, n, keys, 19, 9, false),
-        suffix: first_named(doc, attrs, n, keys, 28, 6, false),
-        tp: first_named(doc, attrs, n, keys, 0, 0, true),
+        name: first_named(doc, attrs, n, keys, Sought::Named { key: 0, len: 4 }),
+        ty: first_named(doc, attrs, n, keys, Sought::Named { key: 4, len: 4 }),
+        value: first_named(doc, attrs, n, keys, Sought::Named { key: 8, len: 5 }),
+        access: first_named(doc, attrs, n, keys, Sought::Named { key: 13, len: 6 }),
+        direction: first_named(doc, attrs, n, keys, Sought::Named { key: 19, len: 9 }),
+        suffix: first_named(doc, attrs, n, keys, Sought::Named { key: 28, len: 6 }),
+        tp: first_named(doc, attrs, n, keys, Sought::TpType),
     }
 }
 
@@ -89,7 +81,11 @@ fn judge(doc: &[u8], attrs: &[Attribute], i: usize) -> Result<(), Fault>
 {
     let a = attrs[i];
     let m = until(a.twin, i);
-    let before = first_named(doc, attrs, m, doc, a.name, a.name_len, false);
+    let sought = Sought::Named {
+        key: a.name,
+        len: a.name_len,
+    };
+    let before = first_named(doc, attrs, m, doc, sought);
     weigh(doc, a, before)
 }
 

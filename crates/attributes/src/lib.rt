@@ -19,8 +19,10 @@ mod many;
 mod some;
 mod starts;
 
+pub use few::attributes;
+
 // An attribute: places and lengths of its name and its raw value; the form of the value; whether it is a tp type; `twin` false says that no
-// attribute before it has its name, true says nothing. Neither `tp` nor `twin` has a value that goes by it.
+// attribute before it has its name, true says nothing. No other field depends on `tp` or `twin`, so neither is an Option of one.
 #[derive(Clone, Copy)]
 pub struct Attribute {
     pub name: u32,
@@ -88,32 +90,26 @@ fn is_special(b: u8) -> bool
     b <= b'&' && matches!(b, b'&' | b'\t' | b'\n' | b'\r')
 }
 
-// The end of a value, or the length where no quote closes it.
+// The end of a value, or the length where no quote closes it: the caller goes on by comparing it with the length.
 fn quoted(doc: &[u8], from: usize, quote: u8) -> ValueEnd
     requires inside { from ≤ length doc.now }
-    requires quote { «quote» ≤ 39 }
     ensures { Quotes «quote» doc.now from result }
 {
-    let mut at = from;
     let mut form = Form::Plain;
     // Not a search for the quote alone: the form is found on the way to it.
-    while at < doc.len() {
+    for at in from..doc.len() {
         let b = doc[at];
-        if 39 < b {
-            at += 1;
-        } else {
-            if b == quote {
-                return ValueEnd { end: at, form };
-            }
-            if is_special(b) {
-                form = Form::Changed;
-                at += 1;
-            } else {
-                at += 1;
-            }
+        if b == quote {
+            return ValueEnd { end: at, form };
+        }
+        if is_special(b) {
+            form = Form::Changed;
         }
     }
-    ValueEnd { end: at, form }
+    ValueEnd {
+        end: doc.len(),
+        form,
+    }
 }
 
 // At the opening quote of the value, after a name and `=`.
@@ -225,13 +221,4 @@ fn references_of(doc: &[u8], at: usize, n: usize) -> Result<(), Fault>
             })
         }
     }
-}
-
-// The attributes from a place on, and their values: 17 at one too many; then, one by one, duplicate before reference.
-pub fn attributes(doc: &[u8], classes: &ClassTable, from: usize) -> Result<TagValues, Fault>
-    requires inside { from ≤ length doc.now }
-    requires small { length doc.now ≤ 1048576 }
-    ensures { Gathers doc.now from result }
-{
-    few::gather(doc, classes, b"nametypevalueaccessdirectionsuffix", from)
 }

@@ -28,6 +28,7 @@ fn marked(a: Attribute, twin: bool) -> Attribute
 }
 
 // The attributes from a place on: 17 where there is one more than the limit.
+// Not one function with some's `gather`: this one marks each attribute by a table, and answers one too many with a fault.
 pub fn gather(
     doc: &[u8],
     classes: &ClassTable,

@@ -1,20 +1,12 @@
 // The start of an attribute: the class of its name, and where its value begins.
-ghost use Rattle.std.specs.Prelude.{◌≡◌, ◌+◌, ◌-◌, ◌≤◌, length};
+ghost use Rattle.std.specs.Prelude.{◌≡◌, ◌+◌, ◌-◌, ◌≤◌, length, drop, IfSome, IfNone};
 ghost use Rattle.scan.specs.Colons.{Scanned};
-ghost use Rattle.document.specs.Tags.{is_tp_type_lem};
+ghost use Rattle.document.specs.Tags.{absent, attribute, is_tp_type_lem};
 ghost use Rattle.attributes.specs.One.{part};
-ghost use Rattle.attributes.specs.Slots.{class_of, Quick, Starts, Four, Knows};
+ghost use Rattle.attributes.specs.Slots.{class_of, Opened, Four, Key};
 
 use crate::{Known, Start, is_tp_type};
 use scan::{ClassTable, Name};
-
-const NO_START: Start = Start {
-    class: 8,
-    value: 0,
-    quote: 0,
-};
-
-const UNKNOWN: Known = Known { class: 8, len: 0 };
 
 // Four bytes as a number.
 fn four(s: &[u8], at: usize) -> u32
@@ -29,82 +21,78 @@ fn four(s: &[u8], at: usize) -> u32
 
 // The rest of `direction`, `value` or `access`, whose first four bytes are the number.
 #[tactic(auto, using(crate::proofs::Starting::knows))]
-fn longer(doc: &[u8], at: usize, w: u32) -> Known
+fn longer(doc: &[u8], at: usize, w: u32) -> Option<Known>
     requires inside { at + 9 ≤ length doc.now }
     requires four { Four doc.now «at» w }
-    ensures { Knows doc.now «at» result }
+    ensures { IfSome result (Key doc.now «at») }
 {
     if w == 0x65726964 {
         if four(doc, at + 4) == 0x6f697463 {
             if doc[at + 8] == 110 {
-                return Known { class: 4, len: 9 };
+                return Some(Known { class: 4, len: 9 });
             }
         }
-        return UNKNOWN;
+        return None;
     }
     if w == 0x756c6176 {
         if doc[at + 4] == 101 {
-            return Known { class: 2, len: 5 };
+            return Some(Known { class: 2, len: 5 });
         }
-        return UNKNOWN;
+        return None;
     }
     if w == 0x65636361 {
         if doc[at + 4] == 115 {
             if doc[at + 5] == 115 {
-                return Known { class: 3, len: 6 };
+                return Some(Known { class: 3, len: 6 });
             }
         }
     }
-    UNKNOWN
+    None
 }
 
 // The name that bytes at a place begin with, where it is one of the usual five.
 #[tactic(auto, using(crate::proofs::Starting::knows))]
-fn known(doc: &[u8], at: usize) -> Known
+fn known(doc: &[u8], at: usize) -> Option<Known>
     requires { at + 9 ≤ length doc.now }
-    ensures { Knows doc.now «at» result }
+    ensures { IfSome result (Key doc.now «at») }
 {
     let w = four(doc, at);
     if w == 0x656d616e {
-        return Known { class: 0, len: 4 };
+        return Some(Known { class: 0, len: 4 });
     }
     if w == 0x65707974 {
-        return Known { class: 1, len: 4 };
+        return Some(Known { class: 1, len: 4 });
     }
     longer(doc, at, w)
 }
 
 // The usual form: a space, a known name, `=` and `"`.
 #[tactic(auto, using(crate::proofs::Starting::quickly))]
-fn quick(doc: &[u8], at: usize) -> Start
+fn quick(doc: &[u8], at: usize) -> Option<Start>
     requires inside { at ≤ length doc.now }
     requires small { length doc.now ≤ 1048576 }
-    ensures { Quick doc.now «at» result }
+    ensures { IfSome result (Opened doc.now «at») }
 {
     if doc.len() < at + 16 {
-        return NO_START;
+        return None;
     }
     if doc[at] != 32 {
-        return NO_START;
+        return None;
     }
-    let k = known(doc, at + 1);
-    let class = k.class;
-    if 8 <= class {
-        return NO_START;
-    }
+    let k = known(doc, at + 1)?;
     let end = at + 1 + k.len;
     if doc[end] != 61 {
-        return NO_START;
+        return None;
     }
     let open = end + 1;
     if doc[open] != 34 {
-        return NO_START;
+        return None;
     }
-    Start {
-        class,
+    Some(Start {
+        class: k.class,
         value: open + 1,
         quote: 34,
-    }
+    })
 }
 
 // The class of a name, which is a tp type's or not.
@@ -150,51 +138,49 @@ fn class_at(doc: &[u8], at: usize, name: Name) -> usize
 
 // Any form.
 #[tactic(auto, using(crate::proofs::Starting::opens))]
-fn opened(doc: &[u8], classes: &ClassTable, from: usize) -> Start
+fn opened(doc: &[u8], classes: &ClassTable, from: usize) -> Option<Start>
     requires inside { from ≤ length doc.now }
     requires small { length doc.now ≤ 1048576 }
-    ensures { Starts doc.now from result }
+    ensures some { IfSome result (Opened doc.now from) }
+    ensures none { IfNone result (attribute (drop from doc.now) from ≡ absent) }
 {
     let name = scan::space_end(doc, classes, from);
     if name <= from {
-        return NO_START;
+        return None;
     }
     let scanned = scan::name_at(doc, classes, name);
     let end = scanned.end;
     if end <= name {
-        return NO_START;
+        return None;
     }
     let equals = scan::space_end(doc, classes, end);
     if doc.len() <= equals {
-        return NO_START;
+        return None;
     }
     if doc[equals] != 61 {
-        return NO_START;
+        return None;
     }
     let at = scan::space_end(doc, classes, equals + 1);
     if doc.len() <= at {
-        return NO_START;
+        return None;
     }
     let quote = doc[at];
     if scan::is_quote(quote) {
-        return Start {
+        return Some(Start {
             class: class_at(doc, name, scanned),
             value: at + 1,
             quote,
-        };
+        });
     }
-    NO_START
+    None
 }
 
 // At the white space before a name.
-pub fn start_at(doc: &[u8], classes: &ClassTable, at: usize) -> Start
+pub fn start_at(doc: &[u8], classes: &ClassTable, at: usize) -> Option<Start>
     requires inside { at ≤ length doc.now }
     requires small { length doc.now ≤ 1048576 }
-    ensures { Starts doc.now «at» result }
+    ensures some { IfSome result (Opened doc.now «at») }
+    ensures none { IfNone result (attribute (drop «at» doc.now) «at» ≡ absent) }
 {
-    let s = quick(doc, at);
-    if s.class < 8 {
-        return s;
-    }
-    opened(doc, classes, at)
+    quick(doc, at).or_else(|| opened(doc, classes, at))
 }

@@ -1,24 +1,18 @@
 -- From the first token to the last: what reading a document comes to.
 -- Assumes nothing.
-use Prim.Native.Nat.{ℕ, zero, suc, ◌+◌, ◌-◌, ◌≤◌, ◌<◌}
+use Prim.Native.Nat.{ℕ, zero, suc, ◌+◌, ◌-◌, ◌≤◌}
 use mathlib.Core.Path.{◌≡◌}
 use mathlib.Core.List.{List, [], ◌∷◌}
 use native.Mathlib.Nat.{add-zero}
 use native.Mathlib.Omega.{arith}
 use lib.ListN.{length}
 use Rattle.document.specs.Tags.{Shown}
-use Rattle.document.specs.Tokens.{Token, start, close, fault, end, Next, more, last, next, joined, tokens_from, tokens}
+use Rattle.document.specs.Tokens.{end, Next, more, last, next, joined, tokens_from, tokens}
 use Rattle.document.specs.Reading.{State, begun, step, fold, run}
 use Rattle.document.specs.Outcome.{whole}
 use Rattle.document.proofs.Steps.{Kept, step_kept}
-use Rattle.document.proofs.Nexts.{Onward, Reaches, next_reaches}
+use Rattle.document.proofs.Nexts.{Reaches, next_reaches, moves_on}
 use Rattle.bounds.proofs.States.{held, final, one_step, last_step}
-
-moves_on : (at top : ℕ) (t : Token) (q : ℕ) → Onward at top t q → (at < q) × (q ≤ top)
-moves_on at top (start t) q g = (omega (arith, g.since, g.long), g.within)
-moves_on at top (close lt n p) q g = (omega (arith, g.since, g.long), g.within)
-moves_on at top (fault n p) q g = absurd g
-moves_on at top (end p) q g = absurd g
 
 module _ (doc : List ℕ) (top : ℕ) where
   reads_final : (k : ℕ) (l : List ℕ) (at : ℕ) (s : State Shown) → k ≤ length l → at + length l ≡ top → Kept (held top (at + k)) s → Kept (final top) (fold whole doc s (tokens_from k l at))

@@ -7,7 +7,7 @@ use borrow.Author.Rules.{rules}
 use native.Mathlib.Omega.{arith}
 use lib.ListN.{length, take, drop}
 use Rattle.std.specs.Prelude.{Option, Some, None}
-use Rattle.document.specs.Tags.{Attr, absent, found, attribute, Gathered, gathered, too_many, with, gather}
+use Rattle.document.specs.Tags.{Attr, found, attribute, Gathered, gathered, too_many, with, gather}
 use Rattle.document.specs.Outcome.{Sound}
 use Rattle.attributes.specs.One.{attr_of, Finds}
 use Rattle.attributes.specs.declared.Attribute.{Attribute}
@@ -18,6 +18,7 @@ use Rattle.breaches.specs.Outcome.{NameAt, AttributeAt, attribute_breach, attrib
 use Rattle.breaches.proofs.Order.{lesser_none, none_lesser, lesser_assoc, lesser_four, least_append}
 use Rattle.breaches.proofs.Names.{attribute_stands}
 use Rattle.attributes.specs.declared.Located.{Located}
+use Rattle.attributes.proofs.Gathering.{gather_none}
 
 -- ---- one attribute
 
@@ -51,12 +52,7 @@ more_breach x xs =
     rw (least_append (in_value x) (in_values xs), least_append (in_name x.name x.at) (in_names xs))
     (lesser_four (least (in_value x)) (least (in_values xs)) (least (in_name x.name x.at)) (least (in_names xs)))
 
--- what gathering comes to where there is no attribute, and where there is one
-gather_none : (n : ℕ) (l : List ℕ) (at : ℕ) → attribute l at ≡ absent → gather n l at ≡ gathered [] l at
-unfolding gather
-gather_none zero l at e = rw e
-gather_none (suc n) l at e = rw e
-
+-- what gathering comes to where there is an attribute
 gather_one : (n : ℕ) (l : List ℕ) (at : ℕ) (x : Attr) (m : List ℕ) (q : ℕ) (xs : List Attr) (r : List ℕ) (p : ℕ) → attribute l at ≡ found x m q → gather n l at ≡ gathered xs r p → (k : ℕ) × (ys : List Attr) × (gather k m q ≡ gathered ys r p) × (xs ≡ x ∷ ys)
 unfolding gather
 gather_one zero l at x m q xs r p e g =

@@ -1,11 +1,10 @@
 -- A comment that closes: where its inside ends, and the least breach in it.
 -- Assumes nothing.
 use Prim.Native.Nat.{ℕ, suc, ◌+◌, ◌-◌, ◌≤◌}
-use mathlib.Core.Path.{◌≡◌, refl, sym, ◌∙◌}
+use mathlib.Core.Path.{◌≡◌, sym, ◌∙◌}
 use mathlib.Core.List.{List, [], ◌∷◌, append-nil}
 use mathlib.Core.Bool.{Bool, true, false}
 use borrow.Author.Rules.{rules}
-use borrow.Author.Tests.{eqb-true}
 use native.Mathlib.Numerals.{add-one}
 use native.Mathlib.Omega.{arith}
 use lib.Dec.{eqb}
@@ -16,6 +15,7 @@ use Rattle.slices.specs.Bytes.{if, bytes, starts}
 use Rattle.scan.proofs.Marked.{ignored_place}
 use Rattle.scan.specs.Ignorable.{Marks, seek, markup, ignored}
 use Rattle.scan.specs.declared.Markup.TheVariants.{Ignored}
+use Rattle.scan.proofs.Ignoring.{comment_bytes}
 use Rattle.document.proofs.Tests.{never}
 use Rattle.profile.specs.Places.{first_place}
 use Rattle.profile.specs.Profile.{hyphens}
@@ -31,16 +31,6 @@ seek_first n key c (b ∷ l) p q e = go (starts key (b ∷ l)) e (λ f. seek_fir
     go : (t : Bool) → if t (Ok (p + length key)) (seek n key c l (suc p)) ≡ Ok q → (seek n key c l (suc p) ≡ Ok q → q ≡ suc p + first_place (starts key) l + length key) → q ≡ p + if t 0 (suc (first_place (starts key) l)) + length key
     go true e i = let z : p + length key ≡ q = cc in omega arith
     go false e i = let z = i e in omega arith
-
--- what follows the `<` of a comment
-comment_bytes : (x y z : ℕ) (r : List ℕ) → starts (bytes "!--") (x ∷ y ∷ z ∷ r) ≡ true → (x ≡ 33) × (y ≡ 45) × (z ≡ 45)
-comment_bytes x y z r e = go (eqb 33 x) refl (eqb 45 y) refl (eqb 45 z) refl e
-  where
-    go : (t : Bool) → eqb 33 x ≡ t → (u : Bool) → eqb 45 y ≡ u → (v : Bool) → eqb 45 z ≡ v → if t (if u (if v true false) false) false ≡ true → (x ≡ 33) × (y ≡ 45) × (z ≡ 45)
-    go true f true g true h e = (sym (eqb-true 33 x f), sym (eqb-true 45 y g), sym (eqb-true 45 z h))
-    go true f true g false h e = never e
-    go true f false g v h e = never e
-    go false f u g v h e = never e
 
 comment_seeks : (l : List ℕ) (at e : ℕ) → starts (bytes "!--") l ≡ true → markup l at ≡ Ok (Ignored e) → seek 22 (bytes "-->") (at + 4) (drop 3 l) (at + 4) ≡ Ok e
 comment_seeks [] at e t m = never t

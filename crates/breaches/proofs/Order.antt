@@ -5,7 +5,7 @@ use mathlib.Core.Path.{◌≡◌, refl, ap, sym, ◌∙◌}
 use mathlib.Core.List.{List, [], ◌∷◌, ◌++◌}
 use borrow.Author.Rules.{rules}
 use native.Mathlib.Omega.{arith}
-use Rattle.std.specs.Prelude.{Option, Some, None}
+use Rattle.std.specs.Prelude.{min, Option, Some, None}
 use Rattle.breaches.specs.Least.{lesser, least}
 
 pub lesser_none : (a : Option ℕ) → lesser a None ≡ a
@@ -57,12 +57,8 @@ module _ {a b : Option ℕ} where
   unfolding lesser
   second_none e f = rw (e, f) refl
 
-  pub second_less : {p q : ℕ} → a ≡ Some p → b ≡ Some q → q < p → Some q ≡ lesser a b
+  pub both_some : {p q m : ℕ} → a ≡ Some p → b ≡ Some q → m ≡ min p q → Some m ≡ lesser a b
   unfolding lesser
-  second_less e f h = rw (e, f) (ap Some (omega arith))
+  both_some e f h = rw (e, f) (ap Some h)
 
-  pub first_less : {p q : ℕ} → a ≡ Some p → b ≡ Some q → p ≤ q → Some p ≡ lesser a b
-  unfolding lesser
-  first_less e f h = rw (e, f) (ap Some (omega arith))
-
-pub ruleset lessers = (first-none, second_none, second_less, first_less, rules)
+pub ruleset lessers = (first-none, second_none, both_some, rules)

@@ -18,8 +18,7 @@ use Rattle.answers.specs.Text.{Text, text, wrong}
 use Rattle.references.specs.Unescape.{unescape}
 use Rattle.document.specs.Tags.{Attr, Gathered, gathered, too_many, gather, Shown, Checked, good, also, member, check}
 use Rattle.document.specs.Tags as tags
-use Rattle.document.specs.Tokens.{Tag, Token, start, close, fault, end, Next, more, last, tag_end, with_shown, with_attrs, opening, close_end, closing}
-use Rattle.document.specs.declared.ClosingTag.{ClosingTag}
+use Rattle.document.specs.Tokens.{Tag, Token, start, close, fault, Next, more, last, tag_end, with_shown, with_attrs, opening, close_end, closing}
 use Rattle.document.specs.declared.Refusal.{Refusal}
 use Rattle.document.specs.declared.StartTag.{StartTag}
 use Rattle.document.specs.declared.Token as token

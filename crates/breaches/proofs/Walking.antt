@@ -21,7 +21,7 @@ use Rattle.document.specs.Refusals.{bare}
 use Rattle.document.specs.Reading.{State, begun, reading, accepted, refused, step}
 use Rattle.document.specs.Outcome.{runs, whole}
 use Rattle.document.proofs.Runs.{run_more, run_last, run_refused}
-use Rattle.document.proofs.Nexts.{Onward, Ended, Reaches, next_reaches}
+use Rattle.document.proofs.Nexts.{Onward, Ended, Reaches, next_reaches, moves_on}
 use Rattle.document.specs.declared.Refusal.{Refusal}
 use Rattle.tags.specs.Outcome.{TagStart}
 use Rattle.met.specs.Passed.{passed_over}
@@ -113,12 +113,6 @@ record Comes (doc : List ℕ) (at : ℕ) : Type 0 where
   next_is : next (drop at doc) at ≡ more token after
   onward : Onward at (at + length (drop at doc)) token after
 
-moves : (at top : ℕ) (t : Token) (q : ℕ) → Onward at top t q → (at < q) × (q ≤ top)
-moves at top (start t) q g = (omega (arith, g.since, g.long), g.within)
-moves at top (close lt n p) q g = (omega (arith, g.since, g.long), g.within)
-moves at top (fault n p) q g = absurd g
-moves at top (end p) q g = absurd g
-
 module _ {doc : List ℕ} {w : Walk} (g : Walking doc w) where
   comes : Comes doc w.at
   comes = go (next (drop w.at doc) w.at) refl (next_reaches (drop w.at doc) w.at)
@@ -128,7 +122,7 @@ module _ {doc : List ℕ} {w : Walk} (g : Walking doc w) where
       go (last t) e h = absurd (last_refused doc w.depth g.state t g.tables (w.at + length (drop w.at doc)) g.stands h (sym (run_last whole doc w.at g.state t e) ∙ g.reads))
 
   moved : (w.at < comes.after) × (comes.after ≤ length doc)
-  moved = let m = moves w.at (w.at + length (drop w.at doc)) comes.token comes.after comes.onward in (m.0, omega (arith, m.1, length-drop w.at doc, g.inside))
+  moved = let m = moves_on w.at (w.at + length (drop w.at doc)) comes.token comes.after comes.onward in (m.0, omega (arith, m.1, length-drop w.at doc, g.inside))
 
   reads_on : runs doc comes.after (step whole doc g.state comes.token) ≡ accepted g.tables
   reads_on = sym (run_more whole doc w.at g.state comes.token comes.after comes.next_is moved.0 moved.1) ∙ g.reads

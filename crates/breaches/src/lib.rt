@@ -45,7 +45,7 @@ fn lesser(a: Option<usize>, b: Option<usize>) -> Option<usize>
     ensures { result ≡ lesser a b }
 {
     match (a, b) {
-        (Some(p), Some(q)) => Some(if q < p { q } else { p }),
+        (Some(p), Some(q)) => Some(p.min(q)),
         (Some(p), None) => Some(p),
         (None, _) => b,
     }
@@ -113,13 +113,13 @@ fn to_tag(doc: &[u8], from: usize) -> Way
     ensures { Passes doc.now from result }
 {
     let mut breach = None;
-    let mut at = slices::find(doc, from, 60);
+    let mut at = slices::find(doc, from, b'<');
     // The next place is what the call found, so no range has it.
     while at < doc.len() {
         match scan::markup_at(doc, at) {
             Ok(Markup::Ignored(next)) => {
                 breach = lesser(breach, ignored_breach(doc, at, next));
-                at = slices::find(doc, next, 60);
+                at = slices::find(doc, next, b'<');
             }
             Ok(Markup::Tag) => {
                 return Way { at, breach };
@@ -220,7 +220,7 @@ fn step(doc: &[u8], classes: &ClassTable, w: Walk) -> Walk
     let so_far = w.breach;
     let passed = way.breach;
     let breach = lesser(so_far, passed);
-    if doc[lt + 1] == 47 {
+    if doc[lt + 1] == b'/' {
         return Walk {
             at: close_end(doc, classes, lt),
             depth: w.depth - 1,

@@ -14,11 +14,11 @@ pub trait Element {
     ghost docs: { Bool };
 
     // Reads a child of the element with row i, from after the child's start tag on.
-    fn child(r: &mut Reader, c: StartTag, i: usize, f: Fill) -> Result<Fill, Refusal>
-        requires ready { Ready r.old.doc.now c f }
+    fn child(r: &mut Reader, c: &StartTag, i: usize, f: Fill) -> Result<Fill, Refusal>
+        requires ready { Ready r.old.doc.now c.now f }
         requires owner { i < f.rows }
         ensures keeps { Keeps r.old r.new }
-        ensures is { Child r.old.doc.now held docs c i f (lent_to r.old) (lent_to r.new) result };
+        ensures is { Child r.old.doc.now held docs c.now i f (lent_to r.old) (lent_to r.new) result };
 }
 
 // The children of the element with row i, whose name stands at a place with a length, up to its end.
@@ -46,7 +46,7 @@ fn children<E: Element>(
             Next::Close(closing) => return Ok(g.moved(closing.end)),
             Next::Start(c) => {
                 let h = g.moved(c.end);
-                g = E::child(r, c, i, h)?;
+                g = E::child(r, &c, i, h)?;
             }
         }
     }
@@ -54,12 +54,17 @@ fn children<E: Element>(
 
 // All that follows the row of such an element, which is row i, up to the element's end.
 #[tactic(auto, using(crate::proofs::Loop::all))]
-pub fn contents<E: Element>(r: &mut Reader, c: StartTag, i: usize, f: Fill) -> Result<Fill, Refusal>
+pub fn contents<E: Element>(
+    r: &mut Reader,
+    c: &StartTag,
+    i: usize,
+    f: Fill,
+) -> Result<Fill, Refusal>
     requires bounded { Bounded r.old.doc.now f }
     requires owner { i < f.rows }
-    requires named { c.at + c.len ≤ length r.old.doc.now }
+    requires named { c.now.at + c.now.len ≤ length r.old.doc.now }
     ensures keeps { Keeps r.old r.new }
-    ensures is { Contents r.old.doc.now E.held E.docs c i f (lent_to r.old) (lent_to r.new) result }
+    ensures is { Contents r.old.doc.now E.held E.docs c.now i f (lent_to r.old) (lent_to r.new) result }
 {
     if c.closes {
         return Ok(f);

@@ -10,14 +10,6 @@ ghost use Rattle.columns.specs.Places.{lays_columns, lays_rows};
 
 use faults::Fault;
 
-// Where a block of rows ends that begins at a row: 16 rows on, or with the rows.
-fn block_end(from: usize, count: usize) -> usize
-    requires { from < count }
-    ensures { (from < result) × (result ≤ count) }
-{
-    if count - from < 16 { count } else { from + 16 }
-}
-
 // Word k of the row above row r, and 0 above row 0.
 fn word_above(rows: &[u32], k: usize, r: usize) -> u32
     requires word { k < 16 }
@@ -140,12 +132,9 @@ fn put_all<W: Way>(source: &[u32], count: usize, out: &mut [u32])
     requires { Roomy count source.now out.old }
     ensures { Rep 16 out.new count (W.words count source.now) }
 {
-    let mut from = 0;
-    // The next row is what the call found, which may be the last.
-    while from < count {
-        let to = block_end(from, count);
+    for from in (0..count).step_by(16) {
+        let to = count.min(from + 16);
         put_block::<W>(source, count, from, to, out);
-        from = to;
     }
 }
 

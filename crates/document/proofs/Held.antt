@@ -26,9 +26,6 @@ module _ {doc : List ℕ} {v : Value} {s : Shown} (h : Held doc v s) where
   pub held_plain : v.form ≡ Plain → all plain s.attr.raw ≡ true
   held_plain = (by_form (all plain s.attr.raw) v.form h.form).0
 
-  pub held_changed : v.form ≡ Changed → all plain s.attr.raw ≡ false
-  held_changed = (by_form (all plain s.attr.raw) v.form h.form).1
-
   pub held_raw : {r : List ℕ} → Raw doc v r → r ≡ s.attr.raw
   held_raw w = w.is ∙ h.raw
 

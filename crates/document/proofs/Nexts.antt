@@ -45,6 +45,12 @@ Onward from top (close lt m p) q = Closes from top lt p q
 Onward from top (fault n p) q = ⊥
 Onward from top (end p) q = ⊥
 
+pub moves_on : (at top : ℕ) (t : Token) (q : ℕ) → Onward at top t q → (at < q) × (q ≤ top)
+moves_on at top (start t) q g = (omega (arith, g.since, g.long), g.within)
+moves_on at top (close lt n p) q g = (omega (arith, g.since, g.long), g.within)
+moves_on at top (fault n p) q g = absurd g
+moves_on at top (end p) q g = absurd g
+
 abbrev pub Ended : ℕ → Token → Type 0
 Ended top (start t) = ⊥
 Ended top (close lt m p) = ⊥

@@ -33,6 +33,7 @@ impl Excerpt {
 
 // Why a document is refused: the place, the number, and what the message shows: the key of a missing attribute, and up to two
 // excerpts. The number is no enum, since the interface for C tells it.
+// Key 0 and `NOTHING` are zeros and no Option: the words of the interface for C are zeros where nothing is shown, and the definitions say so.
 #[derive(Clone, Copy)]
 pub struct Refusal {
     pub place: usize,
@@ -156,6 +157,7 @@ pub struct Values {
 }
 
 // A start tag: the place and length of its name, the kind of that name, whether it is `/>`, the place after it, its values.
+// `closes` is a bool, here and in other crates: no value goes with either answer.
 #[derive(Clone, Copy)]
 pub struct StartTag {
     pub at: usize,
@@ -166,7 +168,8 @@ pub struct StartTag {
     pub values: Values,
 }
 
-// A place in the document, and the counts so far.
+// A place in the document, and the counts so far. That they fit the document and a tag is said by clauses (`Ready`, `Bounded`) and by no
+// ghost field: each of the three goes on alone, so no type holds them all.
 #[derive(Clone, Copy)]
 pub struct Fill {
     pub at: usize,
@@ -180,12 +183,7 @@ impl Fill {
     pub fn moved(self, at: usize) -> Fill
         ensures { result ≡ moved self «at» }
     {
-        Fill {
-            at,
-            rows: self.rows,
-            warnings: self.warnings,
-            text: self.text,
-        }
+        Fill { at, ..self }
     }
 }
 
@@ -221,6 +219,7 @@ pub enum Next {
 }
 
 // What reading goes over and what it fills: the document, the classes of its bytes, and the buffers that the caller lends.
+// They are lent, since the library has no heap.
 #[derive(Drop)]
 pub struct Reader<'a, 'r> {
     pub doc: &'a [u8],

@@ -16,20 +16,19 @@ use Rattle.names.specs.Signature.{signature}
 use Rattle.document.specs.Kinds as kinds
 use Rattle.document.specs.Tags.{Shown, tp_type}
 use Rattle.document.specs.Tokens.{Tag}
-use Rattle.document.specs.Elements.{attr, access_of, directed, kept, row, opens, refuses, opens_as, Opened, required, valid}
+use Rattle.document.specs.Elements.{attr, access_of, directed, kept, row, opens, refuses, opens_as, Opened, valid}
 use Rattle.document.specs.Refusals.{bare, showing, raw_of}
-use Rattle.document.specs.Outcome.{is_absent, Held, Lies, ValueIs, ValueFits, Ready, TagIs, Opening, whole}
+use Rattle.document.specs.Outcome.{Held, Lies, ValueIs, ValueFits, Ready, TagIs, Opening, whole}
 use Rattle.document.specs.declared.Form.{Form}
 use Rattle.document.specs.declared.Value.{Value}
 use Rattle.document.specs.declared.StartTag.{StartTag}
 use Rattle.document.specs.declared.Fill.{Fill}
 use Rattle.document.specs.declared.Excerpt.{Excerpt}
 use Rattle.document.specs.declared.Refusal.{Refusal}
-use Rattle.document.proofs.Presence.{value_absent, value_there}
 use Rattle.shown.specs.Outcome.{Tests}
 use Rattle.rows.specs.Outcome.{RowFits, RowPut}
 use Rattle.rows.specs.declared.Head.{Head}
-use Rattle.elements.specs.Outcome.{AttributeIs, Steps, demanded, tested, accessed, Accesses, Directs, NamedKind, TypedKind, UntypedKind}
+use Rattle.elements.specs.Outcome.{Steps, demanded, tested, accessed, Accesses, Directs, NamedKind, TypedKind, UntypedKind}
 
 -- a value of a tag lies in the document, and so does one that is not there
 pub lies : {doc : List ℕ} {c : StartTag} {f : Fill} {v : Value} → Ready doc c f → ValueFits c.at c.end v → Lies doc v
@@ -128,19 +127,9 @@ mapping_kind = record { is = λ p t. refl }
 pub tag_small : {doc : List ℕ} {c : StartTag} {f : Fill} → Ready doc c f → c.at + c.len < 2 ^ 32
 tag_small r = omega (arith, r.fits.inside, r.fits.within, r.sound.small)
 
--- an attribute is there, or it is missing
-pub demand_there : {c : StartTag} {v : Value} (key : ℕ) → is_absent v ≡ false → (doc k : List ℕ) → AttributeIs doc c v k → Steps {V = Unit {0}} doc c (λ u s. Held doc v s) (demanded key k) (Ok tt)
-demand_there {c} {v} key e doc k h = λ t z. let s = value_there doc v (attr k t) (h t z) e in (s.0, s.2, λ f. ap (λ o. required whole key o t f) s.1)
-
-pub demand_missing : {c : StartTag} {v : Value} (key : ℕ) {e : Excerpt} {x : Refusal} → is_absent v ≡ true → e ≡ record { at = c.at; len = c.len } → x ≡ showing 12 c.at e → (doc k : List ℕ) → AttributeIs doc c v k → Steps {V = Unit {0}} doc c (λ u s. Held doc v s) (demanded key k) (Err (record { place = x.place; number = x.number; key = key; first = x.first; second = x.second }))
-demand_missing {c} {v} key n e q doc k h = λ t z f. rw (value_absent doc v (attr k t) (h t z) n, q, e, z.at, z.named.len)
-
 -- what is left of a step after the attribute is there
 abbrev rest : ℕ → (List ℕ → Bool) → Tag → (Shown → Opened Shown) → Shown → Opened Shown
 rest number p t f s = valid whole (p s.value) (bare number (ℕ.suc t.at)) (f s)
-
-pub good_missing : {doc k : List ℕ} {c : StartTag} {key : ℕ} (number : ℕ) (p : List ℕ → Bool) {x : Refusal} → ((t : Tag) → TagIs doc c t → (f : Shown → Opened Shown) → demanded key k t f ≡ refuses x) → (t : Tag) → TagIs doc c t → (f : Shown → Opened Shown) → tested key k number p t f ≡ refuses x
-good_missing number p h t z f = h t z (rest number p t f)
 
 module _ {doc k : List ℕ} {c : StartTag} {v : Value} {key : ℕ} (number : ℕ) (p : List ℕ → Bool) (h : Steps {V = Unit {0}} doc c (λ u s. Held doc v s) (demanded key k) (Ok tt)) {r : Bool} (i : Tests p doc v r) where
   pub good_there : r ≡ true → Steps {V = Unit {0}} doc c (λ u s. Held doc v s) (tested key k number p) (Ok tt)

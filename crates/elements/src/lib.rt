@@ -1,4 +1,5 @@
 // What a start tag needs: the row of each kind of element, or the tag's first fault.
+// No function takes a whole `Reader`: the parts that it is not given it leaves alone, with no clause to say so.
 #![tactic(auto)]
 
 ghost use Rattle.std.specs.Prelude.{◌≡◌, ◌≤◌, ◌<◌, ◌+◌, ◌^◌, List, ℕ, Bool};
@@ -22,9 +23,9 @@ fn excerpt(v: Value) -> Excerpt
 }
 
 // The attribute of a key is there, or 12: the keys are 1 name, 2 type, 3 access, 4 value.
-fn demand(c: StartTag, v: Value, key: u32) -> Result<(), Refusal>
-    requires { c.at + c.len < 2 ^ 32 }
-    ensures { (doc k : List ℕ) → AttributeIs doc c v k → Steps doc c (λ u s. Held doc v s) (demanded key k) result }
+fn demand(c: &StartTag, v: Value, key: u32) -> Result<(), Refusal>
+    requires { c.now.at + c.now.len < 2 ^ 32 }
+    ensures { (doc k : List ℕ) → AttributeIs doc c.now v k → Steps doc c.now (λ u s. Held doc v s) (demanded key k) result }
 {
     if v.is_absent() {
         let name = Excerpt::new(c.at, c.len);
@@ -39,16 +40,16 @@ fn demand(c: StartTag, v: Value, key: u32) -> Result<(), Refusal>
 // The attribute of a key is there, or 12; and it is good, or a number.
 fn demand_good<P: Fn(&[u8], Value) -> bool>(
     doc: &[u8],
-    c: StartTag,
+    c: &StartTag,
     v: Value,
     key: u32,
     number: u32,
     good: P,
 ) -> Result<(), Refusal>
-    requires small { c.at + c.len < 2 ^ 32 }
+    requires small { c.now.at + c.now.len < 2 ^ 32 }
     requires callable { P.pre good doc v }
-    ensures { (p : List ℕ → Bool) (k : List ℕ) → ((r : Bool) → P.post good doc.entry v r → Tests p doc.now v r) → AttributeIs doc.now c v k
-        → Steps doc.now c (λ u s. Held doc.now v s) (tested key k number p) result }
+    ensures { (p : List ℕ → Bool) (k : List ℕ) → ((r : Bool) → P.post good doc.entry v r → Tests p doc.now v r) → AttributeIs doc.now c.now v k
+        → Steps doc.now c.now (λ u s. Held doc.now v s) (tested key k number p) result }
 {
     demand(c, v, key)?;
     if good(doc, v) {
@@ -57,11 +58,11 @@ fn demand_good<P: Fn(&[u8], Value) -> bool>(
     Err(document::bare(number, c.at))
 }
 
-// The number of a property's access: 12 where it has none, 15 where it is neither of the three.
-fn access_word(doc: &[u8], c: StartTag) -> Result<u32, Refusal>
-    requires small { c.at + c.len < 2 ^ 32 }
-    requires lies { Lies doc.now c.values.access }
-    ensures { Accesses doc.now c result }
+// The number of a property's access: 12 where it has none, 15 where it is none of the three.
+fn access_word(doc: &[u8], c: &StartTag) -> Result<u32, Refusal>
+    requires small { c.now.at + c.now.len < 2 ^ 32 }
+    requires lies { Lies doc.now c.now.values.access }
+    ensures { Accesses doc.now c.now result }
 {
     let v = c.values.access;
     demand(c, v, 3)?;
@@ -71,10 +72,10 @@ fn access_word(doc: &[u8], c: StartTag) -> Result<u32, Refusal>
     }
 }
 
-// The number of an arg's direction, 0 where it has none: 16 where it is neither `in` nor `out`.
-fn direction_word(doc: &[u8], c: StartTag) -> Result<u32, Refusal>
-    requires { Lies doc.now c.values.direction }
-    ensures { Directs doc.now c result }
+// The number of an arg's direction, 0 where it has none, as the row's word has it: 16 where it is neither `in` nor `out`.
+fn direction_word(doc: &[u8], c: &StartTag) -> Result<u32, Refusal>
+    requires { Lies doc.now c.now.values.direction }
+    ensures { Directs doc.now c.now result }
 {
     let v = c.values.direction;
     if v.is_absent() {
@@ -92,13 +93,13 @@ pub fn node_row(
     doc: &[u8],
     rows: &mut [u32],
     text: &mut [u8],
-    c: StartTag,
+    c: &StartTag,
     parent: usize,
     f: Fill,
 ) -> Result<Fill, Refusal>
-    requires ready { Ready doc.now c f }
+    requires ready { Ready doc.now c.now f }
     requires parent_small { parent ≤ 1048576 }
-    ensures { Opening doc.now kinds.node c parent f rows.old rows.new
+    ensures { Opening doc.now kinds.node c.now parent f rows.old rows.new
         text.old text.new result }
 {
     let v = c.values;
@@ -121,13 +122,13 @@ pub fn interface_row(
     doc: &[u8],
     rows: &mut [u32],
     text: &mut [u8],
-    c: StartTag,
+    c: &StartTag,
     parent: usize,
     f: Fill,
 ) -> Result<Fill, Refusal>
-    requires ready { Ready doc.now c f }
+    requires ready { Ready doc.now c.now f }
     requires parent_small { parent ≤ 1048576 }
-    ensures { Opening doc.now kinds.interface c parent f rows.old rows.new
+    ensures { Opening doc.now kinds.interface c.now parent f rows.old rows.new
         text.old text.new result }
 {
     let name = c.values.name;
@@ -142,15 +143,15 @@ pub fn callable_row(
     doc: &[u8],
     rows: &mut [u32],
     text: &mut [u8],
-    c: StartTag,
+    c: &StartTag,
     kind: u32,
     parent: usize,
     f: Fill,
 ) -> Result<Fill, Refusal>
-    requires ready { Ready doc.now c f }
+    requires ready { Ready doc.now c.now f }
     requires parent_small { parent ≤ 1048576 }
     requires of_kind { NamedKind member_name kind }
-    ensures { Opening doc.now kind c parent f rows.old rows.new
+    ensures { Opening doc.now kind c.now parent f rows.old rows.new
         text.old text.new result }
 {
     let name = c.values.name;
@@ -165,13 +166,13 @@ pub fn annotation_row(
     doc: &[u8],
     rows: &mut [u32],
     text: &mut [u8],
-    c: StartTag,
+    c: &StartTag,
     parent: usize,
     f: Fill,
 ) -> Result<Fill, Refusal>
-    requires ready { Ready doc.now c f }
+    requires ready { Ready doc.now c.now f }
     requires parent_small { parent ≤ 1048576 }
-    ensures { Opening doc.now kinds.annotation c parent f rows.old rows.new
+    ensures { Opening doc.now kinds.annotation c.now parent f rows.old rows.new
         text.old text.new result }
 {
     let v = c.values;
@@ -187,15 +188,15 @@ pub fn typed_row(
     doc: &[u8],
     rows: &mut [u32],
     text: &mut [u8],
-    c: StartTag,
+    c: &StartTag,
     kind: u32,
     parent: usize,
     f: Fill,
 ) -> Result<Fill, Refusal>
-    requires ready { Ready doc.now c f }
+    requires ready { Ready doc.now c.now f }
     requires parent_small { parent ≤ 1048576 }
     requires of_kind { TypedKind kind }
-    ensures { Opening doc.now kind c parent f rows.old rows.new
+    ensures { Opening doc.now kind c.now parent f rows.old rows.new
         text.old text.new result }
 {
     let v = c.values;
@@ -209,15 +210,15 @@ pub fn untyped_row(
     doc: &[u8],
     rows: &mut [u32],
     text: &mut [u8],
-    c: StartTag,
+    c: &StartTag,
     kind: u32,
     parent: usize,
     f: Fill,
 ) -> Result<Fill, Refusal>
-    requires ready { Ready doc.now c f }
+    requires ready { Ready doc.now c.now f }
     requires parent_small { parent ≤ 1048576 }
     requires of_kind { UntypedKind kind }
-    ensures { Opening doc.now kind c parent f rows.old rows.new
+    ensures { Opening doc.now kind c.now parent f rows.old rows.new
         text.old text.new result }
 {
     let v = c.values;
@@ -240,13 +241,13 @@ pub fn enumvalue_row(
     doc: &[u8],
     rows: &mut [u32],
     text: &mut [u8],
-    c: StartTag,
+    c: &StartTag,
     parent: usize,
     f: Fill,
 ) -> Result<Fill, Refusal>
-    requires ready { Ready doc.now c f }
+    requires ready { Ready doc.now c.now f }
     requires parent_small { parent ≤ 1048576 }
-    ensures { Opening doc.now kinds.enumvalue c parent f rows.old rows.new
+    ensures { Opening doc.now kinds.enumvalue c.now parent f rows.old rows.new
         text.old text.new result }
 {
     let v = c.values;
@@ -260,13 +261,13 @@ pub fn member_row(
     doc: &[u8],
     rows: &mut [u32],
     text: &mut [u8],
-    c: StartTag,
+    c: &StartTag,
     parent: usize,
     f: Fill,
 ) -> Result<Fill, Refusal>
-    requires ready { Ready doc.now c f }
+    requires ready { Ready doc.now c.now f }
     requires parent_small { parent ≤ 1048576 }
-    ensures { Opening doc.now kinds.member c parent f rows.old rows.new
+    ensures { Opening doc.now kinds.member c.now parent f rows.old rows.new
         text.old text.new result }
 {
     let v = c.values;
@@ -280,13 +281,13 @@ pub fn property_row(
     doc: &[u8],
     rows: &mut [u32],
     text: &mut [u8],
-    c: StartTag,
+    c: &StartTag,
     parent: usize,
     f: Fill,
 ) -> Result<Fill, Refusal>
-    requires ready { Ready doc.now c f }
+    requires ready { Ready doc.now c.now f }
     requires parent_small { parent ≤ 1048576 }
-    ensures { Opening doc.now kinds.property c parent f rows.old rows.new
+    ensures { Opening doc.now kinds.property c.now parent f rows.old rows.new
         text.old text.new result }
 {
     let v = c.values;
@@ -305,13 +306,13 @@ pub fn arg_row(
     doc: &[u8],
     rows: &mut [u32],
     text: &mut [u8],
-    c: StartTag,
+    c: &StartTag,
     parent: usize,
     f: Fill,
 ) -> Result<Fill, Refusal>
-    requires ready { Ready doc.now c f }
+    requires ready { Ready doc.now c.now f }
     requires parent_small { parent ≤ 1048576 }
-    ensures { Opening doc.now kinds.arg c parent f rows.old rows.new
+    ensures { Opening doc.now kinds.arg c.now parent f rows.old rows.new
         text.old text.new result }
 {
     let v = c.values;

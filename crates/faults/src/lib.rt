@@ -2,6 +2,7 @@
 #![tactic(auto)]
 
 // A fault's number, which docs/FORMAT.md explains, and its place.
+// No enum: the interface for C tells the number, and the definitions name faults by it too.
 #[derive(Clone, Copy)]
 pub struct Fault {
     pub number: u32,

@@ -32,7 +32,7 @@ impl Element for InInterface {
     ghost docs = { true };
 
     #[tactic(auto, using(crate::proofs::Interfaces::interfaces))]
-    fn child(r: &mut Reader, c: StartTag, i: usize, f: Fill) -> Result<Fill, Refusal> {
+    fn child(r: &mut Reader, c: &StartTag, i: usize, f: Fill) -> Result<Fill, Refusal> {
         match c.kind {
             kinds::METHOD => callable(r, c, kinds::METHOD, i + 1, f),
             kinds::PROPERTY => property(r, c, i + 1, f),
@@ -50,11 +50,11 @@ impl Element for InInterface {
 
 // An interface.
 #[tactic(auto, using(members::proofs::Members::elements))]
-pub fn interface(r: &mut Reader, c: StartTag, parent: usize, f: Fill) -> Result<Fill, Refusal>
-    requires ready { Ready r.old.doc.now c f }
+pub fn interface(r: &mut Reader, c: &StartTag, parent: usize, f: Fill) -> Result<Fill, Refusal>
+    requires ready { Ready r.old.doc.now c.now f }
     requires parent_small { parent ≤ 1048576 }
     ensures keeps { Keeps r.old r.new }
-    ensures is { Begins r.old.doc.now kinds.interface c parent f (lent_to r.old) (lent_to r.new) result }
+    ensures is { Begins r.old.doc.now kinds.interface c.now parent f (lent_to r.old) (lent_to r.new) result }
 {
     let g = elements::interface_row(r.doc, &mut *r.rows, &mut *r.text, c, parent, f)?;
     contents::<InInterface>(r, c, f.rows, g)

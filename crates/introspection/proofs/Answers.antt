@@ -2,23 +2,18 @@
 -- Assumes nothing.
 use Prim.Native.Nat.{ℕ}
 use mathlib.Core.Path.{◌≡◌, refl, ap, ◌∙◌}
-use mathlib.Core.List.{List, [], ◌∷◌}
+use mathlib.Core.List.{List}
 use mathlib.Core.Bool.{Bool}
 use borrow.Author.Rules.{rules}
-use lib.Dec.{ltb}
 use lib.ListN.{length, replicate, get_or}
-use Rattle.std.specs.Prelude.{Result, Ok, Err}
+use Rattle.std.specs.Prelude.{Result}
 use Rattle.tables.specs.declared.Triple.{Triple}
 use Rattle.tables.specs.Triple.{inside, resolved}
 use Rattle.columns.specs.Entries.{Outcome}
 use Rattle.columns.specs.Entries as entries-of
 use Rattle.answers.specs.Text.{Text, answer_of, left_of, Says}
 use Rattle.messages.specs.Message.{message_of, warning_message_of}
-use Rattle.document.specs.Refusals.{shown_by}
 use Rattle.document.specs.Whole.{Room}
-use Rattle.document.specs.declared.Refusal.{Refusal}
-use Rattle.document.specs.Verdict.{Verdict}
-use Rattle.document.specs.declared.Counts.{Counts}
 use Rattle.faults.specs.declared.Fault.{Fault}
 use Rattle.order.specs.declared.Ordered.{Ordered}
 use Rattle.files.specs.Files as files
@@ -27,19 +22,9 @@ use Rattle.strict.specs.Strict as strict
 use Rattle.items.specs.Several.{several_writing, several_ends, WritesSeveral}
 use Rattle.items.specs.Writing.{writing, Writes}
 use Rattle.trees.specs.Writing.{tree_writing, WritesTree}
-use Rattle.introspection.specs.Words.{bit, verdict_words, answer_words, columns_words, Reads, ReadsStrictly, text_words, outcome_words, part_words, lookup_words, told_by, message_by, warning_message_by, refusal_words, order_words, ordering_words}
+use Rattle.introspection.specs.Words.{verdict_words, answer_words, columns_words, Reads, ReadsStrictly, text_words, outcome_words, part_words, lookup_words, told_by, message_by, warning_message_by, order_words, ordering_words}
 use Rattle.order.specs.Ordering as ordering
 use Rattle.order.specs.Steps.{Orders}
-
-pub refusal-words : {x : Refusal} {a b n d : ℕ} → n ≡ shown_by x.number → a ≡ bit (ltb 0 n) → b ≡ bit (ltb 1 n) → (x.number ∷ x.place ∷ 0 ∷ 0 ∷ 0 ∷ a ∷ x.first.at ∷ x.first.len ∷ b ∷ x.second.at ∷ x.second.len ∷ x.key ∷ d ∷ 0 ∷ 0 ∷ 0 ∷ []) ≡ refusal_words x d
-refusal-words n a b = rw (a, b, n) refl
-
-module _ {v : Verdict} where
-  pub verdict-refused : {x : Refusal} {d : ℕ} {ws : List ℕ} → v ≡ Err x → ws ≡ refusal_words x d → ws ≡ verdict_words v d
-  verdict-refused e h = h ∙ rw e refl
-
-  pub verdict-accepted : {n : Counts} {d : ℕ} → v ≡ Ok n → (0 ∷ 0 ∷ n.rows ∷ n.text ∷ n.warnings ∷ 0 ∷ 0 ∷ 0 ∷ 0 ∷ 0 ∷ 0 ∷ 0 ∷ d ∷ 0 ∷ 0 ∷ 0 ∷ []) ≡ verdict_words v d
-  verdict-accepted e = rw e refl
 
 module _ {raw rows warnings text decoded ws : List ℕ} {room : Room} {k : ℕ} {r : Reading} where
   pub reads : files.Reads raw room k rows warnings text decoded r → ws ≡ verdict_words r.verdict r.decoded → Reads raw room k rows warnings text decoded ws
@@ -61,31 +46,12 @@ module _ {raw rows warnings text decoded ws : List ℕ} {room : Room} {k : ℕ} 
   }
 
 module _ {a : Result ℕ Fault} where
-  pub answer-refused : {f : Fault} → a ≡ Err f → (f.number ∷ f.place ∷ 0 ∷ []) ≡ answer_words a
-  answer-refused e = rw e refl
-
-  pub answer-done : {n : ℕ} → a ≡ Ok n → (0 ∷ 0 ∷ n ∷ []) ≡ answer_words a
-  answer-done e = rw e refl
-
   pub text-words : (t : Text) {ws : List ℕ} → ws ≡ answer_words a → a ≡ answer_of t → ws ≡ text_words t
   text-words t h e = h ∙ ap answer_words e
 
 module _ {a : Result (Unit {0}) Fault} where
-  pub columns-refused : {f : Fault} → a ≡ Err f → (f.number ∷ f.place ∷ []) ≡ columns_words a
-  columns-refused e = rw e refl
-
-  pub columns-done : a ≡ Ok tt → (0 ∷ 0 ∷ []) ≡ columns_words a
-  columns-done e = rw e refl
-
   pub outcome-words : (o : Outcome) {ws : List ℕ} → ws ≡ columns_words a → a ≡ entries-of.answer_of o → ws ≡ outcome_words o
   outcome-words o h e = h ∙ ap columns_words e
-
-module _ {a : Result Ordered Fault} where
-  pub order-refused : {f : Fault} → a ≡ Err f → (f.number ∷ f.place ∷ 0 ∷ 0 ∷ []) ≡ order_words a
-  order-refused e = rw e refl
-
-  pub order-done : {o : Ordered} → a ≡ Ok o → (0 ∷ 0 ∷ o.definitions ∷ o.unnamed ∷ []) ≡ order_words a
-  order-done e = rw e refl
 
 -- of definitions that were ordered
 module _ {document x ws work out work' : List ℕ} {n room : ℕ} {a : Result Ordered Fault} (w : Orders document x ws n room work out work' a) where
@@ -143,7 +109,5 @@ module _ (document ws : List ℕ) (room : ℕ) {out : List ℕ} {a : Result ℕ 
   pub warning-left : Says (warning_message_of document (get_or ws 0 0) (get_or ws 2 0) (get_or ws 3 0) room) room out a → out ≡ left_of room (warning_message_by document ws room)
   unfolding warning_message_by
   warning-left s = s.left
-
-pub ruleset words = (refusal-words, verdict-refused, verdict-accepted, answer-refused, answer-done, columns-refused, columns-done, order-refused, order-done, rules)
 
 pub ruleset entries = (reads, reads-strictly, text-words, outcome-words, write-words, write-left, tree-words, tree_left, several-words, several-left, several-ends, lookup-words, message-words, message-left, warning_words, warning-left, ordered_words, ordered-left, ordered-idle, rules)

@@ -102,7 +102,7 @@ fn order_words(a: Result<Ordered, Fault>) -> [u64; 4]
 fn bit(yes: bool) -> u64
     ensures { result ≡ bit yes }
 {
-    if yes { 1 } else { 0 }
+    u64::from(yes)
 }
 
 fn part_words(yes: bool, t: Triple) -> [u64; 4]
@@ -129,7 +129,7 @@ pub fn introspection_read(
     *answer = verdict_words(v, r.decoded);
 }
 
-// Reads a file of the strict profile, as `introspection_read` does.
+// Reads a file of the strict profile, as `introspection_read` does. Both are functions for C, so the parameters stand in each.
 pub fn introspection_read_strict(
     document: &[u8],
     rows: &mut [u32],

@@ -4,3 +4,4 @@ pub mod Rows
 pub mod Children
 pub mod Words
 pub mod Order
+pub mod Written

@@ -11,6 +11,7 @@ use lib.Dec.{eqb, leb, ltb}
 use lib.ListN.{length, drop, get_or}
 use lib.Seq.{drop-drop, drop-nil, get_or-drop}
 use Rattle.slices.specs.Bytes.{if}
+use Rattle.slices.proofs.Runs.{and_both}
 use Rattle.document.specs.Kinds as kinds
 use Rattle.document.specs.Elements.{may_hold}
 use Rattle.items.specs.Words.{RowWords, row_of, rows_of}
@@ -52,15 +53,11 @@ kind_at_lem (suc n) (suc i) ws h =
 
 -- ---- sound rows
 
-pub both_true : (a b : Bool) → a && b ≡ true → (a ≡ true) × (b ≡ true)
-both_true true b e = (refl, e)
-both_true false b e = (cc, cc)
-
 pub before_it : (rows : List RowWords) (i : ℕ) (r : RowWords) → placed rows i r ≡ true → r.parent ≤ i
-before_it rows zero r e = omega (arith, eqb-true r.parent 0 (both_true (eqb r.kind kinds.node) (eqb r.parent 0) e).1)
+before_it rows zero r e = omega (arith, eqb-true r.parent 0 (and_both (eqb r.kind kinds.node) (eqb r.parent 0) e).1)
 before_it rows (suc i) r e =
-    let p = both_true (ltb 0 r.parent && leb r.parent (suc i)) (may_hold (kind_at rows (r.parent - 1)) r.kind) e in
-    leb-true r.parent (suc i) (both_true (ltb 0 r.parent) (leb r.parent (suc i)) p.0).1
+    let p = and_both (ltb 0 r.parent && leb r.parent (suc i)) (may_hold (kind_at rows (r.parent - 1)) r.kind) e in
+    leb-true r.parent (suc i) (and_both (ltb 0 r.parent) (leb r.parent (suc i)) p.0).1
 
 -- what a sound row is, part by part
 pub record RowIs (d x : List ℕ) (rows : List RowWords) (i : ℕ) (r : RowWords) : Type 0 where
@@ -77,7 +74,7 @@ pub record RowIs (d x : List ℕ) (rows : List RowWords) (i : ℕ) (r : RowWords
 pub row_parts : (d x : List ℕ) (rows : List RowWords) (i : ℕ) (r : RowWords) → sound_row d x rows i r ≡ true → RowIs d x rows i r
 unfolding sound_row good_row
 row_parts d x rows i r e =
-    let both = both_true (good_row d x rows i r) (counted d x r.kind (members_of (suc i) rows)) e in
+    let both = and_both (good_row d x rows i r) (counted d x r.kind (members_of (suc i) rows)) e in
     go
     (placed rows i r)
     (good_triple d x (name_use r.kind) (valid_name r.kind) r.name)
@@ -92,13 +89,13 @@ row_parts d x rows i r e =
   where
     go : {A : Type 0} (p n v t o s w l : Bool) → p && n && v && t && o && s && w && l ≡ true → (p ≡ true → n ≡ true → v ≡ true → t ≡ true → o ≡ true → s ≡ true → w ≡ true → l ≡ true → A) → A
     go p n v t o s w l e f =
-        let a = both_true (p && n && v && t && o && s && w) l e in
-        let b = both_true (p && n && v && t && o && s) w a.0 in
-        let c = both_true (p && n && v && t && o) s b.0 in
-        let d = both_true (p && n && v && t) o c.0 in
-        let e = both_true (p && n && v) t d.0 in
-        let g = both_true (p && n) v e.0 in
-        let h = both_true p n g.0 in
+        let a = and_both (p && n && v && t && o && s && w) l e in
+        let b = and_both (p && n && v && t && o && s) w a.0 in
+        let c = and_both (p && n && v && t && o) s b.0 in
+        let d = and_both (p && n && v && t) o c.0 in
+        let e = and_both (p && n && v) t d.0 in
+        let g = and_both (p && n) v e.0 in
+        let h = and_both p n g.0 in
         f h.0 h.1 g.1 e.1 d.1 c.1 b.1 a.1
 
 module _ (d x : List ℕ) where

@@ -19,18 +19,18 @@ impl Element for InAnnotation {
     ghost docs = { false };
 
     #[tactic(auto, using(crate::proofs::Members::bare_children))]
-    fn child(r: &mut Reader, c: StartTag, i: usize, f: Fill) -> Result<Fill, Refusal> {
+    fn child(r: &mut Reader, c: &StartTag, i: usize, f: Fill) -> Result<Fill, Refusal> {
         skip_unsupported(r.doc, r.classes, &mut *r.warnings, c, f)
     }
 }
 
 // An annotation.
 #[tactic(auto, using(crate::proofs::Members::elements))]
-pub fn annotation(r: &mut Reader, c: StartTag, parent: usize, f: Fill) -> Result<Fill, Refusal>
-    requires ready { Ready r.old.doc.now c f }
+pub fn annotation(r: &mut Reader, c: &StartTag, parent: usize, f: Fill) -> Result<Fill, Refusal>
+    requires ready { Ready r.old.doc.now c.now f }
     requires parent_small { parent ≤ 1048576 }
     ensures keeps { Keeps r.old r.new }
-    ensures is { Begins r.old.doc.now kinds.annotation c parent f (lent_to r.old) (lent_to r.new) result }
+    ensures is { Begins r.old.doc.now kinds.annotation c.now parent f (lent_to r.old) (lent_to r.new) result }
 {
     let g = elements::annotation_row(r.doc, &mut *r.rows, &mut *r.text, c, parent, f)?;
     contents::<InAnnotation>(r, c, f.rows, g)
@@ -45,7 +45,7 @@ impl Element for InValue {
     ghost docs = { true };
 
     #[tactic(auto, using(crate::proofs::Members::children))]
-    fn child(r: &mut Reader, c: StartTag, i: usize, f: Fill) -> Result<Fill, Refusal> {
+    fn child(r: &mut Reader, c: &StartTag, i: usize, f: Fill) -> Result<Fill, Refusal> {
         match c.kind {
             kinds::ANNOTATION => annotation(r, c, i + 1, f),
             _ => docstring_or_skip(r.doc, r.classes, &mut *r.rows, &mut *r.warnings, c, i, f),
@@ -55,11 +55,11 @@ impl Element for InValue {
 
 // An arg.
 #[tactic(auto, using(crate::proofs::Members::elements))]
-pub fn arg(r: &mut Reader, c: StartTag, parent: usize, f: Fill) -> Result<Fill, Refusal>
-    requires ready { Ready r.old.doc.now c f }
+pub fn arg(r: &mut Reader, c: &StartTag, parent: usize, f: Fill) -> Result<Fill, Refusal>
+    requires ready { Ready r.old.doc.now c.now f }
     requires parent_small { parent ≤ 1048576 }
     ensures keeps { Keeps r.old r.new }
-    ensures is { Begins r.old.doc.now kinds.arg c parent f (lent_to r.old) (lent_to r.new) result }
+    ensures is { Begins r.old.doc.now kinds.arg c.now parent f (lent_to r.old) (lent_to r.new) result }
 {
     let g = elements::arg_row(r.doc, &mut *r.rows, &mut *r.text, c, parent, f)?;
     contents::<InValue>(r, c, f.rows, g)
@@ -67,11 +67,11 @@ pub fn arg(r: &mut Reader, c: StartTag, parent: usize, f: Fill) -> Result<Fill, 
 
 // A property.
 #[tactic(auto, using(crate::proofs::Members::elements))]
-pub fn property(r: &mut Reader, c: StartTag, parent: usize, f: Fill) -> Result<Fill, Refusal>
-    requires ready { Ready r.old.doc.now c f }
+pub fn property(r: &mut Reader, c: &StartTag, parent: usize, f: Fill) -> Result<Fill, Refusal>
+    requires ready { Ready r.old.doc.now c.now f }
     requires parent_small { parent ≤ 1048576 }
     ensures keeps { Keeps r.old r.new }
-    ensures is { Begins r.old.doc.now kinds.property c parent f (lent_to r.old) (lent_to r.new) result }
+    ensures is { Begins r.old.doc.now kinds.property c.now parent f (lent_to r.old) (lent_to r.new) result }
 {
     let g = elements::property_row(r.doc, &mut *r.rows, &mut *r.text, c, parent, f)?;
     contents::<InValue>(r, c, f.rows, g)
@@ -86,7 +86,7 @@ impl Element for InCallable {
     ghost docs = { true };
 
     #[tactic(auto, using(crate::proofs::Members::children))]
-    fn child(r: &mut Reader, c: StartTag, i: usize, f: Fill) -> Result<Fill, Refusal> {
+    fn child(r: &mut Reader, c: &StartTag, i: usize, f: Fill) -> Result<Fill, Refusal> {
         match c.kind {
             kinds::ARG => arg(r, c, i + 1, f),
             kinds::ANNOTATION => annotation(r, c, i + 1, f),
@@ -99,16 +99,16 @@ impl Element for InCallable {
 #[tactic(auto, using(crate::proofs::Members::callables))]
 pub fn callable(
     r: &mut Reader,
-    c: StartTag,
+    c: &StartTag,
     kind: u32,
     parent: usize,
     f: Fill,
 ) -> Result<Fill, Refusal>
-    requires ready { Ready r.old.doc.now c f }
+    requires ready { Ready r.old.doc.now c.now f }
     requires parent_small { parent ≤ 1048576 }
     requires of_kind { CallableKind kind }
     ensures keeps { Keeps r.old r.new }
-    ensures is { Begins r.old.doc.now kind c parent f (lent_to r.old) (lent_to r.new) result }
+    ensures is { Begins r.old.doc.now kind c.now parent f (lent_to r.old) (lent_to r.new) result }
 {
     let g = elements::callable_row(r.doc, &mut *r.rows, &mut *r.text, c, kind, parent, f)?;
     contents::<InCallable>(r, c, f.rows, g)

@@ -12,7 +12,7 @@ use Rattle.slices.specs.Bytes.{bytes}
 use Rattle.answers.specs.Text.{Text, text, wrong, roomy, Says}
 use Rattle.messages.specs.Texts.{Entry, words, pieces_of, refusals, warnings, key_name}
 use Rattle.messages.specs.Message.{excerpt_of, present, joined, framed, message_by}
-use Rattle.messages.specs.Steps.{NoneOf, PlainText, NoText, Plainly, Unexpected, Missing, NoKey, Lacking, Turned, Malformed, NoReason, Warned}
+use Rattle.messages.specs.Steps.{NoneOf, PlainText, NoText, Plainly, Missing, NoKey, Lacking, Turned, Malformed, NoReason, Warned}
 use Rattle.messages.specs.declared.Wide.{Wide}
 use Rattle.messages.specs.declared.Told.{Told}
 
@@ -31,11 +31,8 @@ words_joined a b c (text t) = sym (ap text (append_assoc a (b ++ c) t ∙ ap (�
 words_joined a b c (wrong n p) = refl
 
 -- the text of a number that shows nothing
-pub text_by : (k : ℕ) {number : ℕ} {s : List ℕ} → number ≡ k → pieces_of refusals k ≡ words s ∷ [] → length s < 1024 → PlainText number s
-text_by k e q l = record { is = λ h. rw e q; short = l }
-
-pub no_text : {number : ℕ} → (number ≡ 1 → ⊥) → (number ≡ 2 → ⊥) → (number ≡ 3 → ⊥) → (number ≡ 4 → ⊥) → (number ≡ 7 → ⊥) → (number ≡ 9 → ⊥) → (number ≡ 13 → ⊥) → (number ≡ 14 → ⊥) → (number ≡ 17 → ⊥) → (number ≡ 18 → ⊥) → (number ≡ 19 → ⊥) → (number ≡ 20 → ⊥) → (number ≡ 21 → ⊥) → (number ≡ 22 → ⊥) → (number ≡ 23 → ⊥) → (number ≡ 24 → ⊥) → (number ≡ 25 → ⊥) → (number ≡ 26 → ⊥) → (number ≡ 27 → ⊥) → (number ≡ 28 → ⊥) → (number ≡ 29 → ⊥) → (number ≡ 30 → ⊥) → NoText number
-no_text {number} p1 p2 p3 p4 p7 p9 p13 p14 p17 p18 p19 p20 p21 p22 p23 p24 p25 p26 p27 p28 p29 p30 = record { is = λ h. unknown refusals number (p1, (p2, (p3, (p4, (h.0, (h.1.0, (p7, (h.1.1.0, (p9, (h.1.1.1.0, (h.1.1.1.1.0, (h.1.1.1.1.1.0, (p13, (p14, (h.1.1.1.1.1.1.0, (h.1.1.1.1.1.1.1.0, (p17, (p18, (p19, (p20, (p21, (p22, (p23, (p24, (p25, (p26, (p27, (p28, (p29, (p30, tt)))))))))))))))))))))))))))))) }
+pub text_by : {k number : ℕ} {s : List ℕ} → number ≡ k → pieces_of refusals k ≡ words s ∷ [] → length s < 1024 → PlainText number s
+text_by e q l = record { is = λ h. rw e q; short = l }
 
 -- keys
 pub missing_by : (k : ℕ) {key : ℕ} {s : List ℕ} → key ≡ k → present (key_name k) ≡ text (key_name k) → s ≡ bytes "missing attribute `" ++ (key_name k ++ bytes "` on `<") → length s < 1024 → Missing key s
@@ -45,15 +42,9 @@ missing_by k e p q l = record {
   short = l;
 }
 
-pub no_key : {key : ℕ} → (key ≡ 1 → ⊥) → (key ≡ 2 → ⊥) → (key ≡ 3 → ⊥) → (key ≡ 4 → ⊥) → NoKey key
-no_key {key} a b c d = record { is = rw (ne_eqb key 1 a, ne_eqb key 2 b, ne_eqb key 3 c, ne_eqb key 4 d) }
-
 -- reasons from 2 on
-pub malformed_by : (k : ℕ) {reason : ℕ} {s : List ℕ} → reason ≡ k → ((doc : List ℕ) (x : Told) → message_by doc x (pieces_of warnings k) ≡ framed (bytes "malformed element `<") (excerpt_of doc x.first) s) → length s < 1024 → Malformed reason s
-malformed_by k e q l = record { is = rw e q; short = l }
-
-pub no_reason : {reason : ℕ} → (reason ≡ 2 → ⊥) → (reason ≡ 3 → ⊥) → (reason ≡ 4 → ⊥) → (reason ≡ 5 → ⊥) → (reason ≡ 6 → ⊥) → (reason ≡ 7 → ⊥) → (reason ≡ 8 → ⊥) → (reason ≡ 9 → ⊥) → NoReason reason
-no_reason {reason} p2 p3 p4 p5 p6 p7 p8 p9 = record { is = λ p1. unknown warnings reason (p1, (p2, (p3, (p4, (p5, (p6, (p7, (p8, (p9, tt))))))))) }
+pub malformed_by : {k reason : ℕ} {s : List ℕ} → reason ≡ k → ((doc : List ℕ) (x : Told) → message_by doc x (pieces_of warnings k) ≡ framed (bytes "malformed element `<") (excerpt_of doc x.first) s) → length s < 1024 → Malformed reason s
+malformed_by e q l = record { is = rw e q; short = l }
 
 module _ {room : ℕ} {u : List ℕ} {r : Result ℕ Fault} where
   -- numbers that show nothing
@@ -78,15 +69,6 @@ module _ {room : ℕ} {u : List ℕ} {r : Result ℕ Fault} where
   pub turned_framed : (k : ℕ) {doc : List ℕ} {x : Told} (o : Text) {w z b a : List ℕ} → x.number ≡ k → b ≡ w → a ≡ z → message_by doc x (pieces_of refusals k) ≡ framed w o z → Says (roomy room (framed b o a)) room u r → Turned doc x room u r
   turned_framed k o e f g q s = turned_by k e (rw (q, ← f, ← g) s)
 
-  pub turned_lacking : {doc : List ℕ} {x : Told} → x.number ≡ 12 → Lacking doc x.first x.key room u r → Turned doc x room u r
-  turned_lacking {x = x} e s = turned_by 12 e (s.says x refl refl)
-
-  pub turned_unexpected : {doc : List ℕ} {x : Told} → x.number ≡ 6 → Unexpected doc x.first x.second room u r → Turned doc x room u r
-  turned_unexpected {x = x} e s = turned_by 6 e (s.says x refl refl)
-
-  pub turned_plain : {doc : List ℕ} {x : Told} → Plainly x.number room u r → (x.number ≡ 5 → ⊥) → (x.number ≡ 6 → ⊥) → (x.number ≡ 8 → ⊥) → (x.number ≡ 10 → ⊥) → (x.number ≡ 11 → ⊥) → (x.number ≡ 12 → ⊥) → (x.number ≡ 15 → ⊥) → (x.number ≡ 16 → ⊥) → Turned doc x room u r
-  turned_plain {doc} {x} s p5 p6 p8 p10 p11 p12 p15 p16 = record { says = s.says (p5, (p6, (p8, (p10, (p11, (p12, (p15, (p16, tt)))))))) doc x }
-
   -- reasons
   pub warned_first : {doc b a : List ℕ} {name : Wide} {reason : ℕ} → reason ≡ 1 → b ≡ bytes "unsupported element `<" → a ≡ bytes ">` ignored" → Says (roomy room (framed b (excerpt_of doc name) a)) room u r → Warned doc reason name room u r
   unfolding framed
@@ -99,3 +81,5 @@ module _ {room : ℕ} {u : List ℕ} {r : Result ℕ Fault} where
   warned_unknown h n s = record { says = λ x f. rw (n.is h) s }
 
 pub ruleset cutting = (text_told, text_none, lacking_told, lacking_unknown, warned_first, warned_told, warned_unknown, rules)
+
+pub ruleset texts = (text_by, malformed_by, rules)

@@ -108,6 +108,7 @@ fn unescaped(value: Part, frame: Frame, out: &mut [u8]) -> TextAnswer
 }
 
 // Words around the raw value at a triple, unescaped.
+// Not one function with `named`: both share a match of two lines, and what differs would be handed over with clauses of its own.
 pub fn valued(document: Part, t: Wide, frame: Frame, out: &mut [u8]) -> TextAnswer
     ensures { Says
         (roomy (length out.old) (framed frame.entry.before.now (unescaped_of (excerpt_of document.entry.bytes.now t)) frame.entry.after.now))

@@ -7,6 +7,7 @@ use crate::{Told, Wide, shown};
 use answers::TextAnswer;
 
 // The text of a number that shows nothing, if it has one.
+#[tactic(auto, using(crate::proofs::Numbers::texts))]
 fn plain_text(number: u64) -> Option<&'static [u8]>
     ensures some { IfSome result (λ s. PlainText number s.now) }
     ensures none { IfNone result (NoText number) }
@@ -39,6 +40,7 @@ fn plain_text(number: u64) -> Option<&'static [u8]>
 }
 
 // Numbers that show nothing.
+#[tactic(auto, using(crate::proofs::Numbers::cutting))]
 pub fn plainly(number: u64, out: &mut [u8]) -> TextAnswer
     ensures { Plainly number (length out.old) out.new result }
 {
@@ -63,6 +65,7 @@ fn missing(key: u64) -> Option<&'static [u8]>
 }
 
 // 12: the key that is missing, and the element's name.
+#[tactic(auto, using(crate::proofs::Numbers::cutting))]
 fn lacking(document: Part, name: Wide, key: u64, out: &mut [u8]) -> TextAnswer
     ensures { Lacking document.entry.bytes.now name key (length out.old) out.new result }
 {
@@ -113,6 +116,7 @@ pub fn told(document: Part, told: Told, out: &mut [u8]) -> TextAnswer
 }
 
 // What a warning says after the name of a malformed element, by its reason.
+#[tactic(auto, using(crate::proofs::Numbers::texts), unfolding(crate::specs::Message::framed))]
 fn malformed(reason: u32) -> Option<&'static [u8]>
     ensures some { IfSome result (λ s. Malformed reason s.now) }
     ensures none { IfNone result (NoReason reason) }
@@ -133,6 +137,7 @@ fn malformed(reason: u32) -> Option<&'static [u8]>
 }
 
 // A warning's reason, and the element's name.
+#[tactic(auto, using(crate::proofs::Numbers::cutting))]
 pub fn warned(document: Part, reason: u32, name: Wide, out: &mut [u8]) -> TextAnswer
     ensures { Warned document.entry.bytes.now reason name (length out.old) out.new result }
 {

@@ -51,7 +51,7 @@ pub fn interface_name(s: &[u8]) -> bool
         return false;
     }
     let mut at = 0;
-    // Whether there was a dot goes by no value, and the next place is what the call found.
+    // A loop, since the next place is what the call found. That there was a dot has no value beside it that an Option could hold.
     let mut dotted = false;
     loop {
         let e = element(s, at);
@@ -92,7 +92,7 @@ fn basic(b: u8) -> bool
 fn entry(s: &[u8], key: usize, arrays: u32, parens: u32) -> Option<usize>
     ensures { Entered s.now key arrays parens result }
 {
-    // Four tests: the proof of two with `||` did not close.
+    // Four tests and not two with `||`, over which the proof does not close.
     if s.len() <= key {
         return None;
     }

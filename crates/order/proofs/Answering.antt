@@ -1,7 +1,7 @@
 -- Laws of the answer: what is left in the words lent, and which refusal it is.
 -- Assumes nothing.
 use Prim.Native.Nat.{ℕ, ◌≤◌, ◌<◌}
-use mathlib.Core.Path.{◌≡◌, refl, sym, ap, ◌∙◌}
+use mathlib.Core.Path.{◌≡◌, refl, sym, ap, subst, ◌∙◌}
 use mathlib.Core.List.{List}
 use borrow.Author.Rules.{rules}
 use borrow.Author.Tests.{lt-ltb, le-ltb}
@@ -13,12 +13,11 @@ use Rattle.tables.proofs.Tables.{clear_all, clear_rest}
 use Rattle.items.specs.Words.{rows_shown}
 use Rattle.items.specs.Content.{Row}
 use Rattle.items.proofs.Rows.{sound_claimed, sound_held}
-use Rattle.soundness.specs.Outcome.{Judges}
-use Rattle.soundness.proofs.Rows.{judged_sound, judged_unsound}
+use Rattle.soundness.specs.Outcome.{Admits}
+use Rattle.soundness.proofs.Rows.{admitted, refused_as, admitted_as}
 use Rattle.order.specs.Relation.{order, Chain}
 use Rattle.order.specs.Types.{definitions, uses}
-use Rattle.order.specs.Ordering.{wrong, ordering, Says}
-use Rattle.order.specs.Statement.{Sound}
+use Rattle.order.specs.Ordering.{wrong, types_ordered, checked, ordering, Says}
 use Rattle.std.specs.Prelude.{Result, Ok, Err, Option as Maybe, None, Some}
 use Rattle.faults.specs.Fault.{fault}
 use Rattle.faults.specs.declared.Fault.{Fault}
@@ -27,7 +26,7 @@ use Rattle.order.specs.Steps.{Held, GivenOut, Clear, CircleFound, CountsUndefine
 use Rattle.order.proofs.Lists.{clash}
 use Rattle.order.proofs.Taking.{order_orders}
 use Rattle.order.proofs.Tables.{definitions_ascend, used_listed}
-use Rattle.order.proofs.Theorems.{sound_ordering, at_circle, no_circle, stops, none_on_circle}
+use Rattle.order.proofs.Theorems.{at_circle, no_circle, stops, none_on_circle}
 
 pub refused : {t t' : List ℕ} {n p : ℕ} → Wiped 0 t t' → Says (wrong n p) (length t) t' (Err (fault n p))
 refused {t} z = record { answer = refl; left = z.is ∙ clear_all t }
@@ -92,30 +91,23 @@ pub ruleset sounds = (as_long, given_long, rules)
 
 -- ---- any table
 
-module _ {d x ws out : List ℕ} {n room : ℕ} {r : Result Ordered Fault} where
-  pub long_document : 1048576 < length d → Says (wrong 2 1048576) room out r → Answers d x ws n room out r
+module _ {d x ws out : List ℕ} {n room : ℕ} {r : Result Ordered Fault} {z : Result (Unit {0}) Fault} (g : Admits d x ws n z) where
+  pub refused_rows : {f : Fault} → z ≡ Err f → Says (wrong f.number f.place) room out r → Answers d x ws n room out r
   unfolding ordering
-  long_document h s = record { says = rw (lt-ltb 1048576 (length d) h) s }
+  refused_rows e s =
+      let a = refused_as g wrong (λ v. checked v (types_ordered room (rows_shown d x ws n))) (λ p. refl) e in
+      record { says = subst (λ o. Says o room out r) (sym a) s }
 
-  module _ (h : length d ≤ 1048576) where
-    pub long_text : 1048576 < length x → Says (wrong 2 1048576) room out r → Answers d x ws n room out r
-    unfolding ordering
-    long_text k s = record { says = rw (le-ltb 1048576 (length d) h, lt-ltb 1048576 (length x) k) s }
+  pub is_sound : {u : Unit {0}} → z ≡ Ok u → OrdersSound (rows_shown d x ws n) room out r → Answers d x ws n room out r
+  unfolding ordering
+  is_sound e s =
+      let a = admitted_as g wrong (λ v. checked v (types_ordered room (rows_shown d x ws n))) e in
+      record { says = subst (λ o. Says o room out r) (sym a) s.says }
 
-    module _ (k : length x ≤ 1048576) {z : Result (Unit {0}) ℕ} (g : Judges d x ws n z) where
-      pub not_sound : {p : ℕ} → z ≡ Err p → Says (wrong 19 p) room out r → Answers d x ws n room out r
-      unfolding ordering
-      not_sound e s = record { says = rw (le-ltb 1048576 (length d) h, le-ltb 1048576 (length x) k, judged_unsound g e) s }
+pub admits : {d x ws : List ℕ} {n : ℕ} {z : Result (Unit {0}) Fault} {u : Unit {0}} → Admits d x ws n z → z ≡ Ok u → Held ws n
+admits {d} {x} {ws} {n} g e = let a = admitted g e in record { few = sound_claimed d x ws n a.2; held = sound_held d x ws n a.2 }
 
-      pub is_sound : {u : Unit {0}} → z ≡ Ok u → OrdersSound (rows_shown d x ws n) room out r → Answers d x ws n room out r
-      is_sound e s =
-          let q : Sound d x ws n = record { short = h; brief = k; sound = judged_sound g e } in
-          record { says = rw (sound_ordering d x ws n room q) s.says }
-
-pub admits : {u : Unit {0}} → {d x ws : List ℕ} {n : ℕ} {z : Result (Unit {0}) ℕ} → Judges d x ws n z → z ≡ Ok u → Held ws n
-admits {d} {x} {ws} {n} g e = record { few = sound_claimed d x ws n (judged_sound g e); held = sound_held d x ws n (judged_sound g e) }
-
-pub ruleset entry = (long_document, long_text, not_sound, is_sound, admits, rules)
+pub ruleset entry = (refused_rows, is_sound, admits, rules)
 
 -- ---- the entry
 

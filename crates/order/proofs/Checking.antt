@@ -14,6 +14,7 @@ use Rattle.std.specs.Prelude.{Option as Maybe, None, Some}
 use Rattle.std.specs.Bool.{MatchBool}
 use Rattle.std.specs.List.{AllWithin, HoldsAt, range_with_len}
 use Rattle.slices.specs.Bytes.{if}
+use Rattle.slices.proofs.Runs.{and_both}
 use Rattle.utf8.proofs.Sequences.{below}
 use Rattle.document.specs.Kinds as kinds
 use Rattle.document.specs.Elements.{among}
@@ -24,8 +25,8 @@ use Rattle.order.specs.Relation.{Chain, one}
 use Rattle.order.specs.Types.{member_in, uses}
 use Rattle.order.specs.Lookup.{listed, referred_by, targets_in, targets}
 use Rattle.order.specs.Steps.{Held, Adds, shown_at, Defines, MemberIn, Within, found, target, Target, BearsNone}
-use Rattle.order.specs.Certificate.{Got, IsParent, member_of, Falls, EdgeFalls, Late, RowFalls, Members, Follows, IsCircle, run_of, RunIs, Runs, RunBefore, Above, IsNoted, Placed, IsNext, PlacedBefore, IsAscending, IsPlaced, ArePlaced}
-use Rattle.order.proofs.Lists.{clash, apart, or_else, first_true, second_true, both, each_below}
+use Rattle.order.specs.Certificate.{Got, IsParent, member_of, Falls, EdgeFalls, Late, RowFalls, Members, Follows, IsCircle, run_of, RunIs, Runs, RunBefore, Above, IsNoted, Placed, IsNext, PlacedBefore, IsPlaced, ArePlaced}
+use Rattle.order.proofs.Lists.{clash, apart, or_else, first_true, second_true, each_below}
 use Rattle.order.proofs.Circles.{chained}
 use Rattle.order.proofs.Lookups.{among_append, listed_is, is_listed, uses_targets}
 use Rattle.order.proofs.Finding.{shown_at_lem, shown_past, finds_some}
@@ -143,7 +144,7 @@ module _ {d x ws work : List ℕ} {n p m : ℕ} where
   module _ {u : ℕ} {o e f : Maybe ℕ} {b c : Bool} (w : IsParent d x ws n m o) (v : o ≡ Some u) (l : m < n) (s : Target d x ws n false m e) (t : Target d x ws n true m f) (y : EdgeFalls n work p u (m + m + 1) e b) (yb : not b ≡ false) (z : EdgeFalls n work p u (m + m + 2) f c) (zc : not c ≡ false) where
     owner : (i : ℕ) → member_in i (shown_at d x ws m) ≡ true → u ≡ i
     owner i a =
-        let o = (both (eqb (shown_at d x ws m).kind 12) (eqb (shown_at d x ws m).parent (suc i)) a).1 in
+        let o = (and_both (eqb (shown_at d x ws m).kind 12) (eqb (shown_at d x ws m).parent (suc i)) a).1 in
         omega (arith, w.is u v, eqb-true (shown_at d x ws m).parent (suc i) o)
 
     falls_to : (less : Bool) (j : ℕ) → target (rows_shown d x ws n) less (shown_at d x ws m).tp ≡ some j → Falls n work p u j
@@ -302,21 +303,6 @@ next_is {d} {x} {ws} {work} {out} {n} {k} {r} {a} {s} {b} {c} {q} l g f h v y m 
         }
 
 pub ruleset nexts = (next_never, placed_runs, next_is, row_held, rules)
-
-pub placed_begins : {d x ws work out : List ℕ} {n : ℕ} → PlacedBefore d x ws n work out 0
-placed_begins = record { is = λ i l. absurd (omega arith) }
-
-pub ascending_never : {d x ws work out : List ℕ} {n count : ℕ} → IsAscending d x ws n work out count false
-ascending_never = record { is = λ e. clash e refl }
-
-module _ {d x ws work out : List ℕ} {n k : ℕ} (g : PlacedBefore d x ws n work out k) where
-  pub placed_ends : {count : ℕ} → count ≤ k → IsAscending d x ws n work out count true
-  placed_ends h = record { is = λ e. record { is = λ i l. g.is i (omega arith) } }
-
-  pub placed_more : {b : Bool} → IsNext d x ws n work out k b → not b ≡ false → PlacedBefore d x ws n work out (k + 1)
-  placed_more {b} f h = record { is = λ i l. below i k (g.is i) (λ o. let e : k ≡ i = omega arith in rw e at (f.is (not-false b h))) }
-
-pub ruleset ascending = (placed_begins, ascending_never, placed_ends, placed_more, rules)
 
 module _ {work out : List ℕ} {n count r : ℕ} where
   pub place_never : {t : List Row} → IsPlaced t n work out count r false

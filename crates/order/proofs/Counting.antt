@@ -1,8 +1,8 @@
 -- Laws of the two counts.
 -- Assumes nothing.
-use Prim.Native.Nat.{ℕ, suc, ◌+◌, ◌*◌, ◌≤◌, ◌<◌}
+use Prim.Native.Nat.{ℕ, zero, suc, ◌+◌, ◌*◌, ◌≤◌, ◌<◌}
 use mathlib.Core.Path.{◌≡◌, refl, sym, ap, ◌∙◌}
-use mathlib.Core.List.{List, ◌∷◌, ◌++◌}
+use mathlib.Core.List.{List, [], ◌∷◌, ◌++◌}
 use mathlib.Core.Option.{Option, none, some}
 use mathlib.Core.Bool.{Bool, true, false, not}
 use borrow.Author.Rules.{rules}
@@ -10,7 +10,8 @@ use borrow.Author.Tests.{ne_eqb, not-true, not-false}
 use native.Mathlib.Numerals.{add-one}
 use native.Mathlib.Omega.{arith}
 use lib.ListN.{length, drop}
-use Rattle.std.specs.Prelude.{Option as Maybe, None, Some, is_some}
+use Rattle.std.specs.Prelude.{Option as Maybe, None, Some, is_some, filter, cond}
+use Rattle.std.specs.List.{range_with_len}
 use Rattle.slices.specs.Bytes.{if, empty}
 use Rattle.tables.specs.Triple.{shown}
 use Rattle.tables.specs.declared.Triple.{Triple}
@@ -18,52 +19,49 @@ use Rattle.document.specs.Kinds as kinds
 use Rattle.items.specs.Words.{Word, TripleIs, row_of, rows_shown, absent}
 use Rattle.items.specs.Content.{Row}
 use Rattle.items.proofs.Words.{word_in}
-use Rattle.order.specs.Types.{defines, definitions_from, definitions, typed, defined, is_undefined, undefined_in, undefined}
+use Rattle.order.specs.Types.{defines, definitions_from, typed, defined, is_undefined, undefined_in, undefined}
 use Rattle.order.specs.Lookup.{listed, referred, referred_by}
-use Rattle.order.specs.Steps.{Held, shown_at, Defines, target, Target, Adds, BearsNone, IsUndefined, CountsUndefined, CountsDefinitions}
+use Rattle.order.specs.Steps.{shown_at, Defines, target, Target, Adds, BearsNone, IsUndefined, CountsUndefined, CountsDefinitions}
 use Rattle.order.proofs.Lookups.{defined_referred}
-use Rattle.order.proofs.Finding.{shown_at_lem, shown_past, finds_some, finds_none}
+use Rattle.order.proofs.Finding.{shown_at_lem, shown_past, finds_some, finds_none, tp_is}
 use Rattle.order.proofs.Waiting.{referred_targets, row_held}
 
 one_most : (b : Bool) → if b 1 0 ≤ 1
 one_most true = omega arith
 one_most false = omega arith
 
+-- a count of the rows that pass a test, by a list of their numbers
+module _ (p : Row → Bool) (f : ℕ → List Row → ℕ) (none : (k : ℕ) → f k [] ≡ 0) (more : (k : ℕ) (row : Row) (rest : List Row) → f k (row ∷ rest) ≡ if (p row) 1 0 + f (suc k) rest) (d x ws : List ℕ) (n : ℕ) where
+  pub counted : (m k : ℕ) → k + m ≡ n → f k (drop k (rows_shown d x ws n)) ≡ length (filter (λ j. p (shown_at d x ws j)) (range_with_len k m))
+  counted zero k h = ap (f k) (shown_past d x ws n k (omega (arith, h))) ∙ none k
+  counted (suc m) k h =
+      let e = ap (f k) (shown_at_lem d x ws n k (omega (arith, h))) ∙ more k (shown_at d x ws k) (drop (suc k) (rows_shown d x ws n)) in
+      let g : f (suc k) (drop (suc k) (rows_shown d x ws n)) ≡ length (filter (λ j. p (shown_at d x ws j)) (range_with_len (k + 1) m)) = rw add-one (counted m (suc k) (omega (arith, h))) in
+      e ∙ go (p (shown_at d x ws k)) _ g
+    where
+      go : (b : Bool) {a : ℕ} (ks : List ℕ) → a ≡ length ks → if b 1 0 + a ≡ length (cond b (k ∷ ks) ks)
+      go true ks e = omega (arith, e)
+      go false ks e = omega (arith, e)
+
 -- ---- definitions
 
-pub record Defining (d x ws : List ℕ) (n k c : ℕ) : Type 0 where
-  pub is : c + length (definitions_from k (drop k (rows_shown d x ws n))) ≡ length (definitions (rows_shown d x ws n))
-  pub most : c ≤ k
+module _ (k : ℕ) (row : Row) (rest : List Row) where
+  more_from : length (definitions_from k (row ∷ rest)) ≡ if (defines row) 1 0 + length (definitions_from (suc k) rest)
+  more_from = go (defines row)
+    where
+      go : (b : Bool) → length (if b (k ∷ definitions_from (suc k) rest) (definitions_from (suc k) rest)) ≡ if b 1 0 + length (definitions_from (suc k) rest)
+      go true = omega arith
+      go false = omega arith
 
-pub defining_begins : {d x ws : List ℕ} {n : ℕ} → Defining d x ws n 0 0
-defining_begins = record { is = omega arith; most = omega arith }
+pub defines_is : {d x ws : List ℕ} {k : ℕ} {b : Bool} → Defines d x ws k b → b ≡ defines (shown_at d x ws k)
+defines_is a = a.is
 
-more_from : (k : ℕ) (row : Row) (rest : List Row) → length (definitions_from k (row ∷ rest)) ≡ if (defines row) 1 0 + length (definitions_from (suc k) rest)
-more_from k row rest = go (defines row)
-  where
-    go : (b : Bool) → length (if b (k ∷ definitions_from (suc k) rest) (definitions_from (suc k) rest)) ≡ if b 1 0 + length (definitions_from (suc k) rest)
-    go true = omega arith
-    go false = omega arith
-
-module _ {d x ws : List ℕ} {n k c : ℕ} (g : Defining d x ws n k c) where
-  pub defining_ends : n ≤ k → CountsDefinitions (rows_shown d x ws n) c
-  defining_ends h = record { is = omega (arith, g.is, ap (λ (rs : List Row). length (definitions_from k rs)) (shown_past d x ws n k h)) }
-
-  pub defining_more : {b : Bool} {r : ℕ} → k < n → Defines d x ws k b → Adds c b r → Defining d x ws n (k + 1) r
-  defining_more {b} {r} l a p =
-      let e = ap (λ (rs : List Row). length (definitions_from k rs)) (shown_at_lem d x ws n k l) ∙ more_from k (shown_at d x ws k) (drop (suc k) (rows_shown d x ws n)) in
-      let f : ◌≡◌ {A = ℕ} (if b 1 0) (if (defines (shown_at d x ws k)) 1 0) = ap (λ (z : Bool). if z 1 0) a.is in
-      record { is = rw add-one (omega (arith, g.is, e, f, p.is)); most = omega (arith, g.most, p.is, one_most b) }
-
-pub defining_few : {d x ws : List ℕ} {n k c : ℕ} → Defining d x ws n k c → Held ws n → k < n → c ≤ 262144
-defining_few g h l = omega (arith, g.most, h.few)
-
-pub ruleset defining = (defining_begins, defining_ends, defining_more, defining_few, row_held, rules)
+pub counted_definitions : (d x ws : List ℕ) (n : ℕ) {r : ℕ} → r ≡ length (filter (λ k. defines (shown_at d x ws k)) (range_with_len 0 n)) → CountsDefinitions (rows_shown d x ws n) r
+counted_definitions d x ws n e = record {
+  is = e ∙ sym (counted defines (λ k t. length (definitions_from k t)) (λ k. refl) more_from d x ws n n 0 (omega arith));
+}
 
 -- ---- members that bear names of no row
-
-tp_is : {ws : List ℕ} {m : ℕ} {b : Bool} {p : Triple} → TripleIs ws m 8 p → b ≡ absent p → absent (row_of (drop (m * 16) ws)).tp ≡ b
-tp_is t f = sym (f ∙ ap absent t.is)
 
 twice : (z : Bool) → not (not z) ≡ z
 twice true = refl
@@ -118,6 +116,15 @@ module _ {d x ws : List ℕ} {n m k : ℕ} (a : Word ws m 0 k) where
 
 pub ruleset undefineds = (undefined_other, undefined_member, row_held, rules)
 
+module _ (t : List Row) (k : ℕ) (row : Row) (rest : List Row) where
+  more_missing : undefined_in t (row ∷ rest) ≡ if (is_undefined t row) 1 0 + undefined_in t rest
+  more_missing = go (is_undefined t row)
+    where
+      go : (b : Bool) → if b (suc (undefined_in t rest)) (undefined_in t rest) ≡ if b 1 0 + undefined_in t rest
+      go true = omega arith
+      go false = omega arith
+
+-- a count by a loop
 pub record Missing (d x ws : List ℕ) (n k c : ℕ) : Type 0 where
   pub is : c + undefined_in (rows_shown d x ws n) (drop k (rows_shown d x ws n)) ≡ undefined (rows_shown d x ws n)
   pub most : c ≤ k
@@ -126,24 +133,23 @@ pub missing_begins : {d x ws : List ℕ} {n : ℕ} → Missing d x ws n 0 0
 unfolding undefined
 missing_begins = record { is = omega arith; most = omega arith }
 
-more_missing : (t : List Row) (row : Row) (rest : List Row) → undefined_in t (row ∷ rest) ≡ if (is_undefined t row) 1 0 + undefined_in t rest
-more_missing t row rest = go (is_undefined t row)
-  where
-    go : (b : Bool) → if b (suc (undefined_in t rest)) (undefined_in t rest) ≡ if b 1 0 + undefined_in t rest
-    go true = omega arith
-    go false = omega arith
-
 module _ {d x ws : List ℕ} {n k c : ℕ} (g : Missing d x ws n k c) where
   pub missing_ends : n ≤ k → CountsUndefined (rows_shown d x ws n) c
   missing_ends h = record { is = omega (arith, g.is, ap (undefined_in (rows_shown d x ws n)) (shown_past d x ws n k h)) }
 
   pub missing_more : {b : Bool} {r : ℕ} → k < n → IsUndefined d x ws n k b → Adds c b r → Missing d x ws n (k + 1) r
   missing_more {b} {r} l a p =
-      let e = ap (undefined_in (rows_shown d x ws n)) (shown_at_lem d x ws n k l) ∙ more_missing (rows_shown d x ws n) (shown_at d x ws k) (drop (suc k) (rows_shown d x ws n)) in
+      let e = ap (undefined_in (rows_shown d x ws n)) (shown_at_lem d x ws n k l) ∙ more_missing (rows_shown d x ws n) k (shown_at d x ws k) (drop (suc k) (rows_shown d x ws n)) in
       let f : ◌≡◌ {A = ℕ} (if b 1 0) (if (is_undefined (rows_shown d x ws n) (shown_at d x ws k)) 1 0) = ap (λ (z : Bool). if z 1 0) a.is in
       record { is = rw add-one (omega (arith, g.is, e, f, p.is)); most = omega (arith, g.most, p.is, one_most b) }
 
-pub missing_few : {d x ws : List ℕ} {n k c : ℕ} → Missing d x ws n k c → Held ws n → k < n → c ≤ 262144
-missing_few g h l = omega (arith, g.most, h.few)
+pub undefined_is : {d x ws : List ℕ} {n k : ℕ} {b : Bool} → IsUndefined d x ws n k b → b ≡ is_undefined (rows_shown d x ws n) (shown_at d x ws k)
+undefined_is a = a.is
 
-pub ruleset missing = (missing_begins, missing_ends, missing_more, missing_few, row_held, rules)
+pub counted_undefined : (d x ws : List ℕ) (n : ℕ) {r : ℕ} → r ≡ length (filter (λ k. is_undefined (rows_shown d x ws n) (shown_at d x ws k)) (range_with_len 0 n)) → CountsUndefined (rows_shown d x ws n) r
+unfolding undefined
+counted_undefined d x ws n e =
+    let t = rows_shown d x ws n in
+    record {
+      is = e ∙ sym (counted (is_undefined t) (λ k. undefined_in t) (λ k. refl) (more_missing t) d x ws n n 0 (omega arith));
+    }

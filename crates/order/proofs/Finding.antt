@@ -4,34 +4,30 @@ use Prim.Native.Nat.{ℕ, zero, suc, ◌+◌, ◌*◌, ◌-◌, ◌≤◌, ◌<�
 use mathlib.Core.Path.{◌≡◌, refl, sym, ap, ◌∙◌}
 use mathlib.Core.List.{List, [], ◌∷◌, map}
 use mathlib.Core.Option.{Option, none, some}
-use mathlib.Core.Bool.{Bool, true, false, ◌&&◌}
+use mathlib.Core.Bool.{Bool, true, false}
 use borrow.Author.Rules.{rules}
-use borrow.Author.Tests.{ne_eqb, eqb-true}
+use borrow.Author.Tests.{ne_eqb}
 use native.Mathlib.Numerals.{add-one}
 use native.Mathlib.Omega.{arith}
 use lib.Dec.{eqb}
 use lib.ListN.{length, drop, take, drop_of_length-le, length-take, length-drop}
 use Rattle.std.specs.Prelude.{Option as Maybe, None, Some, IfSome, IfNone, MatchOption}
 use Rattle.std.specs.Borrow.{Bor}
-use Rattle.slices.specs.Bytes.{if, bytes, same, starts}
+use Rattle.std.proofs.lemmas.List.{drop-map}
+use Rattle.slices.specs.Bytes.{bytes, same, starts}
 use Rattle.slices.proofs.Runs.{eqb_swap}
 use Rattle.tables.specs.Triple.{shown}
 use Rattle.tables.specs.declared.Triple.{Triple}
 use Rattle.document.specs.Kinds as kinds
 use Rattle.document.specs.Elements.{among}
-use Rattle.items.specs.Words.{Word, TripleIs, row_of, rows_of, viewed, rows_shown, absent, shown_by}
-use Rattle.items.specs.Content.{Row, present}
+use Rattle.items.specs.Words.{Word, TripleIs, row_of, rows_of, viewed, rows_shown, absent}
+use Rattle.items.specs.Content.{Row}
 use Rattle.items.proofs.Rows.{row-at, length_rows_of}
-use Rattle.items.proofs.Words.{word_in}
+use Rattle.items.proofs.Words.{word_in, present_shown}
 use Rattle.order.specs.Types.{first_named}
 use Rattle.order.specs.Steps.{shown_at, Defines, HasName, MemberIn, Within, found, Finds, target, LastTwo, IsArray, ElementIs, Before, NoArray, IsSought, NoneSought, FirstNamed, Target}
 
 -- ---- rows by their places
-
-drop-map : {A B : Type 0} (f : A → B) (i : ℕ) (l : List A) → drop i (map f l) ≡ map f (drop i l)
-drop-map f zero l = refl
-drop-map f (suc i) [] = refl
-drop-map f (suc i) (a ∷ l) = drop-map f i l
 
 module _ (d x ws : List ℕ) (n : ℕ) where
   -- the rows from row i on begin with row i
@@ -45,24 +41,6 @@ module _ (d x ws : List ℕ) (n : ℕ) where
   shown_past i h =
       drop-map (viewed d x) i (rows_of n ws)
       ∙ ap (map (viewed d x)) (drop_of_length-le (rows_of n ws) {i = i} (omega (arith, length_rows_of n ws)))
-
--- ---- what a triple that is absent shows
-
-pub shows_none : (d x : List ℕ) (t : Triple) → absent t ≡ true → shown d x t ≡ []
-unfolding shown
-shows_none d x t e = go (eqb t.source 0) refl e
-  where
-    go : (b : Bool) → eqb t.source 0 ≡ b → b && eqb t.start 0 && eqb t.len 0 ≡ true → shown d x t ≡ []
-    go true b e = rw (eqb-true t.source 0 b)
-    go false b e = let z : ◌≡◌ {A = ℕ} 0 1 = cc in absurd (omega arith)
-
--- the text of a row, there or not
-pub present_shown : (d x : List ℕ) (t : Triple) → present (shown_by d x t) ≡ shown d x t
-present_shown d x t = go (absent t) refl
-  where
-    go : (b : Bool) → absent t ≡ b → present (if b none (some (shown d x t))) ≡ shown d x t
-    go true e = sym (shows_none d x t e)
-    go false e = refl
 
 -- ---- kinds
 
@@ -188,19 +166,19 @@ pub ruleset ends = (two_is, two_less, rules)
 
 -- ---- the tp type of a row
 
-there : {ws : List ℕ} {m : ℕ} {b : Bool} {p : Triple} → TripleIs ws m 8 p → b ≡ absent p → absent (row_of (drop (m * 16) ws)).tp ≡ b
-there t a = ap absent (sym t.is) ∙ sym a
+pub tp_is : {ws : List ℕ} {m : ℕ} {b : Bool} {p : Triple} → TripleIs ws m 8 p → b ≡ absent p → absent (row_of (drop (m * 16) ws)).tp ≡ b
+tp_is t a = ap absent (sym t.is) ∙ sym a
 
 pub tp_absent : {d x ws : List ℕ} {m : ℕ} {b less : Bool} {p : Triple} → TripleIs ws m 8 p → b ≡ absent p → b ≡ true → NoneSought d x ws less m
 unfolding target
 tp_absent {ws = ws} {m = m} t a e =
-    let f : absent (row_of (drop (m * 16) ws)).tp ≡ true = there t a ∙ e in
+    let f : absent (row_of (drop (m * 16) ws)).tp ≡ true = tp_is t a ∙ e in
     record { is = λ u. rw f }
 
 module _ (d x : List ℕ) {ws : List ℕ} {m : ℕ} {b : Bool} {p : Triple} {s : List ℕ} (t : TripleIs ws m 8 p) (a : b ≡ absent p) (e : b ≡ false) (q : s ≡ shown d x p) where
   present_tp : (shown_at d x ws m).tp ≡ some s
   present_tp =
-      let f : absent (row_of (drop (m * 16) ws)).tp ≡ false = there t a ∙ e in
+      let f : absent (row_of (drop (m * 16) ws)).tp ≡ false = tp_is t a ∙ e in
       rw f (ap some (sym (q ∙ ap (shown d x) t.is)))
 
   tp_before : {less : Bool} {c : List ℕ} → less ≡ true → Before s c → IsSought d x ws less m c

@@ -16,18 +16,19 @@ use Rattle.std.specs.Prelude.{Option as Maybe, None, Some, SomeIff}
 use Rattle.utf8.proofs.Sequences.{below}
 use Rattle.slices.specs.Bytes.{if, same}
 use Rattle.slices.specs.Hash.{hash_of, HashIs}
-use Rattle.slices.proofs.Runs.{same_equal}
+use Rattle.slices.proofs.Runs.{same_equal, and_both}
 use Rattle.tables.specs.Triple.{shown}
 use Rattle.tables.specs.Table.{Wiped}
 use Rattle.tables.specs.declared.Triple.{Triple}
 use Rattle.tables.proofs.Tables.{clear_all}
 use Rattle.items.specs.Words.{TripleIs, row_of, rows_shown}
 use Rattle.items.specs.Content.{Row, present}
+use Rattle.items.proofs.Words.{present_shown}
 use Rattle.order.specs.Types.{defines, first_named}
 use Rattle.order.specs.Steps.{Held, shown_at, Defines, HasName, FirstNamed}
 use Rattle.order.specs.Index.{bucket_of, tag_of, bucket_at, tag_at, first_in, word_for, HashAt, Spread, WordIs, RowOf, Tagged, IndexedFrom, Indexed, Built}
-use Rattle.order.proofs.Lists.{clash, case, refuted, both}
-use Rattle.order.proofs.Finding.{shown_at_lem, shown_past, present_shown, found_here, found_none}
+use Rattle.order.proofs.Lists.{clash, case, refuted, joined}
+use Rattle.order.proofs.Finding.{shown_at_lem, shown_past, found_here, found_none}
 use Rattle.order.proofs.Waiting.{row_held}
 
 -- ---- hashes and buckets
@@ -59,12 +60,9 @@ high_bits a t l = omega arith
 some-none : {A : Type 0} {i : ℕ} → ◌≡◌ {A = Option ℕ} (some i) none → A
 some-none e = let z : ◌≡◌ {A = ℕ} 0 1 = cc in absurd (omega arith)
 
-joined : (a b : Bool) → a ≡ true → b ≡ true → a && b ≡ true
-joined a b e f = rw (e, f)
-
 -- the name of a row of a name
 name_is : (s : List ℕ) (row : Row) → defines row && same s (present row.name) ≡ true → present row.name ≡ s
-name_is s row t = sym (same_equal s (present row.name) (both (defines row) (same s (present row.name)) t).1)
+name_is s row t = sym (same_equal s (present row.name) (and_both (defines row) (same s (present row.name)) t).1)
 
 -- a row whose word has other bits has another name
 module _ {d x ws s : List ℕ} {k w f : ℕ} (a : Tagged d x ws k w) (b : HashIs s f) where
@@ -88,7 +86,7 @@ module _ (m : ℕ) (s : List ℕ) where
       refuted (defines row && same s (present row.name))
       (λ t. clash
       (joined (defines row) (eqb (bucket_of m (present row.name)) (bucket_of m s))
-      (both (defines row) (same s (present row.name)) t).0
+      (and_both (defines row) (same s (present row.name)) t).0
       (eq-eqb (bucket_of m (present row.name)) (bucket_of m s) (ap (bucket_of m) (name_is s row t))))
       f)
 
@@ -122,7 +120,7 @@ module _ (d x ws : List ℕ) (n m : ℕ) (s : List ℕ) where
     where
       go : (c : Bool) → defines (shown_at d x ws i) && eqb (bucket_at d x ws m i) (bucket_of m s) ≡ c → if c (some i) (first_in m (bucket_of m s) (suc i) (drop (suc i) (rows_shown d x ws n))) ≡ some k → (first_in m (bucket_of m s) (suc i) (drop (suc i) (rows_shown d x ws n)) ≡ some k → Passed d x ws n m s (suc i) k) → Passed d x ws n m s i k
       go true c q h =
-          let p = both (defines (shown_at d x ws i)) (eqb (bucket_at d x ws m i) (bucket_of m s)) c in
+          let p = and_both (defines (shown_at d x ws i)) (eqb (bucket_at d x ws m i) (bucket_of m s)) c in
           let j : i ≡ k = cc in
           subst (λ (z : ℕ). Passed d x ws n m s i z) j
           record { past = omega arith; within = omega arith; same = refl; is = p.0; falls = eqb-true (bucket_at d x ws m i) (bucket_of m s) p.1 }

@@ -1,6 +1,6 @@
 -- Laws of words lent for work, and of edges in them.
 -- Assumes nothing.
-use Prim.Native.Nat.{ℕ, zero, suc, ◌+◌, ◌*◌, ◌-◌, ◌≤◌, ◌<◌}
+use Prim.Native.Nat.{ℕ, zero, suc, ◌+◌, ◌-◌, ◌≤◌, ◌<◌}
 use mathlib.Core.Path.{◌≡◌, refl, ap, ◌∙◌}
 use mathlib.Core.List.{List, [], ◌∷◌}
 use borrow.Author.Rules.{rules}
@@ -16,28 +16,24 @@ use Rattle.items.specs.Words.{Word}
 use Rattle.items.proofs.Words.{word_in}
 use Rattle.order.specs.Steps.{Held}
 use Rattle.order.specs.Index.{Indexed}
-use Rattle.order.specs.Certificate.{Wide, Got, Kept, IsParent, member_of, MemberOf, run_of, RunIs}
+use Rattle.order.specs.Certificate.{Got, Kept, IsParent, member_of, MemberOf, run_of, RunIs}
 use Rattle.order.proofs.Indexing.{indexed_kept}
-
--- ---- a word
+use Rattle.order.proofs.Waiting.{row_held}
 
 -- ---- the row that a row is in
-
-pub row_held : {ws : List ℕ} {n i : ℕ} → Held ws n → i < n → i * 16 + 16 ≤ length ws
-row_held h l = omega (arith, h.held)
 
 pub parent_none : {d x ws : List ℕ} {n m : ℕ} → IsParent d x ws n m None
 parent_none = record { is = λ i e. absurd (cc); within = λ i e. absurd (cc) }
 
-pub parent_some : {d x ws : List ℕ} {n m k q u : ℕ} {r : Maybe ℕ} → Word ws m 1 k → Wide k q → SomeIff r (1 ≤ q) (q - 1) → r ≡ Some u → u < n → IsParent d x ws n m (Some u)
-parent_some {d} {x} {ws} {n} {m} {k} {q} {u} {r} w v s e l = go r s e
+pub parent_some : {d x ws : List ℕ} {n m k u : ℕ} {r : Maybe ℕ} → Word ws m 1 k → SomeIff r (1 ≤ k) (k - 1) → r ≡ Some u → u < n → IsParent d x ws n m (Some u)
+parent_some {d} {x} {ws} {n} {m} {k} {u} {r} w s e l = go r s e
   where
-    go : (o : Maybe ℕ) → SomeIff o (1 ≤ q) (q - 1) → o ≡ Some u → IsParent d x ws n m (Some u)
+    go : (o : Maybe ℕ) → SomeIff o (1 ≤ k) (k - 1) → o ≡ Some u → IsParent d x ws n m (Some u)
     go None s e = absurd (cc)
     go (Some j) s e =
         let z : j ≡ u = cc in
         record {
-          is = λ i h. let y : u ≡ i = cc in omega (arith, word_in w, v.is, s.0, s.1);
+          is = λ i h. let y : u ≡ i = cc in omega (arith, word_in w, s.0, s.1);
           within = λ i h. let y : u ≡ i = cc in omega arith;
         }
 

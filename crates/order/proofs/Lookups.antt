@@ -12,6 +12,7 @@ use lib.Dec.{eqb}
 use lib.ListN.{length, take, drop, length-append, take-append-drop}
 use lib.Seq.{take-append_seam, drop-append_seam}
 use Rattle.slices.specs.Bytes.{if, bytes, same, empty}
+use Rattle.slices.proofs.Runs.{same_equal}
 use Rattle.document.specs.Elements.{among}
 use Rattle.items.specs.Content.{Row, present}
 use Rattle.order.specs.Types.{member_in, defines, name_at, first_named, is_row, counts, bears, typed, any_row, uses, defined}
@@ -24,16 +25,6 @@ pub alike : (a b : Bool) → (a ≡ true → b ≡ true) → (b ≡ true → a �
 alike true b f g = sym (f refl)
 alike false true f g = g refl
 alike false false f g = refl
-
-pub same_equal : (a b : List ℕ) → same a b ≡ true → a ≡ b
-same_equal [] [] e = refl
-same_equal [] (y ∷ b) e = clash e refl
-same_equal (x ∷ a) [] e = clash e refl
-same_equal (x ∷ a) (y ∷ b) e = go (eqb x y) refl e (same_equal a b)
-  where
-    go : (t : Bool) → eqb x y ≡ t → if t (same a b) false ≡ true → (same a b ≡ true → a ≡ b) → x ∷ a ≡ y ∷ b
-    go true t e h = let p : x ≡ y = eqb-true x y t in let q : a ≡ b = h e in cc
-    go false t e h = clash e refl
 
 pub same_self : (a : List ℕ) → same a a ≡ true
 same_self [] = refl

@@ -10,13 +10,14 @@ use borrow.Author.Tests.{eqb-true, eq-eqb}
 use native.Mathlib.Omega.{arith}
 use lib.Dec.{eqb}
 use Rattle.slices.specs.Bytes.{if, bytes, same}
+use Rattle.slices.proofs.Runs.{and_both, same_equal}
 use Rattle.document.specs.Elements.{among}
 use Rattle.items.specs.Content.{Row, present}
 use Rattle.order.specs.Types.{member_in, defines, definitions_from, definitions, name_at, first_named, counts, bears, typed, any_row, uses}
 use Rattle.order.specs.Statement.{row_at, Uses, UsesMeans}
-use Rattle.order.proofs.Lists.{clash, or_else, both, among_cases}
+use Rattle.order.proofs.Lists.{clash, or_else, among_cases}
 use Rattle.order.proofs.Tables.{from_below, named_listed}
-use Rattle.order.proofs.Lookups.{same_equal, same_self, is_row_lem, row_is, found_name, bears_name, bears_array}
+use Rattle.order.proofs.Lookups.{same_self, is_row_lem, row_is, found_name, bears_name, bears_array}
 
 -- ---- some row of a table
 
@@ -70,10 +71,10 @@ module _ (t : List Row) (i j : ℕ) where
   member_of m e c n s = go m.tp refl k.1
     where
       k : (member_in i m ≡ true) × (typed (λ tp. bears tp (name_at t j)) m.tp ≡ true)
-      k = both (member_in i m) (typed (λ tp. bears tp (name_at t j)) m.tp) e
+      k = and_both (member_in i m) (typed (λ tp. bears tp (name_at t j)) m.tp) e
 
       q : (eqb m.kind 12 ≡ true) × (eqb m.parent (suc i) ≡ true)
-      q = both (eqb m.kind 12) (eqb m.parent (suc i)) k.0
+      q = and_both (eqb m.kind 12) (eqb m.parent (suc i)) k.0
 
       here : first_named (name_at t j) 0 t ≡ some j
       here = is_row_lem j (first_named (name_at t j) 0 t) c

@@ -13,11 +13,7 @@ use Rattle.order.specs.Steps.{shown_at}
 
 -- ---- words
 
--- a word as a number; word k, or 0 past the end; the words before place k are kept
-pub record Wide (x r : ℕ) : Type 0 where
-  pub is : r ≡ x
-  pub most : r ≤ 4294967295
-
+-- word k, or 0 past the end; the words before place k are kept
 pub record Got (ws : List ℕ) (k r : ℕ) : Type 0 where
   pub is : r ≡ get_or ws k 0
   pub most : r ≤ 4294967295

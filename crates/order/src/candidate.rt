@@ -78,6 +78,7 @@ fn link(work: &mut [u32], n: usize, i: usize, target: Option<usize>, e: usize)
 }
 
 // Adds the edges of row m, if it is a member.
+// It is given no `Index`: words for work are written between the lookups of two members, so one has to be made anew for each.
 fn link_member(table: &Table, heads: &[u32], work: &mut [u32], m: usize)
     requires member { m < table.now.n }
     requires indexed { over Indexed table.now heads.now work.old }
@@ -177,7 +178,6 @@ fn give(
 
 // Gives out rows while some are ready, always the first, and says how many.
 fn give_out(table: &Table, work: &mut [u32], ready: &mut [u64; 4161], out: &mut [u32]) -> usize {
-    // The next row is what is taken, and giving it out makes more rows ready.
     for k in 0..table.n {
         match take(ready) {
             Some(r) if r < table.n => give(table, work, ready, out, k, r),

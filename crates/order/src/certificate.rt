@@ -61,6 +61,7 @@ pub fn check_members(by_name: &Index, p: usize) -> Option<usize>
     ensures { over Members by_name.now.table.now by_name.now.work.now p result }
 {
     let mut count = 0;
+    // `for` and not `try_fold`: `add` needs a fact of the turns before, that the count is no greater than the row.
     for m in 0..by_name.table.n {
         let unnamed = row_falls(by_name, p, m)?;
         count = counts::add(count, unnamed);
@@ -174,6 +175,7 @@ fn is_next(table: &Table, work: &[u32], out: &[u32], k: usize) -> bool
 fn is_ascending(table: &Table, work: &[u32], out: &[u32], count: usize) -> bool
     ensures { over IsAscending table.now work.now out.now count result }
 {
+    // `for` and not `all`: each place is judged where the places before it are in order.
     for k in 0..count {
         if !is_next(table, work, out, k) {
             return false;

@@ -41,7 +41,6 @@ fn reach_in(table: &Table, marks: &mut [u8], i: usize, m: usize)
 {
     if definitions::is_member(table, i, m) {
         reach_member(table, marks, m);
-        return;
     }
 }
 
@@ -96,7 +95,7 @@ fn is_on_circle(table: &Table, p: usize) -> bool
     search(table, &mut marks, p)
 }
 
-// The same for a row that may have been given out, and then is on none.
+// The same for a row that may have been given out: then it is on no circle.
 fn is_left_on_circle(table: &Table, given: &[u8], p: usize) -> bool
     requires marked { table.now.n ≤ length given.now }
     requires clear { Clear (shown_rows table.now) given.now }

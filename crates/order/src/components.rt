@@ -3,7 +3,7 @@
 // Rows that use each other get one number, and a row's number is greater than those of the other rows that it uses: strongly connected
 // components by Pearce's form of Tarjan's algorithm, over the lists of edges that lead to a row. work[r] is the row's index, and then its
 // component's number; work[2n + r] is twice the edge by which the search came to the row, and one more where the row leads back; and then the
-// next row of the stack plus one, 0 for none (a word holds a number alone). work[m] of that edge's member m is the row that it leads to.
+// next row of the stack, as that row plus one, 0 for none (a word holds a number alone). work[m] of that edge's member m is the row that it leads to.
 ghost use Rattle.std.specs.Prelude.{◌≡◌, ◌+◌, ◌*◌, ◌≤◌, ◌<◌, length};
 
 use super::table::Table;
@@ -12,6 +12,7 @@ use super::{definitions, words};
 use std::ops::ControlFlow;
 
 // Where the search is: a row, the next edge to look at, the next index, the next number, the top of the stack plus one.
+// 0 is no edge and an empty stack, as in the words lent for work that both are taken from and put into.
 #[derive(Clone, Copy)]
 struct Walk {
     row: usize,
@@ -258,8 +259,8 @@ fn for_each_left<F: Fn(&mut [u32], usize)>(table: &Table, work: &mut [u32], f: F
     }
 }
 
-// Numbers the rows that are not given out, notes a circle through the first row on one, and says which that is. No edge is noted for a row
-// on none, and each row's number stands where the check looks for it.
+// Numbers the rows that are not given out, notes a circle through the first row on one, and says which that is. Of the
+// rows that are not given out, only those on that circle have an edge noted; each row's number stands where the check looks for it.
 pub fn number(table: &Table, work: &mut [u32]) -> Option<usize> {
     search_all(table, work);
     let circled = first_on_circle(table, work);

@@ -12,22 +12,16 @@ pub fn add(count: usize, b: bool) -> usize
     requires { count ≤ 262144 }
     ensures { Adds count b result }
 {
-    if b {
-        return count + 1;
-    }
-    count
+    count + usize::from(b)
 }
 
 // The number of type definitions.
 pub fn count_definitions(table: &Table) -> usize
     ensures { CountsDefinitions (shown_rows table.now) result }
 {
-    let mut count = 0;
-    for k in 0..table.n {
-        let b = definitions::is_definition(table, k);
-        count = add(count, b);
-    }
-    count
+    (0..table.n)
+        .filter(|&k| definitions::is_definition(table, k))
+        .count()
 }
 
 // Whether row m has a tp type that bears the name of no row, as the rows tell that it names.
@@ -56,14 +50,8 @@ fn is_undefined(table: &Table, m: usize) -> bool
 }
 
 // The number of such members.
-#[tactic(auto, using(crate::proofs::Counting::missing))]
 pub fn count_undefined(table: &Table) -> usize
     ensures { CountsUndefined (shown_rows table.now) result }
 {
-    let mut count = 0;
-    for k in 0..table.n {
-        let b = is_undefined(table, k);
-        count = add(count, b);
-    }
-    count
+    (0..table.n).filter(|&k| is_undefined(table, k)).count()
 }

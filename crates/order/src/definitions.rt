@@ -77,8 +77,6 @@ fn before_brackets<'a>(tp: &'a [u8]) -> Option<&'a [u8]>
 }
 
 // The name that the tp type of row m is looked up by, as it is or less the `[]` at its end.
-// Inlined, as the two lookups by it are, since a name is sought twice for each member.
-#[inline(always)]
 #[tactic(auto, using(crate::proofs::Finding::tps))]
 pub fn name_sought<'a>(table: &Table<'a>, less: bool, m: usize) -> Option<&'a [u8]>
     requires { m * 16 + 16 ≤ length table.now.rows.now }
@@ -107,7 +105,8 @@ pub fn find_target(table: &Table, less: bool, m: usize) -> Option<usize>
     first_named(table, name)
 }
 
-// Whether row m is a member of the definition in row i.
+// Whether row m is a member of the definition in row i. Beside soundness' function of this name: its clause speaks of order's
+// definition of a member.
 pub fn is_member(table: &Table, i: usize, m: usize) -> bool
     requires few { i ≤ 262144 }
     requires held { m * 16 + 16 ≤ length table.now.rows.now }

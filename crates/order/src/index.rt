@@ -56,7 +56,6 @@ fn enter(table: &Table, heads: &mut [u32], work: &mut [u32], k: usize)
         let h = bucket(f, heads.len());
         work[k] = heads[h];
         heads[h] = word_for(k, f);
-        return;
     }
 }
 
@@ -96,7 +95,6 @@ fn is_named(table: &Table, k: usize, word: u32, f: u32, name: &[u8]) -> bool
 }
 
 // The first row that is a type definition of a name: along the rows of the name's bucket.
-#[inline(always)]
 #[tactic(auto, using(crate::proofs::Indexing::follows))]
 fn first_named(by_name: &Index, name: &[u8]) -> Option<usize>
     ensures { FirstNamed (shown_rows by_name.now.table.now) name.now by_name.now.table.now.n result }
@@ -116,6 +114,7 @@ fn first_named(by_name: &Index, name: &[u8]) -> Option<usize>
 
 // The row that the tp type of row m names, as it is or less the `[]` at its end.
 // Beside definitions' `find_target` it shares `name_sought`; a trait over the two searches would be longer than the two lines here.
+// Inlined: the order of a small table takes 9 % more time by a call for each member.
 #[inline(always)]
 #[tactic(auto, using(crate::proofs::Finding::targets))]
 pub fn find_target(by_name: &Index, less: bool, m: usize) -> Option<usize>

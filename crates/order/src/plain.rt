@@ -76,7 +76,6 @@ fn put_row(out: &mut [u32], count: usize, row: usize) -> usize
 {
     if count < out.len() {
         out[count] = row as u32;
-        return count + 1;
     }
     count + 1
 }

@@ -1,18 +1,12 @@
 // Words lent for work, read and written with no demand on places, and edges in them (candidate.rt says what an edge is).
+// They are lent, since the library has no heap.
 ghost use Rattle.std.specs.Prelude.{◌≡◌, ◌≤◌, ◌<◌, length};
 ghost use Rattle.order.specs.Table.{over};
-ghost use Rattle.order.specs.Certificate.{Wide, Got, Kept, IsParent, MemberOf, LessOf};
+ghost use Rattle.order.specs.Certificate.{Got, Kept, IsParent, MemberOf, LessOf};
 
 use super::table::Table;
 
-// A word as a number.
-pub fn wide(x: u32) -> usize
-    ensures { Wide x result }
-{
-    x as usize
-}
-
-// One more if that is a word, else 0.
+// One more if that is a word, else 0. No Option here and in `double`: no table has so many rows that the 0 is answered.
 pub fn more(x: usize) -> usize
     ensures { result ≤ 4294967295 }
 {
@@ -37,7 +31,7 @@ pub fn get(work: &[u32], k: usize) -> usize
     ensures { Got work.now k result }
 {
     if k < work.len() {
-        return wide(work[k]);
+        return work[k] as usize;
     }
     0
 }
@@ -93,7 +87,7 @@ pub fn parent(table: &Table, m: usize) -> Option<usize>
     if table.n <= m {
         return None;
     }
-    let up = wide(items::word(table.rows, m, 1)).checked_sub(1)?;
+    let up = (items::word(table.rows, m, 1) as usize).checked_sub(1)?;
     if up < table.n { Some(up) } else { None }
 }
 

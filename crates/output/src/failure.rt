@@ -42,6 +42,7 @@ fn reason(text: &[u8], why: Error) -> &[u8] {
 }
 
 // Puts the text of an error into a buffer, as far as there is room, and answers how many bytes there are.
+// It is not written at once, since `reason` takes off its end.
 fn put_text(text: &mut [u8], why: Error) -> usize {
     let room = text.len();
     let mut rest = text;

@@ -17,6 +17,7 @@ pub fn filled<T: Copy, const N: usize>(item: T) -> [T; N]
 }
 
 // A writer with a buffer before it, as std's `BufWriter`, but with no heap: the first `held` bytes are still to be written out.
+// Nothing is promised of which bytes these are: where `write_all` fails, a part of them may have been written.
 #[derive(Drop)]
 pub struct Sink<W> {
     to: W,

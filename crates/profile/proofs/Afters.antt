@@ -5,30 +5,21 @@ use mathlib.Core.Path.{◌≡◌, refl, sym, ◌∙◌}
 use mathlib.Core.List.{List, [], ◌∷◌}
 use mathlib.Core.Bool.{Bool, true, false}
 use borrow.Author.Rules.{rules}
-use borrow.Author.Tests.{ne_eqb, lt-ltb, le-ltb}
+use borrow.Author.Tests.{lt-ltb, le-ltb}
 use native.Mathlib.Nat.{add-zero}
 use native.Mathlib.Numerals.{add-one}
 use native.Mathlib.Omega.{arith}
-use lib.Dec.{eqb}
 use lib.ListN.{length, take, drop, get_or, length-drop, drop_of_length-le}
 use lib.Seq.{drop-cons, drop-drop, length-take-le}
-use Rattle.slices.specs.Bytes.{if, bytes, starts}
+use Rattle.slices.specs.Bytes.{bytes, starts}
 use Rattle.slices.proofs.Runs.{starts_fits}
 use Rattle.scan.specs.Ignorable.{Scans, seek}
 use Rattle.std.proofs.Common.{Result, Ok, Err}
 use Rattle.faults.specs.Fault.{fault}
 use Rattle.faults.specs.declared.Fault.{Fault}
+use Rattle.scan.proofs.Seek.{seek_past}
 use Rattle.profile.specs.Profile.{comment_fault}
 use Rattle.profile.specs.After.{space, space_first, instruction, comment, misc, further, after_from, after_fault, Tells}
-
--- a key that is found has room before the end
-seek_far : (n : ℕ) (key : List ℕ) (c : ℕ) (l : List ℕ) (p q : ℕ) → seek n key c l p ≡ Ok q → p + length key ≤ q
-seek_far n key c [] p q e = let z : ◌≡◌ {A = ℕ} 0 1 = cc in absurd (omega arith)
-seek_far n key c (b ∷ l) p q e = go (starts key (b ∷ l)) e (λ f. seek_far n key c l (suc p) q f)
-  where
-    go : (t : Bool) → if t (Ok (p + length key)) (seek n key c l (suc p)) ≡ Ok q → (seek n key c l (suc p) ≡ Ok q → suc p + length key ≤ q) → p + length key ≤ q
-    go true e r = let z : p + length key ≡ q = cc in omega arith
-    go false e r = let z = r e in omega arith
 
 module _ (s : List ℕ) (at : ℕ) {x : Result ℕ Fault} (c : Scans (seek 29 (bytes "?>") (at + 2)) s (at + 2) x) where
   pub instruction_open : {f g : Fault} → x ≡ Err f → g ≡ fault 29 at → Tells instruction s at (Err g)
@@ -48,7 +39,7 @@ module _ (s : List ℕ) (at : ℕ) {x : Result ℕ Fault} (c : Scans (seek 29 (b
 
   module _ {p : ℕ} (e : x ≡ Ok p) where
     pub comment_far : at + 7 ≤ p
-    comment_far = let z = seek_far 29 (bytes "-->") (at + 4) (drop (at + 4) s) (at + 4) p (sym c.is ∙ e) in omega arith
+    comment_far = let z = seek_past 29 (bytes "-->") (at + 4) (drop (at + 4) s) (at + 4) p (sym c.is ∙ e) in omega arith
 
     pub comment_end : p ≤ length s
     comment_end = let d : Scans (seek 29 (bytes "-->") (at + 4)) s (at + 4) (Ok p) = rw e at c in d.onward.1

@@ -68,13 +68,13 @@ fn blocks(s: &[u8], from: usize) -> usize
     slices::blocks(s, from, 32, |at| !doubtful(s, at))
 }
 
-// The same, and then to the first such byte, or the length.
+// Past whole blocks in which `doubt` is false of each byte, and then to the first byte of which it is true, or the length.
 fn next_doubt(s: &[u8], from: usize) -> usize
     requires { from ≤ length s.now }
     ensures { Free no_char s.now from result }
 {
     let start = blocks(s, from);
-    // Not `run_end`, whose test is a class of bytes: `doubt` says what follows where it is false alone.
+    // Not `run_end`: it wants a test that tells a class of bytes, and `doubt` promises only what holds where it is false.
     for at in start..s.len() {
         if doubt(s[at]) {
             return at;
@@ -143,16 +143,10 @@ fn is_raw(s: &[u8], at: usize) -> bool
 }
 
 // The place of the first `<` or `&#X` of a value, or the length, as the definition answers.
-#[tactic(auto, using(crate::proofs::Going::goings))]
 pub fn value_fault(s: &[u8]) -> usize
     ensures { result ≡ value_fault s.now }
 {
-    for at in 0..s.len() {
-        if is_raw(s, at) {
-            return at;
-        }
-    }
-    s.len()
+    (0..s.len()).find(|&at| is_raw(s, at)).unwrap_or(s.len())
 }
 
 // Whether a name may begin with a character.

@@ -33,7 +33,7 @@ use Rattle.document.proofs.Loops.{moved_stands}
 use Rattle.document.proofs.Openings.{tag_named}
 use Rattle.reader.specs.Nodes.{frames_of, Walking, Opens, Started}
 use Rattle.reader.specs.declared.Walk.{Walk}
-use Rattle.reader.specs.declared.Turn.TheVariants.{On}
+use Rattle.std.specs.declared.ops.ControlFlow.TheVariants.{Continue}
 use Rattle.reader.proofs.Frames.{frames_length, frames_closed, frames_push}
 
 not-one : (a b c d f g h : Bool) → ◌≡◌ {A = ℕ} (if a 8 (if b 9 (if c 10 (if d 11 (if f 12 (if g 13 (if h 14 0))))))) 1 → ⊥
@@ -139,7 +139,7 @@ module _ {doc opened : List ℕ} {c : StartTag} {s : Walk} (begun : Started doc 
       shut_at : (root : Name) (t : Tag) (v : Tables Shown) → TagIs doc c t → c.closes ≡ true → (row : Row Shown) → runs doc c.end (entered whole doc kinds.node t row (frames_of doc root opened s.depth) v) ≡ runs doc h.at (reading (frames_of doc root opened s.depth) (with_row row v))
       shut_at root t v z x row = rw (at-end, sym z.closes ∙ x, frames_closed doc root opened s.depth (with_row row v) g.deep)
 
-      pub open_closes : c.closes ≡ true → Opens doc c i s opened opened rows rows' text text' (Ok (On (record { depth = s.depth; fill = h })))
+      pub open_closes : c.closes ≡ true → Opens doc c i s opened opened rows rows' text text' (Ok (Continue (record { depth = s.depth; fill = h })))
       open_closes x = record {
         onward = (
           omega (arith, at-end, l, fits.inside),
@@ -178,7 +178,7 @@ module _ {doc opened : List ℕ} {c : StartTag} {s : Walk} (begun : Started doc 
               let q : tag_name t ≡ name_at doc c.at 4 = tag_named z ∙ ap (name_at doc c.at) (begun.four k) in
               rw (at-end, sym z.closes ∙ x, b, frames_push doc root opened s.depth s.fill.rows c.at g.deep (omega (arith, g.few)) g.long, m, q)
 
-          pub open_more : {opened' : List ℕ} → c.kind ≡ kinds.node → opened' ≡ set (set opened s.depth s.fill.rows) (s.depth + 1024) c.at → Opens doc c i s opened opened' rows rows' text text' (Ok (On (record { depth = s.depth + 1; fill = h })))
+          pub open_more : {opened' : List ℕ} → c.kind ≡ kinds.node → opened' ≡ set (set opened s.depth s.fill.rows) (s.depth + 1024) c.at → Opens doc c i s opened opened' rows rows' text text' (Ok (Continue (record { depth = s.depth + 1; fill = h })))
           open_more k q = rw q record {
             onward = (
               omega (arith, at-end, l, fits.inside),

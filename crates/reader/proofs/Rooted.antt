@@ -29,8 +29,8 @@ use Rattle.document.proofs.Runs.{run_more, run_last, run_refused, run_accepted}
 use Rattle.document.proofs.Openings.{tag_named}
 use Rattle.reader.specs.Nodes.{frames_of, Walking, Turns, Walks, Levels, RootOpen, EndsNodes, ReadsRoot, ReadsWhole}
 use Rattle.reader.specs.declared.Walk.{Walk}
-use Rattle.reader.specs.declared.Turn.{Turn}
-use Rattle.reader.specs.declared.Turn.TheVariants.{Done, On}
+use Rattle.std.specs.declared.ops.ControlFlow.{ControlFlow}
+use Rattle.std.specs.declared.ops.ControlFlow.TheVariants.{Break, Continue}
 
 -- a walk that began with s₀ came to s
 pub record Sofar (doc : List ℕ) (root : Name) (opened₀ : List ℕ) (s₀ : Walk) (b₀ : Lent) (opened : List ℕ) (s : Walk) (b : Lent) : Type 0 where
@@ -45,11 +45,11 @@ pub record Sofar (doc : List ℕ) (root : Name) (opened₀ : List ℕ) (s₀ : W
 pub walk_begins : {doc : List ℕ} {root : Name} {opened : List ℕ} {s : Walk} {b : Lent} → Walking doc opened s → Sofar doc root opened s b opened s b
 walk_begins g = record { walks = g; leads = λ v y. (v, y, refl) }
 
-module _ {doc : List ℕ} {root : Name} {opened₀ opened opened' : List ℕ} {s₀ s : Walk} {b₀ b b' : Lent} (g : Sofar doc root opened₀ s₀ b₀ opened s b) {k : Result Turn Refusal} (h : Turns doc root opened opened' s b b' k) where
+module _ {doc : List ℕ} {root : Name} {opened₀ opened opened' : List ℕ} {s₀ s : Walk} {b₀ b b' : Lent} (g : Sofar doc root opened₀ s₀ b₀ opened s b) {k : Result (ControlFlow Fill Walk) Refusal} (h : Turns doc root opened opened' s b b' k) where
   pub walk_fault : {x : Refusal} → k ≡ Err x → Walks doc root opened₀ s₀ b₀ b' (Err x)
   walk_fault e = record { leads = λ v y. let x = g.leads v y in x.2 ∙ (rw e at h).leads x.0 x.1 }
 
-  pub walk_done : {f : Fill} → k ≡ Ok (Done f) → Walks doc root opened₀ s₀ b₀ b' (Ok f)
+  pub walk_done : {f : Fill} → k ≡ Ok (Break f) → Walks doc root opened₀ s₀ b₀ b' (Ok f)
   walk_done e = record {
     leads = λ v y.
         let x = g.leads v y in
@@ -57,9 +57,9 @@ module _ {doc : List ℕ} {root : Name} {opened₀ opened opened' : List ℕ} {s
         (z.0, z.1, x.2 ∙ z.2);
   }
 
-  pub walk_on : {s' : Walk} → k ≡ Ok (On s') → Sofar doc root opened₀ s₀ b₀ opened' s' b'
+  pub walk_on : {s' : Walk} → k ≡ Ok (Continue s') → Sofar doc root opened₀ s₀ b₀ opened' s' b'
   walk_on {s'} e =
-      let t : Turns doc root opened opened' s b b' (Ok (On s')) = rw e at h in
+      let t : Turns doc root opened opened' s b b' (Ok (Continue s')) = rw e at h in
       record {
         walks = t.onward.1;
         leads = λ v y.
@@ -68,9 +68,9 @@ module _ {doc : List ℕ} {root : Name} {opened₀ opened opened' : List ℕ} {s
             (z.0, z.1, x.2 ∙ z.2);
       }
 
-  pub walk_less : {s' : Walk} → k ≡ Ok (On s') → length doc - s'.fill.at < length doc - s.fill.at
+  pub walk_less : {s' : Walk} → k ≡ Ok (Continue s') → length doc - s'.fill.at < length doc - s.fill.at
   walk_less {s'} e =
-      let t : Turns doc root opened opened' s b b' (Ok (On s')) = rw e at h in
+      let t : Turns doc root opened opened' s b b' (Ok (Continue s')) = rw e at h in
       omega (arith, t.onward.0, t.onward.1.bounds.inside)
 
 pub ruleset walking = (walk_begins, walk_fault, walk_done, walk_on, walk_less, keeping, rules)

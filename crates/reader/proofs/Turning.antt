@@ -28,8 +28,8 @@ use Rattle.document.proofs.Runs.{run_accepted}
 use Rattle.document.proofs.Loops.{moved_stands, moved_owner}
 use Rattle.reader.specs.Nodes.{frames_of, Walking, Turns, LeadsFrom, Opens, Started, Begun, Looks, NextIn, name_in, Shuts, IsShut, ChildIn, IsChildIn}
 use Rattle.reader.specs.declared.Walk.{Walk}
-use Rattle.reader.specs.declared.Turn.{Turn}
-use Rattle.reader.specs.declared.Turn.TheVariants.{Done, On}
+use Rattle.std.specs.declared.ops.ControlFlow.{ControlFlow}
+use Rattle.std.specs.declared.ops.ControlFlow.TheVariants.{Break, Continue}
 use Rattle.reader.proofs.Frames.{frames_top, frames_parent, frames_closed}
 use Rattle.reader.proofs.Opened.{node_name}
 
@@ -69,15 +69,15 @@ module _ {doc : List ℕ} {c : StartTag} {i : ℕ} {s : Walk} {b b' : Lent} {a :
   pub child_fault : {x : Refusal} → a ≡ Err x → ChildIn doc c i s b b' (Err x)
   child_fault e = record { is = rw (y, e) at h }
 
-  pub child_on : {g : Fill} → a ≡ Ok g → ChildIn doc c i s b b' (Ok (On (record { depth = s.depth; fill = g })))
+  pub child_on : {g : Fill} → a ≡ Ok g → ChildIn doc c i s b b' (Ok (Continue (record { depth = s.depth; fill = g })))
   child_on e = record { is = (rw (y, e) at h, refl) }
 
 -- the closing tag of a node
 module _ {s : Walk} {end : ℕ} {m : Fill} (y : m ≡ moved s.fill end) where
-  pub shut_root : s.depth ≡ 1 → Shuts s end (Done m)
+  pub shut_root : s.depth ≡ 1 → Shuts s end (Break m)
   shut_root e = record { is = (e, y) }
 
-  pub shut_inner : (s.depth ≡ 1 → ⊥) → Shuts s end (On (record { depth = s.depth - 1; fill = m }))
+  pub shut_inner : (s.depth ≡ 1 → ⊥) → Shuts s end (Continue (record { depth = s.depth - 1; fill = m }))
   shut_inner n = record { is = (n, rw y) }
 
 pub ruleset shutting = (shut_root, shut_inner, rules)
@@ -87,10 +87,10 @@ child_ready r y = rw y r
 
 pub ruleset child_ins = (child_fault, child_on, child_ready, moved_owner, keeping, rules)
 
-prefixed : (doc : List ℕ) (root : Name) (opened : List ℕ) (b : Lent) {x x' : State Shown} (k : Result Turn Refusal) → x ≡ x' → LeadsFrom doc root opened x' b k → LeadsFrom doc root opened x b k
+prefixed : (doc : List ℕ) (root : Name) (opened : List ℕ) (b : Lent) {x x' : State Shown} (k : Result (ControlFlow Fill Walk) Refusal) → x ≡ x' → LeadsFrom doc root opened x' b k → LeadsFrom doc root opened x b k
 prefixed doc root opened b (Err y) h l = h ∙ l
-prefixed doc root opened b (Ok (Done f)) h l = (l.0, l.1, h ∙ l.2)
-prefixed doc root opened b (Ok (On s')) h l = (l.0, l.1, h ∙ l.2)
+prefixed doc root opened b (Ok (Break f)) h l = (l.0, l.1, h ∙ l.2)
+prefixed doc root opened b (Ok (Continue s')) h l = (l.0, l.1, h ∙ l.2)
 
 module _ {doc : List ℕ} {root : Name} {opened : List ℕ} {inner : ℕ} {s : Walk} (g : Walking doc opened s) {r : Result Next Refusal} (x : NextIn doc root inner s r) (p : inner ≡ get_or opened (s.depth - 1 + 1024) 0) where
   frames : frames_of doc root opened s.depth ≡ element kinds.node (name_in doc root inner s) (get_or opened (s.depth - 1) 0) ∷ frames_of doc root opened (s.depth - 1)
@@ -105,7 +105,7 @@ module _ {doc : List ℕ} {root : Name} {opened : List ℕ} {inner : ℕ} {s : W
   }
 
   -- the closing tag
-  pub turn_close : {y : Closing} {k : Turn} {b : Lent} → r ≡ Ok (Next.Close y) → Shuts s y.end k → Turns doc root opened opened s b b (Ok k)
+  pub turn_close : {y : Closing} {k : ControlFlow Fill Walk} {b : Lent} → r ≡ Ok (Next.Close y) → Shuts s y.end k → Turns doc root opened opened s b b (Ok k)
   turn_close {y} {k} {b} e h = go k h.is
     where
       z : NextIn doc root inner s (Ok (Next.Close y))
@@ -138,12 +138,12 @@ module _ {doc : List ℕ} {root : Name} {opened : List ℕ} {inner : ℕ} {s : W
         owners = λ j l. g.owners j (omega arith);
       }
 
-      go : (k : Turn) → IsShut s y.end k → Turns doc root opened opened s b b (Ok k)
-      go (Done f) h = record {
+      go : (k : ControlFlow Fill Walk) → IsShut s y.end k → Turns doc root opened opened s b b (Ok k)
+      go (Break f) h = record {
         onward = rw h.1 bounded;
         leads = λ v w. (v, rw h.1 (moved_stands y.end w), shuts v ∙ last v h.0);
       }
-      go (On s') h = record {
+      go (Continue s') h = record {
         onward = rw h.1 (omega (arith, z.onward), walks h.0);
         leads = λ v w. rw h.1 (v, moved_stands y.end w, shuts v ∙ ap (runs doc y.end) (frames_closed doc root opened (s.depth - 1) v (nested h.0)));
       }
@@ -169,7 +169,7 @@ module _ {doc : List ℕ} {root : Name} {opened : List ℕ} {inner : ℕ} {s : W
           four = λ k. sym z.1.named.len ∙ ap length (node_name z.0.name (sym z.1.kind ∙ k));
         }
 
-    pub turn_begun : {opened' : List ℕ} {b b' : Lent} {k : Result Turn Refusal} → Begun doc c s opened opened' b b' k → Turns doc root opened opened' s b b' k
+    pub turn_begun : {opened' : List ℕ} {b b' : Lent} {k : Result (ControlFlow Fill Walk) Refusal} → Begun doc c s opened opened' b b' k → Turns doc root opened opened' s b b' k
     turn_begun {opened'} {b} {b'} {k} h = record {
       onward = h.onward;
       leads = λ v y.
@@ -202,7 +202,7 @@ module _ {doc opened : List ℕ} {c : StartTag} {s : Walk} (begun : Started doc 
   pub begun_deep : 0 < s.depth
   begun_deep = walks.deep
 
-  pub begun_open : {i : ℕ} {opened' rows rows' w text text' : List ℕ} {k : Result Turn Refusal} → c.kind ≡ kinds.node → i ≡ get_or opened (s.depth - 1) 0 → Opens doc c i s opened opened' rows rows' text text' k → Begun doc c s opened opened' (lent rows w text) (lent rows' w text') k
+  pub begun_open : {i : ℕ} {opened' rows rows' w text text' : List ℕ} {k : Result (ControlFlow Fill Walk) Refusal} → c.kind ≡ kinds.node → i ≡ get_or opened (s.depth - 1) 0 → Opens doc c i s opened opened' rows rows' text text' k → Begun doc c s opened opened' (lent rows w text) (lent rows' w text') k
   unfolding may_hold
   begun_open {i} {opened'} {rows} {rows'} {w} {text} {text'} {k} n q o = record {
     onward = o.onward;
@@ -214,7 +214,7 @@ module _ {doc opened : List ℕ} {c : StartTag} {s : Walk} (begun : Started doc 
       one : (root : Name) (t : Tag) (v : Tables Shown) → kind_of t.name ≡ kinds.node → runs doc c.end (child whole doc kinds.node (get_or opened (s.depth - 1) 0) t (frames_of doc root opened s.depth) v) ≡ runs doc c.end (begins whole doc kinds.node t (frames_of doc root opened s.depth) v)
       one root t v j = rw j
 
-  pub begun_child : {i : ℕ} {b b' : Lent} {k : Result Turn Refusal} → i ≡ get_or opened (s.depth - 1) 0 → ChildIn doc c i s b b' k → Begun doc c s opened opened b b' k
+  pub begun_child : {i : ℕ} {b b' : Lent} {k : Result (ControlFlow Fill Walk) Refusal} → i ≡ get_or opened (s.depth - 1) 0 → ChildIn doc c i s b b' k → Begun doc c s opened opened b b' k
   begun_child {i} {b} {b'} {k} q h = go k h.is
     where
       frames : (root : Name) → frames_of doc root opened s.depth ≡ element kinds.node (name_in doc root (get_or opened (s.depth - 1 + 1024) 0) s) (get_or opened (s.depth - 1) 0) ∷ frames_of doc root opened (s.depth - 1)
@@ -229,10 +229,10 @@ module _ {doc opened : List ℕ} {c : StartTag} {s : Walk} (begun : Started doc 
       again : (root : Name) (n at : ℕ) (u : Tables Shown) → n ≡ s.depth → runs doc at (closed (frames_of doc root opened s.depth) u) ≡ runs doc at (reading (frames_of doc root opened n) u)
       again root n at u e = rw (e, frames_closed doc root opened s.depth u walks.deep)
 
-      go : (k : Result Turn Refusal) → IsChildIn doc c i s b b' k → Begun doc c s opened opened b b' k
+      go : (k : Result (ControlFlow Fill Walk) Refusal) → IsChildIn doc c i s b b' k → Begun doc c s opened opened b b' k
       go (Err x) m = record { onward = tt; leads = λ root t v z y. ends root m v t z y }
-      go (Ok (Done f)) m = absurd m
-      go (Ok (On s')) m =
+      go (Ok (Break f)) m = absurd m
+      go (Ok (Continue s')) m =
           let d' : s'.depth ≡ s.depth = ap (λ (x : Walk). x.depth) m.1 in
           record {
             onward = (

@@ -13,8 +13,8 @@ use Rattle.document.specs.declared.Fill.{Fill}
 use Rattle.document.specs.declared.Next.{Next}
 use Rattle.document.specs.declared.Refusal.{Refusal}
 use Rattle.reader.specs.declared.Walk.{Walk}
-use Rattle.reader.specs.declared.Turn.{Turn}
-use Rattle.reader.specs.declared.Turn.TheVariants.{Done, On}
+use Rattle.std.specs.declared.ops.ControlFlow.{ControlFlow}
+use Rattle.std.specs.declared.ops.ControlFlow.TheVariants.{Break, Continue}
 
 -- the frames of the open nodes: the root, whose name is given, and nodes in it; the first 1,024 words are their rows, the root's
 -- first, and the next the places of their names, each `node`
@@ -33,24 +33,24 @@ pub record Walking (doc opened : List ℕ) (s : Walk) : Type 0 where
   pub named : (j : ℕ) → 0 < j → j < s.depth → get_or opened (j + 1024) 0 + 4 ≤ length doc
   pub owners : (j : ℕ) → j < s.depth → get_or opened j 0 < s.fill.rows
 
-abbrev pub OnwardTurn : List ℕ → List ℕ → Walk → Result Turn Refusal → Type 0
+abbrev pub OnwardTurn : List ℕ → List ℕ → Walk → Result (ControlFlow Fill Walk) Refusal → Type 0
 OnwardTurn doc opened s (Err x) = Unit {0}
-OnwardTurn doc opened s (Ok (Done g)) = Bounded doc g
-OnwardTurn doc opened s (Ok (On s')) = (s.fill.at < s'.fill.at) × Walking doc opened s'
+OnwardTurn doc opened s (Ok (Break g)) = Bounded doc g
+OnwardTurn doc opened s (Ok (Continue s')) = (s.fill.at < s'.fill.at) × Walking doc opened s'
 
 -- where a run in the open nodes comes to
-abbrev pub LeadsFrom : List ℕ → Name → List ℕ → State Shown → Lent → Result Turn Refusal → Type 0
+abbrev pub LeadsFrom : List ℕ → Name → List ℕ → State Shown → Lent → Result (ControlFlow Fill Walk) Refusal → Type 0
 LeadsFrom doc root opened x b (Err y) = x ≡ refused y
-LeadsFrom doc root opened x b (Ok (Done g)) = (u : Tables Shown) × Stands u b g × (x ≡ accepted u)
-LeadsFrom doc root opened x b (Ok (On s)) = (u : Tables Shown) × Stands u b s.fill × (x ≡ runs doc s.fill.at (reading (frames_of doc root opened s.depth) u))
+LeadsFrom doc root opened x b (Ok (Break g)) = (u : Tables Shown) × Stands u b g × (x ≡ accepted u)
+LeadsFrom doc root opened x b (Ok (Continue s)) = (u : Tables Shown) × Stands u b s.fill × (x ≡ runs doc s.fill.at (reading (frames_of doc root opened s.depth) u))
 
 -- what one token more says
-pub record Turns (doc : List ℕ) (root : Name) (opened opened' : List ℕ) (s : Walk) (b b' : Lent) (r : Result Turn Refusal) : Type 0 where
+pub record Turns (doc : List ℕ) (root : Name) (opened opened' : List ℕ) (s : Walk) (b b' : Lent) (r : Result (ControlFlow Fill Walk) Refusal) : Type 0 where
   pub onward : OnwardTurn doc opened' s r
   pub leads : (v : Tables Shown) → Stands v b s.fill → LeadsFrom doc root opened' (runs doc s.fill.at (reading (frames_of doc root opened s.depth) v)) b' r
 
 -- what a node in a node says, where row i is the innermost open node's
-pub record Opens (doc : List ℕ) (c : StartTag) (i : ℕ) (s : Walk) (opened opened' rows rows' text text' : List ℕ) (r : Result Turn Refusal) : Type 0 where
+pub record Opens (doc : List ℕ) (c : StartTag) (i : ℕ) (s : Walk) (opened opened' rows rows' text text' : List ℕ) (r : Result (ControlFlow Fill Walk) Refusal) : Type 0 where
   pub onward : OnwardTurn doc opened' s r
   pub leads :
       (root : Name) (t : Tag) (v : Tables Shown) (w : List ℕ) →
@@ -77,22 +77,22 @@ pub record NextIn (doc : List ℕ) (root : Name) (inner : ℕ) (s : Walk) (r : R
   pub leads : (f : Frame) (fs : List Frame) (u : Tables Shown) → name_of f ≡ name_in doc root inner s → Leads doc s.fill.at f fs u r
 
 -- what closing the innermost open node says: the root's end, or one level less
-abbrev pub IsShut : Walk → ℕ → Turn → Type 0
-IsShut s end (Done g) = (s.depth ≡ 1) × (g ≡ moved s.fill end)
-IsShut s end (On s') = (s.depth ≡ 1 → ⊥) × (s' ≡ record { depth = s.depth - 1; fill = moved s.fill end })
+abbrev pub IsShut : Walk → ℕ → ControlFlow Fill Walk → Type 0
+IsShut s end (Break g) = (s.depth ≡ 1) × (g ≡ moved s.fill end)
+IsShut s end (Continue s') = (s.depth ≡ 1 → ⊥) × (s' ≡ record { depth = s.depth - 1; fill = moved s.fill end })
 
-pub record Shuts (s : Walk) (end : ℕ) (r : Turn) : Type 0 where
+pub record Shuts (s : Walk) (end : ℕ) (r : ControlFlow Fill Walk) : Type 0 where
   pub is : IsShut s end r
 
 -- what a child that is no node says, where row i is the innermost open node's
-abbrev pub IsChildIn : List ℕ → StartTag → ℕ → Walk → Lent → Lent → Result Turn Refusal → Type 0
+abbrev pub IsChildIn : List ℕ → StartTag → ℕ → Walk → Lent → Lent → Result (ControlFlow Fill Walk) Refusal → Type 0
 IsChildIn doc c i s b b' (Err x) = Child doc kinds.in_node true c i (moved s.fill c.end) b b' (Err x)
-IsChildIn doc c i s b b' (Ok (Done g)) = ⊥
-IsChildIn doc c i s b b' (Ok (On s')) =
+IsChildIn doc c i s b b' (Ok (Break g)) = ⊥
+IsChildIn doc c i s b b' (Ok (Continue s')) =
     Child doc kinds.in_node true c i (moved s.fill c.end) b b' (Ok s'.fill)
     × (s' ≡ record { depth = s.depth; fill = s'.fill })
 
-pub record ChildIn (doc : List ℕ) (c : StartTag) (i : ℕ) (s : Walk) (b b' : Lent) (r : Result Turn Refusal) : Type 0 where
+pub record ChildIn (doc : List ℕ) (c : StartTag) (i : ℕ) (s : Walk) (b b' : Lent) (r : Result (ControlFlow Fill Walk) Refusal) : Type 0 where
   pub is : IsChildIn doc c i s b b' r
 
 -- a start tag in the innermost open node
@@ -103,7 +103,7 @@ pub record Started (doc opened : List ℕ) (c : StartTag) (s : Walk) : Type 0 wh
   pub four : c.kind ≡ kinds.node → c.len ≡ 4
 
 -- what the element of that tag says
-pub record Begun (doc : List ℕ) (c : StartTag) (s : Walk) (opened opened' : List ℕ) (b b' : Lent) (r : Result Turn Refusal) : Type 0 where
+pub record Begun (doc : List ℕ) (c : StartTag) (s : Walk) (opened opened' : List ℕ) (b b' : Lent) (r : Result (ControlFlow Fill Walk) Refusal) : Type 0 where
   pub onward : OnwardTurn doc opened' s r
   pub leads :
       (root : Name) (t : Tag) (v : Tables Shown) →

@@ -12,6 +12,7 @@ ghost use Rattle.reader.specs.Nodes.{Walking, Turns, Opens, Looks, NextIn, Shuts
 use document::{Counts, Fill, Next, Reader, Refusal, StartTag, Token, Verdict, kinds};
 use files::Reading;
 use scan::ClassTable;
+use std::ops::ControlFlow;
 use tags::step;
 
 // How many nodes are open, and the counts so far.
@@ -21,21 +22,14 @@ pub struct Walk {
     pub fill: Fill,
 }
 
-// What a turn of the node loop comes to: the root's end, or one token more. No Option: each has a value of its own.
-#[derive(Clone, Copy)]
-pub enum Turn {
-    Done(Fill),
-    On(Walk),
-}
-
 // A child of a node with row i that is no node itself.
 #[tactic(auto, using(crate::proofs::NodeChildren::node_children))]
-fn node_child(r: &mut Reader, c: StartTag, i: usize, f: Fill) -> Result<Fill, Refusal>
-    requires ready { Ready r.old.doc.now c f }
+fn node_child(r: &mut Reader, c: &StartTag, i: usize, f: Fill) -> Result<Fill, Refusal>
+    requires ready { Ready r.old.doc.now c.now f }
     requires owner { i < f.rows }
-    requires no_node { (c.kind ≡ kinds.node → ⊥) }
+    requires no_node { (c.now.kind ≡ kinds.node → ⊥) }
     ensures keeps { Keeps r.old r.new }
-    ensures is { Child r.old.doc.now kinds.in_node true c i f
+    ensures is { Child r.old.doc.now kinds.in_node true c.now i f
         (lent_to r.old)
         (lent_to r.new) result }
 {
@@ -70,14 +64,14 @@ fn open_node(
     rows: &mut [u32],
     text: &mut [u8],
     opened: &mut [u32],
-    c: StartTag,
+    c: &StartTag,
     i: usize,
     s: Walk,
-) -> Result<Turn, Refusal>
-    requires started { Started doc.now opened.old c s }
-    requires node { c.kind ≡ kinds.node }
+) -> Result<ControlFlow<Fill, Walk>, Refusal>
+    requires started { Started doc.now opened.old c.now s }
+    requires node { c.now.kind ≡ kinds.node }
     requires owner { i < s.fill.rows }
-    ensures { Opens doc.now c i s opened.old opened.new rows.old
+    ensures { Opens doc.now c.now i s opened.old opened.new rows.old
         rows.new text.old text.new result }
 {
     let f = s.fill;
@@ -86,13 +80,13 @@ fn open_node(
     let h = f.moved(c.end);
     let g = elements::node_row(doc, rows, text, c, i + 1, h)?;
     if closes {
-        return Ok(Turn::On(Walk { depth, fill: g }));
+        return Ok(ControlFlow::Continue(Walk { depth, fill: g }));
     }
     if depth == 1024 {
         return Err(document::bare(7, c.end));
     }
     keep_level(opened, depth, f.rows, c.at);
-    Ok(Turn::On(Walk {
+    Ok(ControlFlow::Continue(Walk {
         depth: depth + 1,
         fill: g,
     }))
@@ -118,18 +112,18 @@ fn next_in(
     step(doc, classes, from, inner, 4)
 }
 
-// The closing tag of the innermost open node.
+// The closing tag of the innermost open node: the root's end, or one level less.
 #[tactic(auto, using(crate::proofs::Turning::shutting))]
-fn close_node(s: Walk, end: usize) -> Turn
+fn close_node(s: Walk, end: usize) -> ControlFlow<Fill, Walk>
     requires { 0 < s.depth }
     ensures { Shuts s end result }
 {
     let f = s.fill;
     let fill = f.moved(end);
     if s.depth == 1 {
-        return Turn::Done(fill);
+        return ControlFlow::Break(fill);
     }
-    Turn::On(Walk {
+    ControlFlow::Continue(Walk {
         depth: s.depth - 1,
         fill,
     })
@@ -137,19 +131,24 @@ fn close_node(s: Walk, end: usize) -> Turn
 
 // A child of the innermost open node that is no node itself.
 #[tactic(auto, using(crate::proofs::Turning::child_ins))]
-fn read_child(r: &mut Reader, c: StartTag, i: usize, s: Walk) -> Result<Turn, Refusal>
-    requires ready { Ready r.old.doc.now c (moved s.fill c.end) }
+fn read_child(
+    r: &mut Reader,
+    c: &StartTag,
+    i: usize,
+    s: Walk,
+) -> Result<ControlFlow<Fill, Walk>, Refusal>
+    requires ready { Ready r.old.doc.now c.now (moved s.fill c.now.end) }
     requires owner { i < s.fill.rows }
-    requires no_node { (c.kind ≡ kinds.node → ⊥) }
+    requires no_node { (c.now.kind ≡ kinds.node → ⊥) }
     ensures keeps { Keeps r.old r.new }
-    ensures is { ChildIn r.old.doc.now c i s
+    ensures is { ChildIn r.old.doc.now c.now i s
         (lent_to r.old)
         (lent_to r.new) result }
 {
     let f = s.fill;
     let fill = f.moved(c.end);
     let g = node_child(r, c, i, fill)?;
-    Ok(Turn::On(Walk {
+    Ok(ControlFlow::Continue(Walk {
         depth: s.depth,
         fill: g,
     }))
@@ -157,22 +156,27 @@ fn read_child(r: &mut Reader, c: StartTag, i: usize, s: Walk) -> Result<Turn, Re
 
 // An element in the innermost open node.
 #[tactic(auto, using(crate::proofs::Turning::starteds))]
-fn start_in(r: &mut Reader, opened: &mut [u32], c: StartTag, s: Walk) -> Result<Turn, Refusal>
-    requires started { Started r.old.doc.now opened.old c s }
+fn start_in(
+    r: &mut Reader,
+    opened: &mut [u32],
+    c: &StartTag,
+    s: Walk,
+) -> Result<ControlFlow<Fill, Walk>, Refusal>
+    requires started { Started r.old.doc.now opened.old c.now s }
     ensures keeps { Keeps r.old r.new }
-    ensures is { Begun r.old.doc.now c s opened.old opened.new
+    ensures is { Begun r.old.doc.now c.now s opened.old opened.new
         (lent_to r.old)
         (lent_to r.new) result }
 {
     let last = s.depth - 1;
-    let i = wide(opened[last]);
+    let i = opened[last] as usize;
     if c.kind == kinds::NODE {
         return open_node(r.doc, &mut *r.rows, &mut *r.text, opened, c, i, s);
     }
     read_child(r, c, i, s)
 }
 
-// One token more in the innermost open node.
+// One token more in the innermost open node: the walk goes on, or it ends with the root.
 #[tactic(auto, using(crate::proofs::Turning::turns))]
 fn turn_at(
     r: &mut Reader,
@@ -180,7 +184,7 @@ fn turn_at(
     at: usize,
     len: usize,
     s: Walk,
-) -> Result<Turn, Refusal>
+) -> Result<ControlFlow<Fill, Walk>, Refusal>
     requires walking { Walking r.old.doc.now opened.old s }
     requires named { at + len ≤ length r.old.doc.now }
     ensures keeps { Keeps r.old r.new }
@@ -190,17 +194,11 @@ fn turn_at(
 {
     let last = s.depth - 1;
     let level = last + 1024;
-    let inner = wide(opened[level]);
+    let inner = opened[level] as usize;
     match next_in(r.doc, r.classes, at, len, inner, s)? {
         Next::Close(closing) => Ok(close_node(s, closing.end)),
-        Next::Start(c) => start_in(r, opened, c, s),
+        Next::Start(c) => start_in(r, opened, &c, s),
     }
-}
-
-fn wide(x: u32) -> usize
-    ensures { result ≡ x }
-{
-    x as usize
 }
 
 // The open nodes, up to the root's end.
@@ -223,8 +221,8 @@ fn nodes(
     // The next turn begins where this one ends.
     loop {
         match turn_at(r, opened, at, len, w)? {
-            Turn::Done(f) => return Ok(f),
-            Turn::On(next) => w = next,
+            ControlFlow::Break(f) => return Ok(f),
+            ControlFlow::Continue(next) => w = next,
         }
     }
 }
@@ -238,10 +236,10 @@ fn levels() -> [u32; 2048]
 
 // The children of the root, whose row is put.
 #[tactic(auto, using(crate::proofs::Rooted::leveled))]
-fn open_root(r: &mut Reader, c: StartTag, g: Fill) -> Result<Fill, Refusal>
-    requires opened { RootOpen r.old.doc.now c g r.old.rows.now r.old.text.now }
+fn open_root(r: &mut Reader, c: &StartTag, g: Fill) -> Result<Fill, Refusal>
+    requires opened { RootOpen r.old.doc.now c.now g r.old.rows.now r.old.text.now }
     ensures keeps { Keeps r.old r.new }
-    ensures is { ReadsRoot r.old.doc.now c (lent_to r.new) result }
+    ensures is { ReadsRoot r.old.doc.now c.now (lent_to r.new) result }
 {
     let mut opened = levels();
     let s = Walk { depth: 1, fill: g };
@@ -250,12 +248,12 @@ fn open_root(r: &mut Reader, c: StartTag, g: Fill) -> Result<Fill, Refusal>
 
 // The root element, which may have any name.
 #[tactic(auto, using(crate::proofs::Rooted::rooted))]
-fn root_node(r: &mut Reader, c: StartTag) -> Result<Fill, Refusal>
+fn root_node(r: &mut Reader, c: &StartTag) -> Result<Fill, Refusal>
     requires sound { Sound r.old.doc.now }
-    requires fits { TagFits r.old.doc.now c }
-    requires after_start { 0 < c.at }
+    requires fits { TagFits r.old.doc.now c.now }
+    requires after_start { 0 < c.now.at }
     ensures keeps { Keeps r.old r.new }
-    ensures is { ReadsRoot r.old.doc.now c (lent_to r.new) result }
+    ensures is { ReadsRoot r.old.doc.now c.now (lent_to r.new) result }
 {
     let fill = Fill {
         at: c.end,
@@ -280,7 +278,7 @@ fn document_node(r: &mut Reader) -> Result<Fill, Refusal>
     match tags::token(r.doc, r.classes, 0)? {
         Token::End(place) => Err(document::bare(3, place)),
         Token::Close(c) => Err(document::bare(4, c.lt + 1)),
-        Token::Start(c) => root_node(r, c),
+        Token::Start(c) => root_node(r, &c),
     }
 }
 

@@ -2,7 +2,7 @@
 -- Assumes nothing.
 use Prim.Native.Nat.{ℕ, ◌≤◌, ◌<◌}
 use Prim.Native.String as string
-use mathlib.Core.Path.{◌≡◌, refl, sym, ap, ◌∙◌}
+use mathlib.Core.Path.{◌≡◌, refl, ap, ◌∙◌}
 use mathlib.Core.List.{List, [], ◌∷◌}
 use mathlib.Core.Bool.{Bool, true, false, not, ◌&&◌, ◌||◌}
 use borrow.Author.Rules.{rules}
@@ -12,6 +12,7 @@ use lib.Dec.{eqb}
 use lib.ListN.{length, drop, get_or, drop_of_length-le}
 use lib.Seq.{drop-cons}
 use Rattle.std.proofs.Common.{Ok, Err}
+use Rattle.std.proofs.lemmas.Slice.Eq.{text_from_reads}
 use Rattle.slices.specs.Bytes.{if, bytes, all, empty, same}
 use Rattle.slices.proofs.Runs.{same_equal}
 use Rattle.references.specs.Characters.{xml_char}
@@ -41,54 +42,70 @@ module _ (s : List ℕ) where
     pub code_decimal : (get_or s 1 0 ≡ 120 → ⊥) → (get_or s 1 0 ≡ 88 → ⊥) → x ≡ of_digits 10 (digit_in 10) (drop 1 s) → x ≡ of_number (drop 1 s)
     code_decimal e g f = f ∙ rw (drop-cons s 1 0 h, ne_eqb (get_or s 1 0) 120 e, ne_eqb (get_or s 1 0) 88 g)
 
-pub char_none : (s : List ℕ) → length s ≡ 0 → reference_of (Err 10) ≡ char_reference s
-char_none [] h = refl
-char_none (b ∷ l) h = absurd (omega arith)
+-- a text is not some bytes, since its length is another or a byte is
+pub record Differs (s t : List ℕ) : Type 0 where
+  pub is : same s t ≡ false
 
-pub char_number : (s : List ℕ) {x : Reference} → (length s ≡ 0 → ⊥) → get_or s 0 0 ≡ 35 → x ≡ of_number (drop 1 s) → x ≡ char_reference s
-char_number [] h e f = absurd (h refl)
-char_number (b ∷ l) h e f = f ∙ rw e
+differs : (s t : List ℕ) → (s ≡ t → ⊥) → Differs s t
+differs s t n = go (same s t) refl (same_equal s t)
+  where
+    go : (r : Bool) → same s t ≡ r → (r ≡ true → s ≡ t) → Differs s t
+    go true e f = absurd (n (f refl))
+    go false e f = record { is = e }
 
-pub char_other : (s : List ℕ) → (length s ≡ 0 → ⊥) → (get_or s 0 0 ≡ 35 → ⊥) → reference_of (Err 10) ≡ char_reference s
-char_other [] h e = absurd (h refl)
-char_other (b ∷ l) h e = rw (ne_eqb b 35 e)
+module _ (s t : List ℕ) where
+  pub differs_short : length s < length t → Differs s t
+  differs_short h = differs s t (λ e. omega (arith, ap length e))
+
+  pub differs_long : length t < length s → Differs s t
+  differs_long h = differs s t (λ e. omega (arith, ap length e))
+
+  pub differs_at : (i : ℕ) → (get_or s i 0 ≡ get_or t i 0 → ⊥) → Differs s t
+  differs_at i h = differs s t (λ e. h (ap (λ (l : List ℕ). get_or l i 0) e))
 
 -- a `#` begins no name of an entity
-pub names_number : (s : List ℕ) {x : Reference} → 0 < length s → get_or s 0 0 ≡ 35 → x ≡ char_reference s → x ≡ reference s
+pub names_number : (s : List ℕ) {x : Reference} → 0 < length s → get_or s 0 0 ≡ 35 → x ≡ of_number (drop 1 s) → x ≡ reference s
 unfolding reference
 names_number [] h e k = absurd (omega arith)
-names_number (b ∷ l) h e k = rw e (rw e at k)
+names_number (b ∷ l) h e k = k ∙ rw e
 
-module _ (s : List ℕ) {a : Bool} (e : a ≡ same s (bytes "amp")) where
-  pub names_amp : a ≡ true → reference_of (Ok 38) ≡ reference s
-  unfolding reference
-  names_amp t = rw (sym e ∙ t)
+pub names_amp : {s : List ℕ} → s ≡ bytes "amp" → reference_of (Ok 38) ≡ reference s
+unfolding reference
+names_amp e = rw e
 
-  module _ (f : a ≡ false) {b : Bool} (e₂ : b ≡ same s (bytes "lt")) where
-    pub names_lt : b ≡ true → reference_of (Ok 60) ≡ reference s
-    unfolding reference
-    names_lt t = rw (sym e ∙ f, sym e₂ ∙ t)
+pub names_lt : {s : List ℕ} → s ≡ bytes "lt" → reference_of (Ok 60) ≡ reference s
+unfolding reference
+names_lt e = rw e
 
-    module _ (f₂ : b ≡ false) {c : Bool} (e₃ : c ≡ same s (bytes "gt")) where
-      pub names_gt : c ≡ true → reference_of (Ok 62) ≡ reference s
-      unfolding reference
-      names_gt t = rw (sym e ∙ f, sym e₂ ∙ f₂, sym e₃ ∙ t)
+pub names_gt : {s : List ℕ} → s ≡ bytes "gt" → reference_of (Ok 62) ≡ reference s
+unfolding reference
+names_gt e = rw e
 
-      module _ (f₃ : c ≡ false) {d : Bool} (e₄ : d ≡ same s (bytes "quot")) where
-        pub names_quot : d ≡ true → reference_of (Ok 34) ≡ reference s
-        unfolding reference
-        names_quot t = rw (sym e ∙ f, sym e₂ ∙ f₂, sym e₃ ∙ f₃, sym e₄ ∙ t)
+pub names_quot : {s : List ℕ} → s ≡ bytes "quot" → reference_of (Ok 34) ≡ reference s
+unfolding reference
+names_quot e = rw e
 
-        module _ (f₄ : d ≡ false) {i : Bool} (e₅ : i ≡ same s (bytes "apos")) where
-          pub names_apos : i ≡ true → reference_of (Ok 39) ≡ reference s
-          unfolding reference
-          names_apos t = rw (sym e ∙ f, sym e₂ ∙ f₂, sym e₃ ∙ f₃, sym e₄ ∙ f₄, sym e₅ ∙ t)
+pub names_apos : {s : List ℕ} → s ≡ bytes "apos" → reference_of (Ok 39) ≡ reference s
+unfolding reference
+names_apos e = rw e
 
-          pub names_none : {x : Reference} → i ≡ false → x ≡ char_reference s → x ≡ reference s
-          unfolding reference
-          names_none t k = k ∙ rw (sym e ∙ f, sym e₂ ∙ f₂, sym e₃ ∙ f₃, sym e₄ ∙ f₄, sym e₅ ∙ t)
+-- it begins with no `#`
+pub record Unnumbered (s : List ℕ) : Type 0 where
+  pub is : fault 10 ≡ char_reference s
 
-pub ruleset entities = (sixteen, ten, code_none, code_small_x, code_large_x, code_decimal, char_none, char_number, char_other, names_number, names_amp, names_lt, names_gt, names_quot, names_apos, names_none, rules)
+pub unnumbered_empty : (s : List ℕ) → length s < 1 → Unnumbered s
+unnumbered_empty [] h = record { is = refl }
+unnumbered_empty (b ∷ l) h = absurd (omega arith)
+
+pub unnumbered_first : (s : List ℕ) → (get_or s 0 0 ≡ 35 → ⊥) → Unnumbered s
+unnumbered_first [] h = record { is = refl }
+unnumbered_first (b ∷ l) h = record { is = rw (ne_eqb b 35 h) }
+
+pub names_none : {s : List ℕ} → Unnumbered s → Differs s (bytes "amp") → Differs s (bytes "lt") → Differs s (bytes "gt") → Differs s (bytes "quot") → Differs s (bytes "apos") → reference_of (Err 10) ≡ reference s
+unfolding reference
+names_none u a b c d e = u.is ∙ rw (a.is, b.is, c.is, d.is, e.is)
+
+pub ruleset entities = (names_number, names_amp, names_lt, names_gt, names_quot, names_apos, names_none, unnumbered_empty, unnumbered_first, differs_short, differs_long, differs_at, text_from_reads, rules)
 
 -- ---- a reference to a character has two bytes at least, and the character a code
 

@@ -35,7 +35,7 @@ fn is_digit(base: u32, b: u8) -> bool
     is_decimal(b)
 }
 
-// Three ranges, and each digit's value is the way from the start of its range.
+// The value of a digit. Three ranges, each with its own offset: the letters of either case go on from 10.
 fn digit_value(base: u32, b: u8) -> u32
     requires { digit_in base b ≡ true }
     ensures { result ≡ digit_value b }
@@ -49,7 +49,7 @@ fn digit_value(base: u32, b: u8) -> u32
     (b - 87) as u32
 }
 
-// What a number and a digit after it write, or 0x110000 where that is more.
+// What a number and a digit after it write, or 0x110000 where that is more, as the definition answers.
 fn extended(n: u32, base: u32, d: u32) -> u32
     requires bounded { n ≤ 0x110000 }
     requires base { Base base }
@@ -64,6 +64,7 @@ fn extended(n: u32, base: u32, d: u32) -> u32
 }
 
 // The code of the character that the digits from a place on write, with any number of zeros before them, or a fault's number.
+// `Err` holds the number alone: only the caller knows the place.
 #[tactic(auto, using(crate::proofs::Numbers::numbers))]
 pub fn of_digits(s: &[u8], from: usize, base: u32) -> Result<u32, u32>
     requires { Base base }

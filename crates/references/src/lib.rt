@@ -1,11 +1,11 @@
-// References in attribute values: unescape, char_reference, escape.
+// References in attribute values: unescape and escape.
 #![tactic(auto)]
 
 ghost use Rattle.std.specs.Prelude.{◌≡◌, ◌+◌, ◌*◌, ◌<◌, ◌^◌, length, drop, get_or, Ok};
 ghost use Rattle.answers.specs.Text.{answer_of, left_of};
 ghost use Rattle.answers.specs.Puts.{Puts};
 ghost use Rattle.references.specs.Escape.{escaped, escape};
-ghost use Rattle.references.specs.Unescape.{of_number, char_reference, reference};
+ghost use Rattle.references.specs.Unescape.{of_number, reference};
 ghost use Rattle.references.specs.Outcome.{reference_of, Pieces, Checks, Shows};
 ghost use Rattle.references.specs.Entries.{escaping, unescaping};
 ghost use Rattle.references.specs.Admission.{Admits, Reads};
@@ -65,40 +65,20 @@ fn of_number(entity: &[u8]) -> Result<u32, u32>
     }
 }
 
-// What stands between `&` and `;`, where it names none of the five entities.
-fn char_reference(entity: &[u8]) -> Result<u32, u32>
-    ensures { reference_of result ≡ char_reference entity.now }
-{
-    if 0 < entity.len() && entity[0] == b'#' {
-        return of_number(entity);
-    }
-    Err(10)
-}
-
-// What stands between `&` and `;`.
+// What stands between `&` and `;`: a number after `#`, or the name of one of five entities.
 #[tactic(auto, using(crate::proofs::Entities::entities))]
 fn reference_of(entity: &[u8]) -> Result<u32, u32>
     ensures { reference_of result ≡ reference entity.now }
 {
-    if 0 < entity.len() && entity[0] == b'#' {
-        return char_reference(entity);
+    match entity {
+        [b'#', ..] => of_number(entity),
+        b"amp" => Ok(38),
+        b"lt" => Ok(60),
+        b"gt" => Ok(62),
+        b"quot" => Ok(34),
+        b"apos" => Ok(39),
+        _ => Err(10),
     }
-    if slices::equal(entity, b"amp") {
-        return Ok(38);
-    }
-    if slices::equal(entity, b"lt") {
-        return Ok(60);
-    }
-    if slices::equal(entity, b"gt") {
-        return Ok(62);
-    }
-    if slices::equal(entity, b"quot") {
-        return Ok(34);
-    }
-    if slices::equal(entity, b"apos") {
-        return Ok(39);
-    }
-    char_reference(entity)
 }
 
 // What stands at a `&`, or a fault's number.
@@ -181,6 +161,7 @@ pub fn check(value: &[u8]) -> Result<(), ValueFault>
 }
 
 // Puts the shown bytes of a value at a count, up to its first fault.
+// The text and its count go apart, here and below: the count runs on past the room.
 #[tactic(auto, using(crate::proofs::Values::shown))]
 pub fn put_shown(value: &[u8], out: &mut [u8], n: usize) -> usize
     requires { n + length value.now < 2 ^ 62 }

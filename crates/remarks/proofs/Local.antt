@@ -18,15 +18,7 @@ use Rattle.scan.specs.Ignorable.{Mode, bare, quoted, changed, ends, declaration_
 use Rattle.document.proofs.Ignorables.{Scanned, ignorable_within}
 use Rattle.scan.specs.declared.Markup.{Markup}
 use Rattle.scan.specs.declared.Markup.TheVariants.{Tag, Ignored}
-
--- a key that is found ends past where the search began
-pub seek-after : (n : ℕ) (key : List ℕ) (c : ℕ) (l : List ℕ) (p q : ℕ) → seek n key c l p ≡ Ok q → p + length key ≤ q
-seek-after n key c [] p q e = let z : ◌≡◌ {A = ℕ} 0 1 = cc in absurd (omega arith)
-seek-after n key c (b ∷ l) p q e = go (starts key (b ∷ l)) e (λ f. seek-after n key c l (suc p) q f)
-  where
-    go : (t : Bool) → if t (Ok (p + length key)) (seek n key c l (suc p)) ≡ Ok q → (seek n key c l (suc p) ≡ Ok q → suc p + length key ≤ q) → p + length key ≤ q
-    go true e i = let z : p + length key ≡ q = cc in omega arith
-    go false e i = let z = i e in omega arith
+use Rattle.scan.proofs.Seek.{seek_past}
 
 -- a declaration ends past where it began
 pub declaration_after : (m : Mode) (l : List ℕ) (p q : ℕ) → declaration_in m l p ≡ Ok q → p < q
@@ -59,7 +51,7 @@ module _ (r r' : List ℕ) where
 
   module _ (n : ℕ) (key : List ℕ) (c : ℕ) (k : 0 < length key) where
     pub seek_local : (s : List ℕ) (p q : ℕ) → seek n key c (s ++ r) p ≡ Ok q → q ≤ p + length s → seek n key c (s ++ r') p ≡ Ok q
-    seek_local [] p q e h = absurd (let z = seek-after n key c r p q e in omega arith)
+    seek_local [] p q e h = absurd (let z = seek_past n key c r p q e in omega arith)
     seek_local (b ∷ s) p q e h = go (starts key (b ∷ s ++ r)) refl e (λ f g. seek_local s (suc p) q f g)
       where
         go : (t : Bool) → starts key (b ∷ s ++ r) ≡ t → if t (Ok (p + length key)) (seek n key c (s ++ r) (suc p)) ≡ Ok q → (seek n key c (s ++ r) (suc p) ≡ Ok q → q ≤ suc p + length s → seek n key c (s ++ r') (suc p) ≡ Ok q) → seek n key c (b ∷ s ++ r') p ≡ Ok q
@@ -67,7 +59,7 @@ module _ (r r' : List ℕ) where
             let z : p + length key ≡ q = cc in
             rw (sym (starts_local key (b ∷ s) (omega arith)) ∙ f) e
         go false f e i =
-            let z = seek-after n key c (s ++ r) (suc p) q e in
+            let z = seek_past n key c (s ++ r) (suc p) q e in
             rw (sym (starts_local key (b ∷ s) (omega arith)) ∙ f) (i e (omega arith))
 
   pub declaration_local : (m : Mode) (s : List ℕ) (p q : ℕ) → declaration_in m (s ++ r) p ≡ Ok q → q ≤ p + length s → declaration_in m (s ++ r') p ≡ Ok q
@@ -100,8 +92,8 @@ declared_after : (l : List ℕ) (at q : ℕ) → declared l at ≡ Ok q → at +
 declared_after l at q e = go (starts (bytes "--") l) (starts (bytes "[CDATA[") l) e
   where
     go : (t u : Bool) → if t (seek 22 (bytes "-->") (at + 4) (drop 2 l) (at + 4)) (if u (seek 23 (bytes "]]>") (at + 9) (drop 7 l) (at + 9)) (declaration_in (bare 0) l (at + 2))) ≡ Ok q → at + 2 < q
-    go true u e = let z = seek-after 22 (bytes "-->") (at + 4) (drop 2 l) (at + 4) q e in omega arith
-    go false true e = let z = seek-after 23 (bytes "]]>") (at + 9) (drop 7 l) (at + 9) q e in omega arith
+    go true u e = let z = seek_past 22 (bytes "-->") (at + 4) (drop 2 l) (at + 4) q e in omega arith
+    go false true e = let z = seek_past 23 (bytes "]]>") (at + 9) (drop 7 l) (at + 9) q e in omega arith
     go false false e = declaration_after (bare 0) l (at + 2) q e
 
 module _ (r r' : List ℕ) where
@@ -110,12 +102,12 @@ module _ (r r' : List ℕ) where
     where
       go : (t : Bool) → starts (bytes "--") (s ++ r) ≡ t → (u : Bool) → starts (bytes "[CDATA[") (s ++ r) ≡ u → if t (seek 22 (bytes "-->") (at + 4) (drop 2 (s ++ r)) (at + 4)) (if u (seek 23 (bytes "]]>") (at + 9) (drop 7 (s ++ r)) (at + 9)) (declaration_in (bare 0) (s ++ r) (at + 2))) ≡ Ok q → declared (s ++ r') at ≡ Ok q
       go true f u g e =
-          let z = seek-after 22 (bytes "-->") (at + 4) (drop 2 (s ++ r)) (at + 4) q e in
+          let z = seek_past 22 (bytes "-->") (at + 4) (drop 2 (s ++ r)) (at + 4) q e in
           let n : 2 ≤ length s = omega arith in
           rw (sym (starts_local r r' (bytes "--") s n) ∙ f, drop-append-le 2 s r' n)
           (seek_local r r' 22 (bytes "-->") (at + 4) (omega arith) (drop 2 s) (at + 4) q (rw (drop-append-le 2 s r n) at e) (rw length-drop (omega arith)))
       go false f true g e =
-          let z = seek-after 23 (bytes "]]>") (at + 9) (drop 7 (s ++ r)) (at + 9) q e in
+          let z = seek_past 23 (bytes "]]>") (at + 9) (drop 7 (s ++ r)) (at + 9) q e in
           let n : 7 ≤ length s = omega arith in
           rw (sym (starts_local r r' (bytes "--") s (omega arith)) ∙ f, sym (starts_local r r' (bytes "[CDATA[") s n) ∙ g, drop-append-le 7 s r' n)
           (seek_local r r' 23 (bytes "]]>") (at + 9) (omega arith) (drop 7 s) (at + 9) q (rw (drop-append-le 7 s r n) at e) (rw length-drop (omega arith)))
@@ -130,7 +122,7 @@ markup_after (b ∷ l) at q e = go (eqb b 33) (eqb b 63) e
   where
     go : (t u : Bool) → if t (ignored (declared l at)) (if u (ignored (seek 24 (bytes "?>") (at + 2) l (at + 2))) (Ok Tag)) ≡ Ok (Ignored q) → suc at < q
     go true u e = let z : declared l at ≡ Ok q = ignored_place (declared l at) q e in let y = declared_after l at q z in omega arith
-    go false true e = let z : seek 24 (bytes "?>") (at + 2) l (at + 2) ≡ Ok q = ignored_place (seek 24 (bytes "?>") (at + 2) l (at + 2)) q e in let y = seek-after 24 (bytes "?>") (at + 2) l (at + 2) q z in omega arith
+    go false true e = let z : seek 24 (bytes "?>") (at + 2) l (at + 2) ≡ Ok q = ignored_place (seek 24 (bytes "?>") (at + 2) l (at + 2)) q e in let y = seek_past 24 (bytes "?>") (at + 2) l (at + 2) q z in omega arith
     go false false e = let z : ◌≡◌ {A = ℕ} 0 1 = cc in absurd (omega arith)
 
 module _ (r r' : List ℕ) where

@@ -5,7 +5,6 @@ use mathlib.Core.Path.{◌≡◌, refl, sym, ap, subst, ◌∙◌}
 use mathlib.Core.List.{List, [], ◌∷◌, ◌++◌}
 use mathlib.Core.Bool.{Bool, true, false}
 use borrow.Author.Tests.{eqb-true}
-use native.Mathlib.Nat.{add-zero}
 use native.Mathlib.Omega.{arith}
 use lib.Dec.{eqb}
 use lib.ListN.{length, drop}
@@ -15,6 +14,7 @@ use Rattle.slices.specs.Bytes.{if, bytes, starts}
 use Rattle.scan.specs.Ignorable.{seek, markup, further, ignorable_from, ignored}
 use Rattle.scan.specs.declared.Markup.{Markup}
 use Rattle.scan.specs.declared.Markup.TheVariants.{Tag, Ignored}
+use Rattle.scan.proofs.Ignoring.{comment_bytes, taken}
 use Rattle.document.specs.Elements.{among}
 use Rattle.document.proofs.Tests.{never}
 use Rattle.met.specs.Passed.{here, beyond, passed_from}
@@ -49,25 +49,7 @@ passed_since c zero (b ∷ l) at e = go (eqb b 60) e (λ k f. passed_since c k l
     go true e i = marked (markup l at) e i
     go false e i = let z = i 0 e in omega arith
 
--- bytes that are taken already are dropped
-scanned : (k : ℕ) (l : List ℕ) (at : ℕ) → k ≤ length l → ignorable_from k l at ≡ ignorable_from 0 (drop k l) (at + k)
-scanned zero l at h = rw add-zero
-scanned (suc k) [] at h = absurd (omega arith)
-scanned (suc k) (b ∷ l) at h =
-    let e : suc at + k ≡ at + suc k = omega arith in
-    rw (← e) (scanned k l (suc at) (omega arith))
-
 -- ---- at the comment
-
--- what follows the `<` of a comment, whose inside and rest are r
-pub comment_bytes : (x y z : ℕ) (r : List ℕ) → starts (bytes "!--") (x ∷ y ∷ z ∷ r) ≡ true → (x ≡ 33) × (y ≡ 45) × (z ≡ 45)
-comment_bytes x y z r e = go (eqb 33 x) refl (eqb 45 y) refl (eqb 45 z) refl e
-  where
-    go : (t : Bool) → eqb 33 x ≡ t → (u : Bool) → eqb 45 y ≡ u → (v : Bool) → eqb 45 z ≡ v → if t (if u (if v true false) false) false ≡ true → (x ≡ 33) × (y ≡ 45) × (z ≡ 45)
-    go true f true g true h e = (sym (eqb-true 33 x f), sym (eqb-true 45 y g), sym (eqb-true 45 z h))
-    go true f true g false h e = never e
-    go true f false g v h e = never e
-    go false f u g v h e = never e
 
 -- passing on from the `<` of a comment at c that ends at e
 comment_passed : (c e x y z : ℕ) (r : List ℕ) → (x ≡ 33) × (y ≡ 45) × (z ≡ 45) → seek 22 (bytes "-->") (c + 4) r (c + 4) ≡ Ok e → c + 7 ≤ e → e ≤ c + 4 + length r → further (markup (x ∷ y ∷ z ∷ r) c) c (λ p. ignorable_from (p - suc c) (x ∷ y ∷ z ∷ r) (suc c)) ≡ ignorable_from 0 (drop (e - (c + 4)) r) e
@@ -76,7 +58,7 @@ comment_passed c e x y z r w o h i =
     let n : e - suc c ≡ suc (suc (suc (e - (c + 4)))) = omega arith in
     let q : suc c + (e - suc c) ≡ e = omega arith in
     let p : drop (e - suc c) (x ∷ y ∷ z ∷ r) ≡ drop (e - (c + 4)) r = rw n in
-    rw m (scanned (e - suc c) (x ∷ y ∷ z ∷ r) (suc c) (omega arith) ∙ rw (p, q))
+    rw m (taken (e - suc c) (x ∷ y ∷ z ∷ r) (suc c) (omega arith) ∙ rw (p, q))
 
 -- ---- the stretch that holds the comment: s is what both documents have from a place to the comment's inside, r and r' what
 -- follows in each

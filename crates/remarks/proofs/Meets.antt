@@ -1,6 +1,6 @@
 -- Two documents that differ inside a comment have the same tokens, and no token ends or closes inside it.
 -- Assumes nothing.
-use Prim.Native.Nat.{ℕ, zero, suc, ◌+◌, ◌-◌, ◌≤◌, ◌<◌}
+use Prim.Native.Nat.{ℕ, zero, suc, ◌+◌, ◌-◌, ◌≤◌}
 use mathlib.Core.Path.{◌≡◌, refl, sym, ap, ◌∙◌}
 use mathlib.Core.List.{List, [], ◌∷◌, ◌++◌}
 use mathlib.Core.Bool.{Bool, true, false}
@@ -16,19 +16,13 @@ use Rattle.document.specs.Elements.{among}
 use Rattle.document.specs.Tokens.{Token, start, close, fault, end, Next, more, last, past_ignorable, next, joined, tokens_from}
 use Rattle.document.proofs.Runs.{taken}
 use Rattle.document.proofs.Ignorables.{Scanned, ignorable_within}
-use Rattle.document.proofs.Nexts.{Onward, Ended, Reaches, next_reaches}
+use Rattle.document.proofs.Nexts.{Onward, Ended, Reaches, next_reaches, moves_on}
 use Rattle.document.proofs.Tests.{never}
 use Rattle.met.specs.Passed.{passed_from}
 use Rattle.remarks.proofs.Comments.{after, comments_from, apart}
 use Rattle.remarks.proofs.Faults.{Lies, next_lies}
 use Rattle.remarks.proofs.Tagged.{next_part}
 use Rattle.remarks.proofs.Meeting.{passed_since, meets}
-
-moves : (at top : ℕ) (t : Token) (q : ℕ) → Onward at top t q → (at < q) × (q ≤ top)
-moves at top (start t) q g = (omega (arith, g.since, g.long), g.within)
-moves at top (close lt n p) q g = (omega (arith, g.since, g.long), g.within)
-moves at top (fault n p) q g = absurd g
-moves at top (end p) q g = absurd g
 
 pub comments_since : (c k : ℕ) (l : List ℕ) (at : ℕ) → among c (comments_from k l at) ≡ true → at + k ≤ c
 comments_since c k [] at e = never e
@@ -131,7 +125,7 @@ module _ (c e : ℕ) (r r' rest : List ℕ) (o : seek 22 (bytes "-->") (c + 4) r
       past : (n : Next) → Reaches e (e + length rest) n → Lies e n → at ≤ c → Both n n
       past (last t) g x i = (refl, (last_out c e e (e + length rest) t (omega arith) g x, tt))
       past (more t q) g x i =
-          let v = moves e (e + length rest) t q g in
+          let v = moves_on e (e + length rest) t q g in
           let w : length rest ≡ length r - (e - (c + 4)) = rw (← y) (length-drop (e - (c + 4)) r) in
           let w' : length rest ≡ length r' - (e - (c + 4)) = rw (← y') (length-drop (e - (c + 4)) r') in
           let z = tokens_rest (s ++ r) rest (suc at) e q (omega arith) (left s r (suc at) (omega arith) y) (omega (arith, v.0)) (rw length-append (omega (arith, v.1))) in

@@ -15,6 +15,7 @@ use Rattle.slices.specs.Bytes.{if, bytes, starts}
 use Rattle.scan.specs.Ignorable.{seek, markup, ignored}
 use Rattle.scan.specs.declared.Markup.{Markup}
 use Rattle.scan.specs.declared.Markup.TheVariants.{Tag, Ignored}
+use Rattle.scan.proofs.Ignoring.{comment_bytes}
 use Rattle.document.specs.Elements.{among}
 use Rattle.document.specs.Tokens.{Token}
 use Rattle.document.proofs.Tests.{never}
@@ -23,7 +24,7 @@ use Rattle.met.specs.Met.{met_tokens, place_after, comments_to}
 use Rattle.remarks.proofs.Comments.{among_first, among_second, among_either}
 use Rattle.remarks.specs.Differing.{Differ, MetInBoth}
 use Rattle.remarks.proofs.Local.{markup_local}
-use Rattle.remarks.proofs.Meeting.{passed_since, comment_bytes}
+use Rattle.remarks.proofs.Meeting.{passed_since}
 use Rattle.remarks.proofs.Whole.{room, front_also, met_same}
 
 -- ---- among others

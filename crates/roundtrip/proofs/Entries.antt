@@ -71,16 +71,16 @@ module _ {doc rows' warnings text' name : List ℕ} {c : Item} {lent : Room} {r 
 
 -- ---- the bytes that `write` leaves
 
-text_of : (m : ℕ) (o : Text) → Ok m ≡ answer_of o → (t : List ℕ) × (o ≡ text t) × (length t ≡ m)
+pub text_of : (m : ℕ) (o : Text) → Ok m ≡ answer_of o → (t : List ℕ) × (o ≡ text t) × (length t ≡ m)
 text_of m (text t) e = (t, refl, cc)
 text_of m (wrong k p) e = let z : ◌≡◌ {A = ℕ} 0 1 = cc in absurd (omega arith)
 
 -- a test that did not end in a refusal
-passed : (b : Bool) (k p : ℕ) (o : Text) (t : List ℕ) → if b (wrong k p) o ≡ text t → o ≡ text t
+pub passed : (b : Bool) (k p : ℕ) (o : Text) (t : List ℕ) → if b (wrong k p) o ≡ text t → o ≡ text t
 passed true k p o t e = let z : ◌≡◌ {A = ℕ} 0 1 = cc in absurd (omega arith)
 passed false k p o t e = e
 
-sound_then : (s : Soundness) (o : Text) (t : List ℕ) → checked s o ≡ text t → (s ≡ sound) × (o ≡ text t)
+pub sound_then : (s : Soundness) (o : Text) (t : List ℕ) → checked s o ≡ text t → (s ≡ sound) × (o ≡ text t)
 sound_then sound o t e = (refl, e)
 sound_then (unsound p) o t e = let z : ◌≡◌ {A = ℕ} 0 1 = cc in absurd (omega arith)
 

@@ -12,20 +12,13 @@ use Rattle.slices.specs.Bytes.{other, span, past, all}
 use Rattle.slices.proofs.Runs.{both, Stops, span_stops, past_stops}
 use Rattle.scan.specs.Classes.{white, name_byte}
 use Rattle.scan.specs.Ignorable.{ignorable}
+use Rattle.scan.proofs.Class.{name_not_white}
 use Rattle.references.specs.Escape.{escape}
 use Rattle.references.proofs.RoundTrip.{escape_quoteless, unescape_escape}
 use Rattle.document.specs.Tags.{Attr, found, absent, attribute, gathered, gather, Shown, good, check, member}
 use Rattle.document.specs.Tokens as tokens
 use Rattle.document.specs.Tokens.{Tag, start, close, more, tagged, tag_end, opening, closing, next}
 use Rattle.items.specs.Written.{Pair, pair, pairs, ending, tag, closing_tag}
-
--- a byte of a name is no white space
-name_not_white : (b : ℕ) → name_byte b ≡ true → white b ≡ false
-name_not_white b h = go (white b) refl
-  where
-    go : (t : Bool) → white b ≡ t → white b ≡ false
-    go true e = let z : name_byte b ≡ false = rw e in cc
-    go false e = e
 
 -- a name: one or more bytes of a name
 abbrev pub Name : List ℕ → Type 0

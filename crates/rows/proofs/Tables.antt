@@ -4,7 +4,6 @@ use Prim.Native.Nat.{ℕ, suc, ◌+◌, ◌-◌, ◌≤◌, ◌<◌}
 use mathlib.Core.Path.{◌≡◌, refl, sym, ap, ◌∙◌}
 use mathlib.Core.List.{List, [], ◌∷◌, ◌++◌}
 use mathlib.Core.Option.{none}
-use borrow.Author.Rules.{rules}
 use native.Mathlib.Nat.{mul-one}
 use native.Mathlib.Omega.{arith}
 use lib.ListN.{length, take, drop, length-append, take-append-drop, length-take}
@@ -75,9 +74,6 @@ warning_put {reason} {place} {len} g = record {
         text = z.text;
       };
 }
-
--- what answers every need of the functions that put a row or a warning
-pub ruleset putting = (row_put, warning_put, rules)
 
 -- ---- a docstring
 

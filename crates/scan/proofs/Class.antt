@@ -1,17 +1,14 @@
 -- The table of classes: one test that computes, and what it says of each byte; and which bytes are below 128.
 -- Assumes nothing.
-use Prim.Native.Nat.{ℕ, zero, suc, ◌+◌, ◌/◌, ◌%◌, ◌<◌}
+use Prim.Native.Nat.{ℕ, zero, suc, ◌+◌, ◌<◌}
 use mathlib.Core.Path.{◌≡◌, refl, ◌∙◌, sym}
 use mathlib.Core.List.{List, [], ◌∷◌}
 use mathlib.Core.Bool.{Bool, true, false, false≢true}
 use native.Mathlib.Omega.{arith}
 use native.Mathlib.Nat.{add-zero, zero-add}
-use borrow.Author.Rules.{rules}
-use lib.Dec.{eqb}
 use lib.ListN.{get_or}
-use Rattle.slices.specs.Bytes.{if}
 use Rattle.slices.proofs.Runs.{by_byte}
-use Rattle.scan.specs.Classes.{Classes, class_of, white, name_byte, nc_name_byte, escapable}
+use Rattle.scan.specs.Classes.{Classes, class_of, white, name_byte}
 
 -- f at each of n numbers from i on
 abbrev tabulated : (ℕ → ℕ) → ℕ → ℕ → List ℕ
@@ -47,3 +44,11 @@ name_small b =
 
 pub white_small : (b : ℕ) → white b ≡ true → b < 128
 white_small b e = name_small b (rw e)
+
+-- a byte of a name is no white space
+pub name_not_white : (b : ℕ) → name_byte b ≡ true → white b ≡ false
+name_not_white b h = go (white b) refl
+  where
+    go : (t : Bool) → white b ≡ t → white b ≡ false
+    go true e = let z : name_byte b ≡ false = rw e in cc
+    go false e = e

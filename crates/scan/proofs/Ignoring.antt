@@ -3,7 +3,7 @@
 use Prim.Native.Nat.{ℕ, zero, suc, ◌+◌, ◌-◌, ◌≤◌, ◌<◌}
 use mathlib.Core.Path.{◌≡◌, refl, sym, ◌∙◌}
 use mathlib.Core.List.{List, [], ◌∷◌}
-use mathlib.Core.Bool.{Bool, true, false}
+use mathlib.Core.Bool.{Bool, true, false, false≢true}
 use borrow.Author.Rules.{rules}
 use borrow.Author.Tests.{ne_eqb, eqb-true, not-true, not-false}
 use native.Mathlib.Nat.{add-zero}
@@ -13,7 +13,7 @@ use lib.Dec.{eqb}
 use lib.ListN.{length, drop, get_or, length-drop, drop_of_length-le}
 use lib.Seq.{drop-cons, drop-drop}
 use Rattle.std.proofs.Common.{Result, Ok, Err}
-use Rattle.slices.specs.Bytes.{bytes, other, starts}
+use Rattle.slices.specs.Bytes.{bytes, other, starts, if}
 use Rattle.slices.specs.Run.{Run}
 use Rattle.slices.proofs.Runs.{run_past, run_stop, starts_fits}
 use Rattle.scan.specs.Ignorable.{Scans, Ignores, Marks, Onward, OnwardPast, bare, seek, declaration_in, declared, ignored, further, ignorable_from, ignorable}
@@ -75,7 +75,7 @@ module _ (s : List ℕ) (at : ℕ) where
 pub ruleset pieces = (comment_fits, declared_comment, cdata_fits, declared_cdata, declared_other, markup_last, markup_declared, markup_instruction, markup_tag, rules)
 
 -- bytes that are taken already are dropped
-taken : (k : ℕ) (l : List ℕ) (at : ℕ) → k ≤ length l → ignorable_from k l at ≡ ignorable_from 0 (drop k l) (at + k)
+pub taken : (k : ℕ) (l : List ℕ) (at : ℕ) → k ≤ length l → ignorable_from k l at ≡ ignorable_from 0 (drop k l) (at + k)
 taken zero l at h = rw add-zero
 taken (suc k) [] at h = absurd (omega arith)
 taken (suc k) (b ∷ l) at h =
@@ -136,3 +136,13 @@ module _ {s : List ℕ} {from at : ℕ} (g : Ignoring s from at) where
     ignore_less {p} {r} e n = let d : Marks s at (Ok (Ignored p)) = rw e at c in omega (arith, d.onward, n.onward)
 
 pub ruleset ignores = (ignore_begins, ignore_ended, ignore_tag, ignore_fault, ignore_more, ignore_onward, ignore_less, rules)
+
+-- what follows the `<` of a comment, whose inside and rest are r
+pub comment_bytes : (x y z : ℕ) (r : List ℕ) → starts (bytes "!--") (x ∷ y ∷ z ∷ r) ≡ true → (x ≡ 33) × (y ≡ 45) × (z ≡ 45)
+comment_bytes x y z r e = go (eqb 33 x) refl (eqb 45 y) refl (eqb 45 z) refl e
+  where
+    go : (t : Bool) → eqb 33 x ≡ t → (u : Bool) → eqb 45 y ≡ u → (v : Bool) → eqb 45 z ≡ v → if t (if u (if v true false) false) false ≡ true → (x ≡ 33) × (y ≡ 45) × (z ≡ 45)
+    go true f true g true h e = (sym (eqb-true 33 x f), sym (eqb-true 45 y g), sym (eqb-true 45 z h))
+    go true f true g false h e = absurd (false≢true e)
+    go true f false g v h e = absurd (false≢true e)
+    go false f u g v h e = absurd (false≢true e)

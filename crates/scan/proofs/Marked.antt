@@ -1,11 +1,10 @@
 -- What begins at a `<` and is ignored, by where a scan came to.
 -- Assumes nothing.
-use mathlib.Core.Path.{◌≡◌, refl}
+use mathlib.Core.Path.{◌≡◌}
 use Prim.Native.Nat.{ℕ}
 use Rattle.std.proofs.Common.{Result, Ok, Err}
 use Rattle.faults.specs.declared.Fault.{Fault}
 use Rattle.scan.specs.Ignorable.{ignored}
-use Rattle.scan.specs.declared.Markup.{Markup}
 use Rattle.scan.specs.declared.Markup.TheVariants.{Tag, Ignored}
 
 -- it ends where the scan came to

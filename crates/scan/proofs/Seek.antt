@@ -1,6 +1,6 @@
 -- The search for a key: bytes that it does not begin with are passed over.
 -- Assumes nothing.
-use Prim.Native.Nat.{ℕ, ◌+◌, ◌≤◌, ◌<◌}
+use Prim.Native.Nat.{ℕ, ◌+◌, ◌≤◌, ◌<◌, suc}
 use mathlib.Core.Path.{◌≡◌, refl, sym, ◌∙◌}
 use mathlib.Core.List.{List, [], ◌∷◌}
 use mathlib.Core.Bool.{Bool, true, false}
@@ -13,7 +13,7 @@ use lib.ListN.{length, drop, get_or, length-drop, drop_of_length-le}
 use lib.Seq.{drop-cons}
 use Rattle.std.proofs.Common.{Ok, Err}
 use Rattle.faults.specs.Fault.{fault}
-use Rattle.slices.specs.Bytes.{other, starts}
+use Rattle.slices.specs.Bytes.{other, starts, if}
 use Rattle.slices.specs.Run.{Run}
 use Rattle.slices.proofs.Runs.{run_past, starts_fits}
 use Rattle.scan.specs.Ignorable.{Scans, seek}
@@ -62,3 +62,12 @@ module _ {number : ℕ} {key s : List ℕ} {from at : ℕ} (g : Seeking number k
   seek_ends h = record { is = sym (g.left ∙ rw (drop_of_length-le s h)); onward = tt }
 
 pub ruleset seeks = (seek_begins, seek_first, seek_again, seek_found, seek_ends, rules)
+
+-- a key that is found ends past where the search began
+pub seek_past : (n : ℕ) (key : List ℕ) (c : ℕ) (l : List ℕ) (p q : ℕ) → seek n key c l p ≡ Ok q → p + length key ≤ q
+seek_past n key c [] p q e = let z : ◌≡◌ {A = ℕ} 0 1 = cc in absurd (omega arith)
+seek_past n key c (b ∷ l) p q e = go (starts key (b ∷ l)) e (λ f. seek_past n key c l (suc p) q f)
+  where
+    go : (t : Bool) → if t (Ok (p + length key)) (seek n key c l (suc p)) ≡ Ok q → (seek n key c l (suc p) ≡ Ok q → suc p + length key ≤ q) → p + length key ≤ q
+    go true e i = let z : p + length key ≡ q = cc in omega arith
+    go false e i = let z = i e in omega arith

@@ -15,6 +15,7 @@ use faults::Fault;
 pub use table::{ClassTable, classes};
 
 // What begins at a `<`: a tag, or what is ignored, and where that ends.
+// Not an Option: a tag is something that is found too, and a fault is the `Err` beside the two.
 #[derive(Clone, Copy)]
 pub enum Markup {
     Tag,
@@ -207,7 +208,7 @@ pub fn ignorable(s: &[u8], from: usize) -> Result<usize, Fault>
     requires { from ≤ length s.now }
     ensures { Scans ignorable s.now from result }
 {
-    let mut at = slices::find(s, from, b'<');
+    let mut at = slices::find_near(s, from, b'<');
     // The next place is what the call found, so no range has it.
     while at < s.len() {
         match markup_at(s, at)? {

@@ -55,14 +55,6 @@ module _ {base word : ℕ} {c : List ℕ} (b : base ≤ 96) (l : length c ≡ 12
           let d : base + k ≡ base + word → ⊥ = λ z. n (omega (arith, z)) in
           get_or-set_other c (base + word) (base + k) v 0 d ∙ rw (occurs_other k word n) (sym (add-zero (get_or c (base + k) 0)))
 
-  pub count_none : 32 ≤ word → Counted base (word ∷ []) c c
-  count_none h = record {
-    same = refl;
-    here = λ k m s. rw (occurs_other k word (omega arith)) (sym (add-zero (get_or c (base + k) 0)));
-    below = λ p q. refl;
-    above = λ p q. refl;
-  }
-
 -- ---- records
 
 empty_list : (r : List ℕ) → length r ≡ 0 → r ≡ []

@@ -160,8 +160,6 @@ module _ {s before c left : List ℕ} {names : ℕ} (g : Going s before c left n
       ended (ap (take 512) p ∙ take_at g.front q 512 (omega (arith, g.many, h)))
       (sym (ap (λ (x : List (List ℕ)). ltb 512 (length x)) p ∙ lt-ltb 512 (length (g.front ++ q)) l))
 
-pub ruleset going = (going_begins, going_more, going_ends, going_full, rules)
-
 -- ---- what is printed
 
 pub blank_stands : Stands 0 blank (replicate 128 0)

@@ -9,6 +9,7 @@ fn put_number(out: &mut [u8], n: usize, x: u32) -> usize
     ensures { PutsFew 10 (decimal x) n out.old out.new result }
 {
     let mut digits = [0u8; 20];
+    // `as` and not `u64::from`, over which the proof does not close.
     let k = io::decimal(x as u64, &mut digits);
     answers::put::put_bytes(out, n, &digits[..k])
 }

@@ -10,11 +10,12 @@ use borrow.Author.Tests.{lt-leb}
 use native.Mathlib.Omega.{arith}
 use Rattle.std.specs.Prelude.{min}
 use Rattle.std.proofs.lemmas.Bool.{ltb-true, ltb-false}
+use Rattle.std.proofs.lemmas.Slice.Eq.{text_from_reads}
 use Rattle.std.proofs.Math.Dec.{ltb}
 use Rattle.std.proofs.Math.Nat.{min-eq_left, min-eq_right}
 use lib.ListN.{length, take}
 use lib.Seq.{length-take-le, ext_get_or, get_or-take}
-use Rattle.slices.specs.Bytes.{if, bytes, same}
+use Rattle.slices.specs.Bytes.{bytes, same}
 use Rattle.slices.proofs.Runs.{same_short}
 use Rattle.tables.specs.Table.{Rep}
 use Rattle.tables.proofs.Tables.{whole_one, empty_stands}
@@ -22,6 +23,7 @@ use Rattle.names.specs.Names.{interface_name, member_name, property_name}
 use Rattle.names.specs.Signature.{signature, basic_code, basic_signature}
 use Rattle.answers.specs.Text.{text}
 use Rattle.references.specs.Outcome.{Shows}
+use Rattle.references.proofs.Entities.{Differs, differs_short, differs_long, differs_at}
 use Rattle.references.proofs.Shapes.{unescape_plain}
 use Rattle.document.specs.Tags.{Shown}
 use Rattle.document.specs.Elements.{some_signature, access_of, direction_of}
@@ -123,11 +125,28 @@ pub some_there : (s : List ℕ) {r : Bool} → (length s ≡ 0 → ⊥) → r �
 some_there [] h e = absurd (h refl)
 some_there (b ∷ l) h e = e
 
-pub first-is : (b : Bool) {t : Bool} (x y : ℕ) {z : ℕ} → t ≡ b → t ≡ true → z ≡ x → z ≡ if b x y
-first-is b x y e f g = rw (sym e ∙ f) g
+-- an access and a direction, by what a text is and is not
+module _ {s : List ℕ} where
+  pub access_read : s ≡ bytes "read" → 1 ≡ access_of s
+  access_read e = rw e
 
-pub later_is : (b : Bool) {t : Bool} (x y : ℕ) {z : ℕ} → t ≡ b → t ≡ false → z ≡ y → z ≡ if b x y
-later_is b x y e f g = rw (sym e ∙ f) g
+  pub access_write : s ≡ bytes "write" → 2 ≡ access_of s
+  access_write e = rw e
+
+  pub access_both : s ≡ bytes "readwrite" → 3 ≡ access_of s
+  access_both e = rw e
+
+  pub access_none : Differs s (bytes "read") → Differs s (bytes "write") → Differs s (bytes "readwrite") → 0 ≡ access_of s
+  access_none a b c = rw (a.is, b.is, c.is)
+
+  pub direction_in : s ≡ bytes "in" → 1 ≡ direction_of s
+  direction_in e = rw e
+
+  pub direction_out : s ≡ bytes "out" → 2 ≡ direction_of s
+  direction_out e = rw e
+
+  pub direction_none : Differs s (bytes "in") → Differs s (bytes "out") → 0 ≡ direction_of s
+  direction_none a b = rw (a.is, b.is)
 
 -- what answers every need of the tests on a text
-pub ruleset texts = (some_empty, some_there, first-is, later_is, rules)
+pub ruleset texts = (some_empty, some_there, access_read, access_write, access_both, access_none, direction_in, direction_out, direction_none, differs_short, differs_long, differs_at, text_from_reads, rules)

@@ -14,14 +14,11 @@ pub fn some_signature(s: &[u8]) -> bool
 pub fn access(s: &[u8]) -> u32
     ensures { result ≡ access_of s.now }
 {
-    if slices::equal(s, b"read") {
-        1
-    } else if slices::equal(s, b"write") {
-        2
-    } else if slices::equal(s, b"readwrite") {
-        3
-    } else {
-        0
+    match s {
+        b"read" => 1,
+        b"write" => 2,
+        b"readwrite" => 3,
+        _ => 0,
     }
 }
 
@@ -30,11 +27,9 @@ pub fn access(s: &[u8]) -> u32
 pub fn direction(s: &[u8]) -> u32
     ensures { result ≡ direction_of s.now }
 {
-    if slices::equal(s, b"in") {
-        1
-    } else if slices::equal(s, b"out") {
-        2
-    } else {
-        0
+    match s {
+        b"in" => 1,
+        b"out" => 2,
+        _ => 0,
     }
 }

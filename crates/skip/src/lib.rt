@@ -1,4 +1,5 @@
 // Passing over elements: skipped ones, and docstrings.
+// No function takes a whole `Reader`: the parts that it is not given it leaves alone, with no clause to say so.
 #![tactic(auto)]
 
 ghost use Rattle.std.specs.Prelude.{◌≡◌, ◌+◌, ◌-◌, ◌≤◌, ◌<◌, length, take, drop};
@@ -51,11 +52,11 @@ pub fn skip_unsupported(
     doc: &[u8],
     classes: &ClassTable,
     warnings: &mut [u32],
-    c: StartTag,
+    c: &StartTag,
     f: Fill,
 ) -> Result<Fill, Refusal>
-    requires ready { Ready doc.now c f }
-    ensures { Ignores doc.now c f warnings.old warnings.new result }
+    requires ready { Ready doc.now c.now f }
+    ensures { Ignores doc.now c.now f warnings.old warnings.new result }
 {
     let g = rows::put_warning(warnings, 1, c.at, c.len, f);
     if c.closes {
@@ -80,7 +81,6 @@ fn capture(doc: &[u8], rows: &mut [u32], from: usize, lt: usize, i: usize)
     let end = s.end;
     if start < end {
         tables::put_docstring(rows, i, (from + start) as u32, (end - start) as u32);
-        return;
     }
 }
 
@@ -90,13 +90,13 @@ pub fn docstring(
     doc: &[u8],
     classes: &ClassTable,
     rows: &mut [u32],
-    c: StartTag,
+    c: &StartTag,
     i: usize,
     f: Fill,
 ) -> Result<Fill, Refusal>
-    requires ready { Ready doc.now c f }
+    requires ready { Ready doc.now c.now f }
     requires owner { i < f.rows }
-    ensures { Captures doc.now c i f rows.old rows.new result }
+    ensures { Captures doc.now c.now i f rows.old rows.new result }
 {
     if c.closes {
         return Ok(f);
@@ -113,13 +113,13 @@ pub fn docstring_or_skip(
     classes: &ClassTable,
     rows: &mut [u32],
     warnings: &mut [u32],
-    c: StartTag,
+    c: &StartTag,
     i: usize,
     f: Fill,
 ) -> Result<Fill, Refusal>
-    requires ready { Ready doc.now c f }
+    requires ready { Ready doc.now c.now f }
     requires owner { i < f.rows }
-    ensures { Others doc.now c i f rows.old rows.new warnings.old
+    ensures { Others doc.now c.now i f rows.old rows.new warnings.old
         warnings.new result }
 {
     if c.kind == kinds::DOCSTRING {

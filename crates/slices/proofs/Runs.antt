@@ -122,13 +122,6 @@ module _ {p : ℕ → Bool} {s : List ℕ} {from at : ℕ} (g : Running p s from
     within = g.inside;
   }
 
-  -- the same where a callee answers whether the byte is of the class
-  pub run_more_by : {r : Bool} → at < length s → r ≡ p (get_or s at 0) → r ≡ true → Running p s from (at + 1)
-  run_more_by h e t = run_more h (sym e ∙ t)
-
-  pub run_stops_by : {r : Bool} → at < length s → r ≡ p (get_or s at 0) → r ≡ false → Run p s from at
-  run_stops_by h e t = run_stops h (sym e ∙ t)
-
   pub run_ends : length s ≤ at → Run p s from at
   run_ends h = record {
     ends = sym (g.left ∙ rw (drop_of_length-le s h) (add-zero at));
@@ -141,9 +134,6 @@ other_false a b e = rw (eq-eqb a b e)
 
 pub other_true : (a b : ℕ) → (a ≡ b → ⊥) → other b a ≡ true
 other_true a b e = rw (ne_eqb a b e)
-
--- what answers every need of a loop over a run
-pub ruleset runs = (run_begins, run_more, run_stops, run_more_by, run_stops_by, run_ends, other_false, other_true, rules)
 
 -- a comparison of a key with what stands at a place, after i equal bytes
 pub record Matching (s : List ℕ) (from : ℕ) (key : List ℕ) (i : ℕ) : Type 0 where

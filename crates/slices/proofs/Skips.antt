@@ -5,7 +5,7 @@ use native.Mathlib.Decide.{dec_lt}
 use Rattle.slices.specs.Bytes.{other}
 use Rattle.slices.specs.Run.{Blocks, Run, Told, Without, Sought}
 use Rattle.slices.specs.Word.{Equal}
-use Rattle.slices.proofs.Runs.{Running, run_begins, run_more, other_true}
+use Rattle.slices.proofs.Runs.{Running, run_begins, run_more, run_stops, other_false, other_true}
 
 -- ---- blocks that pass a test
 
@@ -79,6 +79,12 @@ without_running {s} {b} {from} {r} g =
 pub sought_running : {s : List ℕ} {b from at end r : ℕ} → Without s b from at → Sought s b at end r → Running (other b) s from r
 sought_running g k = without_running (without_join g k.without)
 
+-- b stands where a search by 4 words ended before their end
+pub near_found : {s : List ℕ} {b from r : ℕ} → Sought s b from (from + 32) r → r < from + 32 → from ≤ length s → 32 ≤ length s - from → Run (other b) s from r
+near_found {s} {b} {from} {r} g h k l = run_stops (without_running g.without) (omega arith) (other_false (get_or s r 0) b (g.found h))
+
 -- a run that goes on from a place up to which it went
 pub run_join : {p : ℕ → Bool} {s : List ℕ} {from at r : ℕ} → Running p s from at → Run p s at r → Run p s from r
 run_join g n = record { ends = n.ends ∙ sym g.left; onward = omega (arith, g.since, n.onward); within = n.within }
+
+pub ruleset finds = (near_found, rules)

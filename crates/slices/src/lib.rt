@@ -131,6 +131,22 @@ pub fn find(s: &[u8], from: usize, b: u8) -> usize
     run_end(s, near, |x| x != b)
 }
 
+// The same for a byte that is near as a rule: 4 words first. By `find`, which looks at whole blocks first, reading takes 4 % more time.
+#[tactic(auto, using(crate::proofs::Skips::finds))]
+pub fn find_near(s: &[u8], from: usize, b: u8) -> usize
+    requires { from ≤ length s.now }
+    ensures { Run (other b) s.now from result }
+{
+    if s.len() - from < 32 {
+        return find(s, from, b);
+    }
+    let at = by_words(s, from, 4, b);
+    if at < from + 32 {
+        return at;
+    }
+    find(s, at, b)
+}
+
 // Whether the key stands at a place. Not by std's `starts_with`, nor `equal` by `==`: reading takes 10 % more instructions a byte with them.
 #[tactic(auto, using(crate::proofs::Runs::matches))]
 pub fn starts_at(s: &[u8], from: usize, key: &[u8]) -> bool

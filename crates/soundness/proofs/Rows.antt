@@ -1,18 +1,22 @@
 -- Rows: their places, their texts, and the first bad one.
 -- Assumes nothing.
 use Prim.Native.Nat.{ℕ, zero, suc, ◌+◌, ◌*◌, ◌-◌, ◌/◌, ◌≤◌, ◌<◌}
-use mathlib.Core.Path.{◌≡◌, refl, sym, ◌∙◌}
+use mathlib.Core.Path.{◌≡◌, refl, ap, sym, ◌∙◌}
 use mathlib.Core.List.{List, []}
-use mathlib.Core.Bool.{Bool, true, false, ◌&&◌, and-false}
+use mathlib.Core.Bool.{Bool, true, false, ◌&&◌, ◌||◌, and-false}
 use borrow.Author.Rules.{rules}
-use borrow.Author.Tests.{ne_eqb, lt-ltb, le-ltb, le-leb, lt-leb}
+use borrow.Author.Tests.{ne_eqb, lt-ltb, le-ltb, ltb-false, le-leb, lt-leb}
 use native.Mathlib.Nat.{add-zero, div-mul-le_self}
 use native.Mathlib.Numerals.{add-one}
 use native.Mathlib.Omega.{arith}
 use lib.Dec.{eqb, leb, ltb}
 use lib.ListN.{length, take, drop, get_or}
-use Rattle.std.specs.Prelude.{Option, None, Some, Result, Ok, Err}
+use Rattle.std.specs.Prelude.{Option, None, Some, Result, Ok, Err, MatchResult, IsErrAnd}
+use Rattle.std.proofs.lemmas.Result.{err_from_is_err_and}
 use Rattle.std.specs.Borrow.{Bor}
+use Rattle.faults.specs.Fault.{fault}
+use Rattle.faults.specs.declared.Fault.{Fault}
+use Rattle.slices.specs.Bytes.{if}
 use Rattle.tables.specs.declared.Triple.{Triple}
 use Rattle.document.specs.Kinds as kinds
 use Rattle.document.specs.Elements.{may_hold}
@@ -20,11 +24,11 @@ use Rattle.utf8.specs.WellFormed.{ill_formed}
 use Rattle.utf8.specs.Trim.{Start}
 use Rattle.utf8.proofs.Parts.{start_none}
 use Rattle.items.specs.Words.{RowWords, word_at, Word, triple_at, TripleIs, row_of, rows_of}
-use Rattle.items.specs.Sound.{kind_at, placed, good_triple, name_use, value_use, tp_use, doc_use, valid_name, valid_value, any_text, in_document, valid_word, sound_row, first_bad, sound, unsound, soundness, good_row}
+use Rattle.items.specs.Sound.{kind_at, placed, good_triple, name_use, value_use, tp_use, doc_use, valid_name, valid_value, any_text, in_document, valid_word, sound_row, first_bad, Soundness, sound, unsound, soundness, good_row}
 use Rattle.items.specs.Order.{DocumentOrder}
 use Rattle.items.proofs.Rows.{row-at, rows_past, kind_at_lem}
 use Rattle.items.proofs.Words.{word_in}
-use Rattle.soundness.specs.Outcome.{good_doc, good_texts, Placed, Texts, RowGood, Orders, Counted, Tallied, ByTally, Prepared, RowSound, FirstBad, Judges}
+use Rattle.soundness.specs.Outcome.{good_doc, good_texts, Placed, Texts, RowGood, Orders, Counted, Tallied, ByTally, Prepared, RowSound, FirstBad, Judges, refusal_of, admission, Admits}
 use Rattle.soundness.specs.declared.tally.Tally.{Tally}
 use Rattle.soundness.specs.declared.tally.Tally.TheVariants.{Empty}
 use Rattle.soundness.proofs.Tallies.{tally_begins, tally_counts}
@@ -254,3 +258,55 @@ module _ {d x ws : List ℕ} {n : ℕ} {r : Result Unit ℕ} (g : Judges d x ws 
 
   pub judged_unsound : {p : ℕ} → r ≡ Err p → soundness d x ws n ≡ unsound p
   judged_unsound e = sym (rw e at g).is
+
+-- ---- what is admitted
+
+module _ {d x ws : List ℕ} {n : ℕ} where
+  pub admit_document : 1048576 < length d → Admits d x ws n (Err (fault 2 1048576))
+  unfolding admission
+  admit_document h = record { is = rw (lt-ltb 1048576 (length d) h) }
+
+  module _ (h : length d ≤ 1048576) where
+    pub admit_text : 1048576 < length x → Admits d x ws n (Err (fault 2 1048576))
+    unfolding admission
+    admit_text k = record { is = rw (le-ltb 1048576 (length d) h, lt-ltb 1048576 (length x) k) }
+
+    -- F of a place and a fault says that the fault is 19 at the place
+    pub admit_checked : length x ≤ 1048576 → {z : Result Unit ℕ} {r : Result Unit Fault} {F : ℕ → Fault → Type 0} → Judges d x ws n z
+        → MatchResult z (λ u. r ≡ Ok u) (λ p. IsErrAnd r (F p)) → ((p : ℕ) (f : Fault) → F p f → f ≡ fault 19 p) → Admits d x ws n r
+    unfolding admission
+    admit_checked k {z} {r} {F} g m t = record { is = rw (le-ltb 1048576 (length d) h, le-ltb 1048576 (length x) k) (go z refl r m) }
+      where
+        go : (y : Result Unit ℕ) → z ≡ y → (q : Result Unit Fault) → MatchResult y (λ u. q ≡ Ok u) (λ p. IsErrAnd q (F p)) → q ≡ refusal_of (soundness d x ws n)
+        go (Ok u) e q a = a ∙ rw (judged_sound g e)
+        go (Err p) e q a =
+            let b = err_from_is_err_and q a in
+            b.1 ∙ ap Err (t p b.0 b.2) ∙ rw (judged_unsound g e)
+
+-- for whoever matches on that: what is admitted, and an answer by cases that is a refusal or not
+module _ {d x ws : List ℕ} {n : ℕ} {r : Result Unit Fault} (g : Admits d x ws n r) where
+  pub admitted : {u : Unit} → r ≡ Ok u → (length d ≤ 1048576) × (length x ≤ 1048576) × (soundness d x ws n ≡ sound)
+  unfolding admission
+  admitted e = go (ltb 1048576 (length d)) refl (ltb 1048576 (length x)) refl (soundness d x ws n) refl (sym e ∙ g.is)
+    where
+      go : {u : Unit} (b : Bool) → ltb 1048576 (length d) ≡ b → (c : Bool) → ltb 1048576 (length x) ≡ c → (s : Soundness) → soundness d x ws n ≡ s → ◌≡◌ {A = Result Unit Fault} (Ok u) (if (b || c) (Err (fault 2 1048576)) (refusal_of s))
+          → (length d ≤ 1048576) × (length x ≤ 1048576) × (soundness d x ws n ≡ sound)
+      go true h c k s v q = absurd (cc)
+      go false h true k s v q = absurd (cc)
+      go false h false k (unsound p) v q = absurd (cc)
+      go false h false k sound v q = (ltb-false 1048576 (length d) h, ltb-false 1048576 (length x) k, v)
+
+  module _ {A : Type 0} (w : ℕ → ℕ → A) (c : Soundness → A) where
+    pub refused_as : ((p : ℕ) → c (unsound p) ≡ w 19 p) → {f : Fault} → r ≡ Err f
+        → if (ltb 1048576 (length d) || ltb 1048576 (length x)) (w 2 1048576) (c (soundness d x ws n)) ≡ w f.number f.place
+    unfolding admission
+    refused_as h e = go (ltb 1048576 (length d) || ltb 1048576 (length x)) (soundness d x ws n) (sym e ∙ g.is)
+      where
+        go : {f : Fault} (b : Bool) (s : Soundness) → ◌≡◌ {A = Result Unit Fault} (Err f) (if b (Err (fault 2 1048576)) (refusal_of s)) → if b (w 2 1048576) (c s) ≡ w f.number f.place
+        go {f} true s q = let z : f ≡ fault 2 1048576 = cc in rw z
+        go {f} false (unsound p) q = let z : f ≡ fault 19 p = cc in rw z (h p)
+        go false sound q = absurd (cc)
+
+    pub admitted_as : {u : Unit} → r ≡ Ok u
+        → if (ltb 1048576 (length d) || ltb 1048576 (length x)) (w 2 1048576) (c (soundness d x ws n)) ≡ c sound
+    admitted_as e = let a = admitted e in rw (le-ltb 1048576 (length d) a.0, le-ltb 1048576 (length x) a.1, a.2)

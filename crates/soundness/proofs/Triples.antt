@@ -9,6 +9,7 @@ use borrow.Author.Tests.{eqb-true, ne_eqb, le-leb, lt-leb}
 use lib.Dec.{eqb, leb}
 use lib.ListN.{length, take, drop}
 use Rattle.slices.specs.Bytes.{if}
+use Rattle.slices.proofs.Runs.{and_both}
 use Rattle.utf8.specs.WellFormed.{well_formed}
 use Rattle.tables.specs.Triple.{inside, shown}
 use Rattle.tables.specs.declared.Triple.{Triple}
@@ -178,10 +179,6 @@ pub ruleset typed_texts = (tp_absent, tp_unused, tp_text, rules)
 
 -- ---- docstrings
 
-and_first : (a b c : Bool) → a && b && c ≡ true → a ≡ true
-and_first true b c e = refl
-and_first false b c e = e
-
 either_doc : (b : Bool) → not (if b unused optional).must ≡ true
 either_doc true = refl
 either_doc false = refl
@@ -191,7 +188,7 @@ module _ (d x : List ℕ) (k : ℕ) (t : Triple) {a : Bool} (e : a ≡ absent t)
   unfolding good_doc
   doc_absent h =
       let s : absent t ≡ true = sym e ∙ h in
-      let z : eqb t.source 0 ≡ true = and_first (eqb t.source 0) (eqb t.start 0) (eqb t.len 0) s in
+      let z : eqb t.source 0 ≡ true = (and_both (eqb t.source 0) (eqb t.start 0) (and_both (eqb t.source 0 && eqb t.start 0) (eqb t.len 0) s).0).0 in
       sym (rw (good_absent d x (doc_use k) any_text t s, either_doc (eqb k 6), z))
 
   module _ (h : a ≡ false) where

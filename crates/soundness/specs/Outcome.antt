@@ -1,8 +1,10 @@
 -- What the check of sound rows says, and its parts.
 -- Assumes nothing.
-use Rattle.std.specs.Prelude.{ℕ, suc, ◌+◌, ◌*◌, ◌≤◌, ◌<◌, ◌≡◌, Bool, true, false, not, ◌&&◌, ◌||◌, List, [], ◌∷◌, eqb, leb, length, take, drop, get_or, Option, None, Some, Result, Ok, Err}
+use Rattle.std.specs.Prelude.{ℕ, suc, ◌+◌, ◌*◌, ◌≤◌, ◌<◌, ◌≡◌, Bool, true, false, not, ◌&&◌, ◌||◌, List, [], ◌∷◌, eqb, leb, ltb, length, take, drop, get_or, Option, None, Some, Result, Ok, Err}
 use Rattle.std.specs.Borrow.{Bor}
 use Rattle.slices.specs.Bytes.{if}
+use Rattle.faults.specs.Fault.{fault}
+use Rattle.faults.specs.declared.Fault.{Fault}
 use Rattle.utf8.specs.WellFormed.{within, well_formed}
 use Rattle.utf8.specs.Sequence.{continuation}
 use Rattle.names.specs.Signature.{basic_signature}
@@ -121,7 +123,7 @@ pub record Tallied (document text ws : List ℕ) (n k : ℕ) (tallies : List Tal
   pub room : n ≤ length tallies
   pub is : (i : ℕ) → i < n → get_or tallies i Empty ≡ tally_of document text (members_of (suc i) (rows_of k ws))
 
--- by its tally t, row i has the members that its kind needs
+-- whether a tally is of no member
 abbrev pub is_empty : Tally → Bool
 is_empty Empty = true
 is_empty Key = false
@@ -129,6 +131,7 @@ is_empty Other = false
 is_empty Pair = false
 is_empty Many = false
 
+-- whether a tally is of two members, of which the first has a basic type's signature
 abbrev pub is_pair : Tally → Bool
 is_pair Empty = false
 is_pair Key = false
@@ -136,6 +139,7 @@ is_pair Other = false
 is_pair Pair = true
 is_pair Many = false
 
+-- whether the members that are tallied as t are those that kind k needs
 abbrev pub counted_by : ℕ → Tally → Bool
 counted_by k t = if (eqb k kinds.struct) (not (is_empty t)) (if (eqb k kinds.mapping) (is_pair t) true)
 
@@ -162,3 +166,16 @@ pub record FirstBad (document text ws : List ℕ) (n : ℕ) (r : Result Unit ℕ
 
 pub record Judges (document text ws : List ℕ) (n : ℕ) (r : Result Unit ℕ) : Type 0 where
   pub is : soundness_of r ≡ soundness document text ws n
+
+-- number and place of the refusal, if there is one: 19 at the place that makes rows unsound; before it 2 for a document or a text that is too long
+abbrev pub refusal_of : Soundness → Result Unit Fault
+refusal_of sound = Ok tt
+refusal_of (unsound p) = Err (fault 19 p)
+
+unfoldable pub admission : List ℕ → List ℕ → List ℕ → ℕ → Result Unit Fault
+admission document text ws n =
+    let r = refusal_of (soundness document text ws n) in
+    if (ltb 1048576 (length document) || ltb 1048576 (length text)) (Err (fault 2 1048576)) r
+
+pub record Admits (document text ws : List ℕ) (n : ℕ) (r : Result Unit Fault) : Type 0 where
+  pub is : r ≡ admission document text ws n

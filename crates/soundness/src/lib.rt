@@ -2,7 +2,7 @@
 #![tactic(auto)]
 
 ghost use Rattle.std.specs.Prelude.{◌≡◌, ◌+◌, ◌*◌, ◌≤◌, ◌<◌, length};
-ghost use Rattle.soundness.specs.Outcome.{Placed, Texts, RowGood, RowSound, Tallied, Prepared, FirstBad, Judges};
+ghost use Rattle.soundness.specs.Outcome.{Placed, Texts, RowGood, RowSound, Tallied, Prepared, FirstBad, Judges, Admits};
 
 mod ends;
 mod kinds;
@@ -13,6 +13,7 @@ mod tally;
 mod texts;
 
 use ends::Look;
+use faults::Fault;
 use lent::{Buffer, Table};
 use tally::Tally;
 
@@ -89,11 +90,7 @@ fn row_bytes(rows: &[u32], i: usize) -> usize
 
 // The same of all rows.
 fn bytes_told(table: &Table) -> usize {
-    let mut sum = 0;
-    for i in 0..table.n {
-        sum += row_bytes(table.rows, i);
-    }
-    sum
+    (0..table.n).map(|i| row_bytes(table.rows, i)).sum()
 }
 
 // Whether it is worth finding out how much of both buffers is UTF-8: the rows show more bytes than these have, or are many.
@@ -210,4 +207,23 @@ pub fn check<'a>(
         n: claimed,
     };
     first_bad(&table)
+}
+
+// Whether a document, a text and the first `claimed` rows of a table are admitted: refused with 2 for a document or a text of more than
+// 1,048,576 bytes, with 19 for rows that are not sound.
+pub fn admit<'a>(
+    document: &'a [u8],
+    text: &'a [u8],
+    rows: &[u32],
+    claimed: usize,
+) -> Result<(), Fault>
+    ensures { Admits document.now text.now rows.now claimed result }
+{
+    if 1048576 < document.len() || 1048576 < text.len() {
+        return Err(Fault {
+            number: 2,
+            place: 1048576,
+        });
+    }
+    check(document, text, rows, claimed).map_err(|place| Fault { number: 19, place })
 }

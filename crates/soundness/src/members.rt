@@ -17,6 +17,7 @@ fn is_member(rows: &[u32], i: usize, k: usize) -> bool
 }
 
 // The first member of the definition in row i from a row on: none comes after a row whose parent's row plus one is at most i.
+// `for` and not `find`: a turn may find the member, or end the search without one.
 #[tactic(auto, using(crate::proofs::Definitions::seeks))]
 fn next_member(table: &Table, i: usize, from: usize) -> Option<usize>
     requires after { i < from }

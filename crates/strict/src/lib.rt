@@ -31,7 +31,7 @@ fn judge(
     }
 }
 
-// Reads a file of the strict profile into the tables lent, as `reader::read` does.
+// Reads a file of the strict profile into the tables lent, as `reader::read` does. Both are entries, so the parameters stand in each.
 pub fn read_strict(
     document: &[u8],
     rows: &mut [u32],

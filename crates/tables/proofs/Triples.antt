@@ -8,9 +8,11 @@ use mathlib.Core.Bool.{Bool, true, false, or-false}
 use borrow.Author.Rules.{rules}
 use borrow.Author.Tests.{ne_eqb, leb-true}
 use lib.Dec.{eqb, leb}
-use lib.ListN.{length, take, drop}
+use lib.ListN.{length, take, drop, length-take, length-drop}
+use native.Mathlib.Omega.{arith}
+use Rattle.slices.specs.Bytes.{if}
 use Rattle.slices.proofs.Runs.{and_both}
-use Rattle.tables.specs.Triple.{inside, beginning, resolved, shown}
+use Rattle.tables.specs.Triple.{inside, beginning, resolved, shown, part}
 use Rattle.tables.specs.Place.{Inside, place}
 use Rattle.tables.specs.declared.Triple.{Triple}
 
@@ -67,3 +69,15 @@ module _ {document text : List ℕ} {t : Triple} (g : Inside document text t) wh
 -- what answers every need of the functions on triples
 pub ruleset triples =
     (inside_document, inside_text, inside_neither, inside_holds, resolved_inside, resolved_outside, shown_outside, place_outside, document_end, text_end, shown_document, shown_text, place_document, place_text, rules)
+
+-- no triple shows more than the longer buffer
+short-part : (d x : List ℕ) (t : Triple) → length d ≤ 1048576 → length x ≤ 1048576 → length (part d x t) ≤ 1048576
+short-part d x t h k = go (eqb t.source 1)
+  where
+    go : (b : Bool) → length (if b (take t.len (drop t.start d)) (take t.len (drop t.start x))) ≤ 1048576
+    go true = omega (arith, h, length-take t.len (drop t.start d), length-drop t.start d)
+    go false = omega (arith, k, length-take t.len (drop t.start x), length-drop t.start x)
+
+pub short_shown : (d x : List ℕ) (t : Triple) → length d ≤ 1048576 → length x ≤ 1048576 → length (shown d x t) ≤ 1048576
+unfolding shown
+short_shown d x t h k = short-part d x (resolved d x t) h k

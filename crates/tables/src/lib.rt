@@ -1,4 +1,5 @@
 // The tables that a caller lends: rows of 16 words, warnings of 4, text; and the triples that rows are made of.
+// They are lent, here and in all crates, since the library has no heap.
 #![tactic(auto)]
 
 ghost use Rattle.std.specs.Prelude.{◌≡◌, [], ◌∷◌, ◌+◌, ◌<◌, ◌≤◌, ◌^◌, length};
@@ -20,13 +21,14 @@ fn copy_words(table: &mut [u32], base: usize, words: &[u32])
     requires { base + length words.now ≤ length table.old }
     ensures { Copied base words.now table.old table.new }
 {
-    // Not `copy_from_slice`: what the clause says of the table did not follow from what it says of the part.
+    // Not `copy_from_slice`: what this promises of the table does not follow from what that promises of the part.
     for i in 0..words.len() {
         table[base + i] = words[i];
     }
 }
 
 // Adds a row where a whole one has room, and counts it in any case.
+// The table and its count go apart, here and below: the count runs on past the room.
 #[tactic(auto, using(crate::proofs::Tables::tables))]
 pub fn put_words(table: &mut [u32], n: usize, words: &[u32]) -> usize
     requires few_rows { n < 1048576 }
@@ -72,7 +74,7 @@ pub fn put_docstring(rows: &mut [u32], i: usize, start: u32, len: u32)
 fn fill<T: Copy>(table: &mut [T], from: usize, value: T)
     ensures { Filled value from table.old table.new }
 {
-    // Not std's `fill`: what the clause says of the table did not follow from what it says of the part.
+    // Not std's `fill`: what this promises of the table does not follow from what that promises of the part.
     for i in from..table.len() {
         table[i] = value;
     }

@@ -17,7 +17,6 @@ use Rattle.document.specs.Tokens.{last, fault}
 use Rattle.document.specs.Refusals.{bare, showing, fault_in}
 use Rattle.document.specs.declared.Excerpt.{Excerpt}
 use Rattle.document.specs.declared.Refusal.{Refusal}
-use Rattle.document.specs.declared.Token.{Token}
 use Rattle.document.proofs.Tests.{among_each}
 use Rattle.document.proofs.Ignorables.{Unended}
 use Rattle.tags.specs.Outcome.{TagAt}

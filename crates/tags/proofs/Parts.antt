@@ -20,8 +20,6 @@ use Rattle.document.specs.Tokens.{tag_end, slash_end, close_end, closing}
 use Rattle.document.specs.Refusals.{bare}
 use Rattle.document.specs.declared.Refusal.{Refusal}
 use Rattle.document.specs.declared.Token.{Token}
-use Rattle.document.specs.declared.Closing.{Closing}
-use Rattle.tags.specs.declared.TagEnd.{TagEnd}
 use Rattle.tags.specs.Outcome.{TagStart, TagAt, Ends}
 use Rattle.tags.proofs.Faults.{markup_at}
 use Rattle.faults.specs.declared.Fault.{Fault}

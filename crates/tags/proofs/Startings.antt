@@ -1,14 +1,14 @@
 -- Start tags: the name, the attributes, the end.
 -- Assumes nothing.
 use Prim.Native.Nat.{ℕ, suc, ◌+◌, ◌-◌, ◌≤◌}
-use mathlib.Core.Path.{◌≡◌, refl, ap, ◌∙◌}
+use mathlib.Core.Path.{◌≡◌, refl, ap, sym, ◌∙◌}
 use mathlib.Core.List.{List}
-use mathlib.Core.Bool.{Bool}
+use mathlib.Core.Bool.{false≢true}
 use borrow.Author.Rules.{rules}
 use native.Mathlib.Numerals.{add-one}
 use native.Mathlib.Omega.{arith}
 use lib.ListN.{length, take, drop, length-take, length-drop}
-use Rattle.std.specs.Prelude.{Err, Result, Ok}
+use Rattle.std.specs.Prelude.{Err, Result, Ok, MatchResult, is_ok}
 use Rattle.slices.specs.Bytes.{span}
 use Rattle.slices.specs.Run.{Run}
 use Rattle.slices.proofs.Ends.{run_length, run_span, run_rest, run_empty, run_some}
@@ -45,6 +45,11 @@ values_fit a b f = record {
   suffix = value_fits a b f.suffix;
   tp = value_fits a b f.tp;
 }
+
+-- what is good where its fault was turned into a refusal was good before
+pub good_before : (Q : Fault → Type 0) {r : Result TagValues Fault} {m : Result TagValues Refusal} {g : TagValues} → MatchResult r (λ x. m ≡ Ok x) Q → is_ok m ≡ is_ok r → m ≡ Ok g → r ≡ Ok g
+good_before Q {r = Ok x} e v q = let z : ◌≡◌ {A = Result TagValues Refusal} (Ok x) (Ok _) = sym e ∙ q in cc
+good_before Q {r = Err f} e v q = absurd (false≢true (sym v ∙ ap is_ok q))
 
 -- the attributes end within the document
 pub attributes_end : {doc : List ℕ} {m : ℕ} {r : Result TagValues Fault} {g : TagValues} → Gathers doc m r → r ≡ Ok g → g.end ≤ length doc

@@ -13,18 +13,19 @@ ghost use Rattle.document.specs.Outcome.{Tokenises, Steps};
 ghost use Rattle.tags.specs.Kinds.{exact_kind};
 ghost use Rattle.tags.specs.Outcome.{TagStart, TagAt, Ends};
 
+use attributes::attributes;
 use document::{Closing, ClosingTag, Excerpt, Next, Refusal, StartTag, Token, kinds};
 use faults::Fault;
 use scan::{ClassTable, Colons, Name};
 
-// The end of a start tag: whether it is `/>`, and the place after it.
+// The end of a start tag: whether it is `/>`, and the place after it. `closes` is a bool: both answers have a place.
 #[derive(Clone, Copy)]
 pub struct TagEnd {
     pub closes: bool,
     pub end: usize,
 }
 
-// The kind if the name is the key.
+// The kind if the name is the key, or 0: no Option here and below, since the definitions answer so.
 fn one(name: &[u8], key: &[u8], kind: u32) -> u32
     ensures { result ≡ if (same name.now key.now) kind 0 }
 {
@@ -197,11 +198,13 @@ fn reference_in(doc: &[u8], number: u32, place: usize) -> Refusal
 
 // The refusal of a fault in the attributes: 8 shows the attribute's name, 10 and 11 the reference.
 #[tactic(auto, using(crate::proofs::Faults::faults))]
-fn fault_in(doc: &[u8], classes: &ClassTable, number: u32, place: usize) -> Refusal
-    requires inside { place ≤ length doc.now }
+fn fault_in(doc: &[u8], classes: &ClassTable, fault: Fault) -> Refusal
+    requires inside { fault.place ≤ length doc.now }
     requires small { length doc.now ≤ 1048576 }
-    ensures { result ≡ fault_in doc.now number place }
+    ensures { result ≡ fault_in doc.now fault.number fault.place }
 {
+    let number = fault.number;
+    let place = fault.place;
     if number == 8 {
         let name = scan::name_at(doc, classes, place);
         return document::showing(number, place, Excerpt::new(place, name.end - place));
@@ -227,39 +230,21 @@ fn start_tag(doc: &[u8], classes: &ClassTable, lt: usize) -> Result<Token, Refus
     if named == at {
         return Err(document::bare(4, at));
     }
-    match attributes::attributes(doc, classes, named) {
-        Err(fault) => Err(fault_in(doc, classes, fault.number, fault.place)),
-        Ok(gathered) => {
-            let end = tag_end(doc, classes, gathered.end)?;
-            let kind = kind_at(doc, at, name);
-            Ok(Token::Start(StartTag {
-                at,
-                len: named - at,
-                kind,
-                closes: end.closes,
-                end: end.end,
-                values: gathered.values,
-            }))
-        }
-    }
+    let gathered = attributes(doc, classes, named).map_err(|f| fault_in(doc, classes, f))?;
+    let end = tag_end(doc, classes, gathered.end)?;
+    let kind = kind_at(doc, at, name);
+    Ok(Token::Start(StartTag {
+        at,
+        len: named - at,
+        kind,
+        closes: end.closes,
+        end: end.end,
+        values: gathered.values,
+    }))
 }
 
-// The tag whose `<` stands at a place.
-fn tag(doc: &[u8], classes: &ClassTable, lt: usize) -> Result<Token, Refusal>
-    requires { TagStart doc.now lt }
-    ensures { TagAt doc.now lt (tag (drop (lt + 1) doc.now) lt) result }
-{
-    let next = lt + 1;
-    if doc.len() <= next {
-        return Err(document::bare(4, next));
-    }
-    if doc[next] == b'/' {
-        return closing_tag(doc, classes, lt);
-    }
-    start_tag(doc, classes, lt)
-}
-
-// The next token from a place on.
+// The next token from a place on: the end, a closing tag, or a start tag.
+// Closing tags and start tags are told apart here: a function of its own would copy the token, which is large, once more.
 #[tactic(auto, using(crate::proofs::Nexts::nexts))]
 pub fn token(doc: &[u8], classes: &ClassTable, from: usize) -> Result<Token, Refusal>
     requires inside { from ≤ length doc.now }
@@ -270,12 +255,17 @@ pub fn token(doc: &[u8], classes: &ClassTable, from: usize) -> Result<Token, Ref
     if doc.len() <= at {
         return Ok(Token::End(at));
     }
-    tag(doc, classes, at)
+    let next = at + 1;
+    if doc.len() <= next {
+        return Err(document::bare(4, next));
+    }
+    if doc[next] == b'/' {
+        return closing_tag(doc, classes, at);
+    }
+    start_tag(doc, classes, at)
 }
 
 // What comes next in an open element, whose name stands at a place with a length: 5 at the end, 6 after another closing tag.
-// Inlined, since the tag would be copied once more on the way through it.
-#[inline(always)]
 #[tactic(auto, using(crate::proofs::Stepping::stepping))]
 pub fn step(
     doc: &[u8],

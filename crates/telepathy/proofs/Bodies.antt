@@ -76,8 +76,6 @@ module _ {doc : List ℕ} {c : StartTag} {i : ℕ} {f : Fill} {b b' : Lent} {a :
             (x.0, x.1, x.2 ∙ ap (λ (gs : List Frame). runs doc g.at (closed gs x.0)) (noted_is k i lt why n t fs p q m.kind (m.is t z)), x.3);
       }
 
-pub ruleset noting = (noted_fault, noted_done, keeping, rules)
-
 -- ---- a child
 
 -- what a definition holds is an enumvalue or a member
@@ -234,8 +232,6 @@ module _ {doc : List ℕ} {k at len i : ℕ} {f₀ : Fill} {b₀ : Lent} where
 -- the same of the document of a reader that keeps it
 pub child_kept : {r r' : Reader} {k i : ℕ} {c : StartTag} {p : Parts} {f : Fill} {b b' : Lent} {a : Result Inner Refusal} → Keeps r r' → Child r'.doc.now k i c p f b b' a → Child r.doc.now k i c p f b b' a
 child_kept h l = rw h.doc at l
-
-pub ruleset bodies = (body_begins, body_fault, body_close, body_ready, body_count, body_child_fault, body_child, body_less, keeping, rules)
 
 -- ---- all of the content
 

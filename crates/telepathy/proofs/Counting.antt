@@ -6,12 +6,11 @@ use mathlib.Core.List.{List}
 use mathlib.Core.Option.{Option}
 use mathlib.Core.Bool.{Bool, true, false, not, ◌&&◌}
 use borrow.Author.Rules.{rules}
-use borrow.Author.Tests.{eq-eqb, ne_eqb, eqb-true}
+use borrow.Author.Tests.{ne_eqb}
 use native.Mathlib.Numerals.{add-one}
 use native.Mathlib.Omega.{arith}
 use mir.Syntax.{w64}
 use mir.Val.{Fits}
-use lib.Dec.{eqb}
 use Rattle.slices.specs.Bytes.{bytes}
 use Rattle.names.specs.Signature.{basic_signature}
 use Rattle.document.specs.Kinds as kinds
@@ -80,8 +79,6 @@ module _ {doc : List ℕ} {c : StartTag} where
 
     pub complete_typed : {r : Bool} → is_absent c.values.name ≡ false → is_absent c.values.ty ≡ false → Tests some_signature doc c.values.ty r → Completes doc c r
     complete_typed n m i = record { is = λ t z. some_is doc c.values.ty (attr (bytes "type") t) z.values.ty m i ∙ sym (member t h k ∙ rw (there_is doc c.values.name (attr (bytes "name") t) z.values.name n)) }
-
-pub ruleset completes = (lies_ty, complete_unsuffixed, complete_valued, complete_unnamed, complete_untyped, complete_typed, rules)
 
 module _ {doc : List ℕ} {c : StartTag} {p : Parts} where
   pub breaks_before : p.broken ≡ true → Breaks doc c p true

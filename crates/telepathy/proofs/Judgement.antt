@@ -98,8 +98,8 @@ pub ruleset judgements = (back_fits, judging_ready, judged_kept, judged_dropped,
 -- ---- the row
 
 module _ {k : ℕ} (d : DefinitionKind k) where
-  pub row_typed : k ≤ kinds.enum → TypedKind k
-  row_typed l = by_definition (λ m. m ≤ kinds.enum → TypedKind m) (λ x. simple_type_kind) (λ x. enum_kind) (λ x. absurd (omega arith)) (λ x. absurd (omega arith)) d l
+  pub row_typed : (k ≡ kinds.struct → ⊥) → (k ≡ kinds.mapping → ⊥) → TypedKind k
+  row_typed n m = by_definition (λ q. (q ≡ kinds.struct → ⊥) → (q ≡ kinds.mapping → ⊥) → TypedKind q) (λ x y. simple_type_kind) (λ x y. enum_kind) (λ x y. absurd (x refl)) (λ x y. absurd (y refl)) d n m
 
   pub row_untyped : kinds.enum < k → UntypedKind k
   row_untyped l = by_definition (λ m. kinds.enum < m → UntypedKind m) (λ x. absurd (omega arith)) (λ x. absurd (omega arith)) (λ x. struct_kind) (λ x. mapping_kind) d l

@@ -17,7 +17,6 @@ use Rattle.document.specs.Outcome.{is_absent, TagIs}
 use Rattle.document.specs.declared.StartTag.{StartTag}
 use Rattle.document.proofs.Presence.{value_absent, value_there}
 use Rattle.shown.specs.Outcome.{Tests}
-use Rattle.elements.proofs.Rows.{lies_ty}
 use Rattle.telepathy.specs.Outcome.{DefinitionKind, TagTold, PartsTold, Told, seen}
 use Rattle.telepathy.specs.declared.Parts.{Parts}
 use Rattle.telepathy.proofs.Sorts.{by_definition}
@@ -31,9 +30,6 @@ untyped : {k : ℕ} → DefinitionKind k → kinds.enum < k → among k kinds.ty
 untyped h l = by_definition (λ m. kinds.enum < m → among m kinds.typed ≡ false) (λ x. absurd (omega arith)) (λ x. absurd (omega arith)) (λ x. refl) (λ x. refl) h l
 
 module _ {doc : List ℕ} {c : StartTag} where
-  pub told_unnamed : is_absent c.values.name ≡ true → TagTold doc c 2
-  told_unnamed e = record { is = λ t z. rw (value_absent doc c.values.name (attr (bytes "name") t) z.values.name e) }
-
   module _ (d : DefinitionKind c.kind) (n : is_absent c.values.name ≡ false) where
     pub told_named : kinds.enum < c.kind → TagTold doc c 0
     told_named l = record { is = λ t z. rw ((value_there doc c.values.name (attr (bytes "name") t) z.values.name n).1, untyped d l) }
@@ -57,17 +53,9 @@ module _ {doc : List ℕ} {c : StartTag} where
         pub told_unsigned : o ≡ false → TagTold doc c 4
         told_unsigned e = record { is = λ t z. sym (by_signature t z ∙ rw e) }
 
-pub ruleset tag_reasons = (lies_ty, told_unnamed, told_named, told_untyped, told_typed, told_unsigned, rules)
-
 -- ---- the parts
 
 module _ {k : ℕ} {p : Parts} where
-  pub told_value : p.broken ≡ true → k ≡ kinds.enum → PartsTold k p 5
-  told_value b e = record { is = rw (b, e) }
-
-  pub told_member : p.broken ≡ true → (k ≡ kinds.enum → ⊥) → PartsTold k p 6
-  told_member b n = record { is = rw (b, ne_eqb k kinds.enum n) }
-
   module _ (b : p.broken ≡ false) where
     pub told_empty : k ≡ kinds.struct → p.count ≡ 0 → PartsTold k p 7
     told_empty e z = record { is = rw (b, e, z) }
@@ -86,8 +74,6 @@ module _ {k : ℕ} {p : Parts} where
 
     pub told_other : (k ≡ kinds.struct → ⊥) → (k ≡ kinds.mapping → ⊥) → PartsTold k p 0
     told_other n m = record { is = rw (b, ne_eqb k kinds.struct n, ne_eqb k kinds.mapping m) }
-
-pub ruleset parts_reasons = (told_value, told_member, told_empty, told_struct, told_count, told_mapping, told_key, told_other, rules)
 
 -- ---- the first of both
 

@@ -1,14 +1,14 @@
 -- The kinds of definitions and of their parts, and the ways of a part.
 -- Assumes nothing.
 use Prim.Native.Nat.{ℕ, ◌+◌, ◌≤◌, ◌<◌}
-use mathlib.Core.Path.{◌≡◌, refl, sym, ◌∙◌, ap}
+use mathlib.Core.Path.{◌≡◌, refl, ◌∙◌, ap}
 use mathlib.Core.List.{List, [], ◌∷◌}
 use mathlib.Core.Bool.{Bool, true, false, not}
 use borrow.Author.Rules.{rules}
 use borrow.Author.Tests.{eqb-true}
 use native.Mathlib.Omega.{arith}
 use lib.Dec.{eqb}
-use lib.ListN.{length, take}
+use lib.ListN.{take}
 use lib.Seq.{take_at}
 use Rattle.std.specs.Prelude.{Result, Ok, Err}
 use Rattle.slices.specs.Bytes.{if}
@@ -17,8 +17,8 @@ use Rattle.document.specs.Tags.{Shown}
 use Rattle.document.specs.Tokens.{Tag}
 use Rattle.document.specs.Rows.{Row, Tables}
 use Rattle.document.specs.Elements.{among, held_by_lem}
-use Rattle.document.specs.Reading.{tag_name, Frame, element, State, reading, closed, parent_of, with_row, noted, entered, begins}
-use Rattle.document.specs.Outcome.{Lent, lent, Stands, Ready, Bounded, TagIs, Opening, Begins, Others, Child, Contents, Onward, Ends, runs, whole}
+use Rattle.document.specs.Reading.{Frame, State, parent_of, with_row, noted, entered, begins}
+use Rattle.document.specs.Outcome.{Lent, lent, Stands, Ready, TagIs, Opening, Begins, Others, Child, Contents, Onward, Ends, runs, whole}
 use Rattle.document.specs.declared.StartTag.{StartTag}
 use Rattle.document.specs.declared.Fill.{Fill}
 use Rattle.document.specs.declared.Refusal.{Refusal}
@@ -56,15 +56,6 @@ child_none h = child_other refl h
 pub ruleset part_children = (child_none, keeping, rules)
 
 -- ---- the row of a part
-
-module _ {doc : List ℕ} {k : ℕ} {c : StartTag} {p : ℕ} {f : Fill} {rows rows' bytes bytes' : List ℕ} {r : Result Fill Refusal} where
-  pub row_enumvalue : k ≡ kinds.enumvalue → Opening doc kinds.enumvalue c p f rows rows' bytes bytes' r → Opening doc k c p f rows rows' bytes bytes' r
-  row_enumvalue e o = rw e o
-
-  pub row_member : PartKind k → (k ≡ kinds.enumvalue → ⊥) → Opening doc kinds.member c p f rows rows' bytes bytes' r → Opening doc k c p f rows rows' bytes bytes' r
-  row_member h n o = by_part (λ m. (m ≡ kinds.enumvalue → ⊥) → Opening doc m c p f rows rows' bytes bytes' r) (λ x. absurd (x refl)) (λ x. o) h n
-
-pub ruleset part_rows = (row_enumvalue, row_member, rules)
 
 -- an answer of a run is one of another that comes to the same
 pub carried : {s s' : State Shown} {before before' : List (Row Shown)} (doc : List ℕ) (n : ℕ) (fs : List Frame) (b : Lent) (r : Result Fill Refusal) → s ≡ s' → before ≡ before' → Ends doc s' fs n before b r → Ends doc s fs n before' b r

@@ -10,8 +10,8 @@ use children::{Element, contents};
 use document::{Fill, Next, Reader, Refusal, StartTag, kinds};
 use tags::step;
 
-// What was seen of a definition's parts: how many, whether one was incomplete, whether the first one's type is basic. No value goes by the
-// two answers.
+// What was seen of a definition's parts: how many, whether one was incomplete, whether the first one's type is basic. No other field
+// depends on the two answers, so neither is an Option of one.
 #[derive(Clone, Copy)]
 pub struct Parts {
     pub count: usize,
@@ -35,7 +35,7 @@ impl Element for InPart {
     ghost docs = { true };
 
     #[tactic(auto, using(crate::proofs::Sorts::part_children))]
-    fn child(r: &mut Reader, c: StartTag, i: usize, f: Fill) -> Result<Fill, Refusal> {
+    fn child(r: &mut Reader, c: &StartTag, i: usize, f: Fill) -> Result<Fill, Refusal> {
         skip::docstring_or_skip(r.doc, r.classes, &mut *r.rows, &mut *r.warnings, c, i, f)
     }
 }
@@ -45,14 +45,14 @@ fn part_row(
     doc: &[u8],
     rows: &mut [u32],
     text: &mut [u8],
-    c: StartTag,
+    c: &StartTag,
     parent: usize,
     f: Fill,
 ) -> Result<Fill, Refusal>
-    requires ready { Ready doc.now c f }
+    requires ready { Ready doc.now c.now f }
     requires parent_small { parent ≤ 1048576 }
-    requires of_kind { PartKind c.kind }
-    ensures { Opening doc.now c.kind c parent f rows.old rows.new
+    requires of_kind { PartKind c.now.kind }
+    ensures { Opening doc.now c.now.kind c.now parent f rows.old rows.new
         text.old text.new result }
 {
     if c.kind == kinds::ENUMVALUE {
@@ -62,12 +62,12 @@ fn part_row(
 }
 
 // An enumvalue or a member of the definition with row i.
-fn part(r: &mut Reader, c: StartTag, i: usize, f: Fill) -> Result<Fill, Refusal>
-    requires ready { Ready r.old.doc.now c f }
+fn part(r: &mut Reader, c: &StartTag, i: usize, f: Fill) -> Result<Fill, Refusal>
+    requires ready { Ready r.old.doc.now c.now f }
     requires owner { i < f.rows }
-    requires of_kind { PartKind c.kind }
+    requires of_kind { PartKind c.now.kind }
     ensures keeps { Keeps r.old r.new }
-    ensures is { Begins r.old.doc.now c.kind c (i + 1) f
+    ensures is { Begins r.old.doc.now c.now.kind c.now (i + 1) f
         (lent_to r.old)
         (lent_to r.new) result }
 {
@@ -76,10 +76,10 @@ fn part(r: &mut Reader, c: StartTag, i: usize, f: Fill) -> Result<Fill, Refusal>
 }
 
 // Whether an enumvalue or a member is complete.
-fn complete(doc: &[u8], c: StartTag, f: Fill) -> bool
-    requires ready { Ready doc.now c f }
-    requires of_kind { PartKind c.kind }
-    ensures { Completes doc.now c result }
+fn complete(doc: &[u8], c: &StartTag, f: Fill) -> bool
+    requires ready { Ready doc.now c.now f }
+    requires of_kind { PartKind c.now.kind }
+    ensures { Completes doc.now c.now result }
 {
     let v = c.values;
     if c.kind == kinds::ENUMVALUE {
@@ -98,18 +98,18 @@ fn complete(doc: &[u8], c: StartTag, f: Fill) -> bool
 }
 
 // Whether a part was incomplete, with this one.
-fn broken(doc: &[u8], c: StartTag, p: Parts, f: Fill) -> bool
-    requires ready { Ready doc.now c f }
-    requires of_kind { PartKind c.kind }
-    ensures { Breaks doc.now c p result }
+fn broken(doc: &[u8], c: &StartTag, p: Parts, f: Fill) -> bool
+    requires ready { Ready doc.now c.now f }
+    requires of_kind { PartKind c.now.kind }
+    ensures { Breaks doc.now c.now p result }
 {
     p.broken || !complete(doc, c, f)
 }
 
 // Whether the first part's type is basic, with this one.
-fn keyed(doc: &[u8], c: StartTag, p: Parts, f: Fill) -> bool
-    requires { Ready doc.now c f }
-    ensures { Keyed doc.now c p result }
+fn keyed(doc: &[u8], c: &StartTag, p: Parts, f: Fill) -> bool
+    requires { Ready doc.now c.now f }
+    ensures { Keyed doc.now c.now p result }
 {
     if p.count != 0 {
         return p.basic;
@@ -121,11 +121,11 @@ fn keyed(doc: &[u8], c: StartTag, p: Parts, f: Fill) -> bool
 }
 
 // The parts with one more.
-fn one_more(doc: &[u8], c: StartTag, p: Parts, f: Fill) -> Parts
-    requires ready { Ready doc.now c f }
-    requires of_kind { PartKind c.kind }
+fn one_more(doc: &[u8], c: &StartTag, p: Parts, f: Fill) -> Parts
+    requires ready { Ready doc.now c.now f }
+    requires of_kind { PartKind c.now.kind }
     requires few { p.count < f.at }
-    ensures { More doc.now c f p result }
+    ensures { More doc.now c.now f p result }
 {
     let b = broken(doc, c, p, f);
     let k = keyed(doc, c, p, f);
@@ -160,13 +160,13 @@ fn holds(kind: u32, part: u32) -> bool
 }
 
 // A part of the definition with row i, when these parts were seen before.
-fn noted_part(r: &mut Reader, c: StartTag, i: usize, p: Parts, f: Fill) -> Result<Inner, Refusal>
-    requires ready { Ready r.old.doc.now c f }
+fn noted_part(r: &mut Reader, c: &StartTag, i: usize, p: Parts, f: Fill) -> Result<Inner, Refusal>
+    requires ready { Ready r.old.doc.now c.now f }
     requires owner { i < f.rows }
-    requires of_kind { PartKind c.kind }
+    requires of_kind { PartKind c.now.kind }
     requires few { p.count < f.at }
     ensures keeps { Keeps r.old r.new }
-    ensures is { Noted r.old.doc.now c i p f
+    ensures is { Noted r.old.doc.now c.now i p f
         (lent_to r.old)
         (lent_to r.new) result }
 {
@@ -179,17 +179,17 @@ fn noted_part(r: &mut Reader, c: StartTag, i: usize, p: Parts, f: Fill) -> Resul
 fn definition_child(
     r: &mut Reader,
     kind: u32,
-    c: StartTag,
+    c: &StartTag,
     i: usize,
     p: Parts,
     f: Fill,
 ) -> Result<Inner, Refusal>
-    requires ready { Ready r.old.doc.now c f }
+    requires ready { Ready r.old.doc.now c.now f }
     requires owner { i < f.rows }
     requires of_kind { DefinitionKind kind }
     requires few { p.count < f.at }
     ensures keeps { Keeps r.old r.new }
-    ensures is { Child r.old.doc.now kind i c p f
+    ensures is { Child r.old.doc.now kind i c.now p f
         (lent_to r.old)
         (lent_to r.new) result }
 {
@@ -222,7 +222,8 @@ fn definition_children(
     let classes = r.classes;
     let mut g = f;
     let mut p = no_parts();
-    // A loop beside `children::children`, since each child may also change the parts seen.
+    // A loop, since the next child begins where the one before ends; and one beside `children::children`, since each child may also change
+    // the parts seen.
     loop {
         match step(doc, classes, g.at, at, len)? {
             Next::Close(closing) => {
@@ -233,7 +234,7 @@ fn definition_children(
             }
             Next::Start(c) => {
                 let h = g.moved(c.end);
-                let read = definition_child(r, kind, c, i, p, h)?;
+                let read = definition_child(r, kind, &c, i, p, h)?;
                 g = read.fill;
                 p = read.parts;
             }
@@ -242,13 +243,13 @@ fn definition_children(
 }
 
 // The content of the definition with row i, from after its start tag on.
-fn content(r: &mut Reader, c: StartTag, i: usize, f: Fill) -> Result<Inner, Refusal>
+fn content(r: &mut Reader, c: &StartTag, i: usize, f: Fill) -> Result<Inner, Refusal>
     requires bounded { Bounded r.old.doc.now f }
     requires owner { i < f.rows }
-    requires of_kind { DefinitionKind c.kind }
-    requires named { c.at + c.len ≤ length r.old.doc.now }
+    requires of_kind { DefinitionKind c.now.kind }
+    requires named { c.now.at + c.now.len ≤ length r.old.doc.now }
     ensures keeps { Keeps r.old r.new }
-    ensures is { Content r.old.doc.now c i f
+    ensures is { Content r.old.doc.now c.now i f
         (lent_to r.old)
         (lent_to r.new) result }
 {
@@ -262,16 +263,16 @@ fn content(r: &mut Reader, c: StartTag, i: usize, f: Fill) -> Result<Inner, Refu
 }
 
 // Why a definition is dropped by its tag alone, or 0 as the definitions have it.
-fn tag_reason(doc: &[u8], c: StartTag, f: Fill) -> u32
-    requires ready { Ready doc.now c f }
-    requires of_kind { DefinitionKind c.kind }
-    ensures { TagTold doc.now c result }
+fn tag_reason(doc: &[u8], c: &StartTag, f: Fill) -> u32
+    requires ready { Ready doc.now c.now f }
+    requires of_kind { DefinitionKind c.now.kind }
+    ensures { TagTold doc.now c.now result }
 {
     let v = c.values;
     if v.name.is_absent() {
         return 2;
     }
-    if kinds::ENUM < c.kind {
+    if matches!(c.kind, kinds::STRUCT | kinds::MAPPING) {
         return 0;
     }
     if v.ty.is_absent() {
@@ -298,10 +299,10 @@ fn parts_reason(kind: u32, p: Parts) -> u32
 }
 
 // Why a definition is dropped, or 0 as the definitions have it; only the first reason is told.
-fn reason(doc: &[u8], c: StartTag, p: Parts, f: Fill) -> u32
-    requires ready { Ready doc.now c f }
-    requires of_kind { DefinitionKind c.kind }
-    ensures { Told doc.now c p result }
+fn reason(doc: &[u8], c: &StartTag, p: Parts, f: Fill) -> u32
+    requires ready { Ready doc.now c.now f }
+    requires of_kind { DefinitionKind c.now.kind }
+    ensures { Told doc.now c.now p result }
 {
     let why = tag_reason(doc, c, f);
     if why != 0 {
@@ -311,20 +312,19 @@ fn reason(doc: &[u8], c: StartTag, p: Parts, f: Fill) -> u32
 }
 
 // Where reading goes on after a definition that began at f and ended at h: a dropped one's rows and text are given back.
-fn judge(doc: &[u8], warnings: &mut [u32], c: StartTag, p: Parts, f: Fill, h: Fill) -> Fill
-    requires judging { Judging doc.now c f h }
-    requires of_kind { DefinitionKind c.kind }
-    ensures { Judged doc.now c p f h warnings.old warnings.new result }
+fn judge(doc: &[u8], warnings: &mut [u32], c: &StartTag, p: Parts, f: Fill, h: Fill) -> Fill
+    requires judging { Judging doc.now c.now f h }
+    requires of_kind { DefinitionKind c.now.kind }
+    ensures { Judged doc.now c.now p f h warnings.old warnings.new result }
 {
     let why = reason(doc, c, p, f);
     if why == 0 {
         return h;
     }
     let back = Fill {
-        at: h.at,
         rows: f.rows,
-        warnings: h.warnings,
         text: f.text,
+        ..h
     };
     rows::put_warning(warnings, why, c.at, c.len, back)
 }
@@ -335,28 +335,28 @@ fn definition_row(
     doc: &[u8],
     rows: &mut [u32],
     text: &mut [u8],
-    c: StartTag,
+    c: &StartTag,
     parent: usize,
     f: Fill,
 ) -> Result<Fill, Refusal>
-    requires ready { Ready doc.now c f }
+    requires ready { Ready doc.now c.now f }
     requires parent_small { parent ≤ 1048576 }
-    requires of_kind { DefinitionKind c.kind }
-    ensures { Opening doc.now c.kind c parent f rows.old rows.new
+    requires of_kind { DefinitionKind c.now.kind }
+    ensures { Opening doc.now c.now.kind c.now parent f rows.old rows.new
         text.old text.new result }
 {
-    if kinds::ENUM < c.kind {
+    if c.kind == kinds::STRUCT || c.kind == kinds::MAPPING {
         return elements::untyped_row(doc, rows, text, c, c.kind, parent, f);
     }
     elements::typed_row(doc, rows, text, c, c.kind, parent, f)
 }
 
 // The rest of a definition that began at f and whose row is put: its content, then whether it is dropped.
-fn rest(r: &mut Reader, c: StartTag, f: Fill, g: Fill) -> Result<Fill, Refusal>
-    requires judging { Judging r.old.doc.now c f g }
-    requires of_kind { DefinitionKind c.kind }
+fn rest(r: &mut Reader, c: &StartTag, f: Fill, g: Fill) -> Result<Fill, Refusal>
+    requires judging { Judging r.old.doc.now c.now f g }
+    requires of_kind { DefinitionKind c.now.kind }
     ensures keeps { Keeps r.old r.new }
-    ensures is { Rest r.old.doc.now c f g
+    ensures is { Rest r.old.doc.now c.now f g
         (lent_to r.old)
         (lent_to r.new) result }
 {
@@ -366,12 +366,12 @@ fn rest(r: &mut Reader, c: StartTag, f: Fill, g: Fill) -> Result<Fill, Refusal>
 }
 
 // A definition, from after its start tag on.
-pub fn definition(r: &mut Reader, c: StartTag, parent: usize, f: Fill) -> Result<Fill, Refusal>
-    requires ready { Ready r.old.doc.now c f }
+pub fn definition(r: &mut Reader, c: &StartTag, parent: usize, f: Fill) -> Result<Fill, Refusal>
+    requires ready { Ready r.old.doc.now c.now f }
     requires parent_small { parent ≤ 1048576 }
-    requires of_kind { DefinitionKind c.kind }
+    requires of_kind { DefinitionKind c.now.kind }
     ensures keeps { Keeps r.old r.new }
-    ensures is { Begins r.old.doc.now c.kind c parent f
+    ensures is { Begins r.old.doc.now c.now.kind c.now parent f
         (lent_to r.old)
         (lent_to r.new) result }
 {

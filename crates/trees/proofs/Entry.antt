@@ -12,18 +12,21 @@ use lib.Dec.{T, eqb, ltb, leb}
 use lib.ListN.{length, drop, get_or}
 use Rattle.faults.specs.declared.Fault.{Fault}
 use Rattle.slices.specs.Bytes.{if}
-use Rattle.answers.specs.Text.{wrong, Says, Finishes}
+use Rattle.answers.specs.Text.{Text, wrong, Says, Finishes}
 use Rattle.document.specs.Kinds as kinds
 use Rattle.document.specs.Elements.{among, may_hold}
 use Rattle.items.specs.Words.{Word, triple_at, row_of, rows_of, RowWords}
 use Rattle.items.specs.Sound.{kind_at, placed, good_triple, doc_use, any_text, sound, soundness}
-use Rattle.items.proofs.Rows.{row_word, kind_at_lem, both_true, row_parts, RowIs, sound_claimed, sound_held, sound_row_lem}
-use Rattle.soundness.specs.Outcome.{Judges}
-use Rattle.soundness.proofs.Rows.{judged_sound, judged_unsound}
-use Rattle.trees.specs.Written.{tree_at, written_tree}
-use Rattle.trees.specs.Writing.{is_writable, tree_writing, WritesTree}
+use Rattle.items.specs.Writing.{checked}
+use Rattle.items.proofs.Rows.{row_word, kind_at_lem, row_parts, RowIs, sound_claimed, sound_held, sound_row_lem}
+use Rattle.soundness.specs.Outcome.{Admits}
+use Rattle.soundness.proofs.Rows.{admitted, refused_as, admitted_as}
+use Rattle.trees.specs.Shape.{shape_at}
+use Rattle.trees.specs.Written.{element_at, tree_at, written_tree}
+use Rattle.trees.specs.Writing.{too_deep, tree_written, is_writable, tree_writing, WritesTree}
 use Rattle.trees.specs.Steps.{group_kinds, group_of, Held}
 use Rattle.std.specs.Prelude.{Result, Ok, Err}
+use Rattle.slices.proofs.Runs.{and_both}
 use Rattle.trees.specs.Walk.{Walks, Writable, WritesSound}
 use Rattle.trees.proofs.Counted.{All, only}
 
@@ -50,15 +53,15 @@ held_grouped k c h = go (eqb k kinds.node) (eqb k kinds.interface) (among k kind
     go false false false false false false e = absurd (subst T (sym e) tt)
 
 placed_grouped : (rows : List RowWords) (i : ℕ) (r : RowWords) → placed rows i r ≡ true → Grouped r.kind
-placed_grouped rows zero r e = only Grouped r.kind (kinds.node ∷ []) (refl, tt) (rw (both_true (eqb r.kind kinds.node) (eqb r.parent 0) e).0)
+placed_grouped rows zero r e = only Grouped r.kind (kinds.node ∷ []) (refl, tt) (rw (and_both (eqb r.kind kinds.node) (eqb r.parent 0) e).0)
 placed_grouped rows (suc i) r e =
-    held_grouped (kind_at rows (r.parent - 1)) r.kind (both_true (ltb 0 r.parent && leb r.parent (suc i)) (may_hold (kind_at rows (r.parent - 1)) r.kind) e).1
+    held_grouped (kind_at rows (r.parent - 1)) r.kind (and_both (ltb 0 r.parent && leb r.parent (suc i)) (may_hold (kind_at rows (r.parent - 1)) r.kind) e).1
 
 placed_parent : (rows : List RowWords) (i : ℕ) (r : RowWords) → 0 < i → placed rows i r ≡ true → (0 < r.parent) × (r.parent ≤ i)
 placed_parent rows zero r h e = absurd (omega (arith, h))
 placed_parent rows (suc i) r h e =
-    let p = both_true (ltb 0 r.parent && leb r.parent (suc i)) (may_hold (kind_at rows (r.parent - 1)) r.kind) e in
-    let q = both_true (ltb 0 r.parent) (leb r.parent (suc i)) p.0 in
+    let p = and_both (ltb 0 r.parent && leb r.parent (suc i)) (may_hold (kind_at rows (r.parent - 1)) r.kind) e in
+    let q = and_both (ltb 0 r.parent) (leb r.parent (suc i)) p.0 in
     (ltb-true 0 r.parent q.0, leb-true r.parent (suc i) q.1)
 
 module _ (d x ws : List ℕ) (n : ℕ) (g : soundness d x ws n ≡ sound) where
@@ -125,26 +128,26 @@ pub ruleset rows = (no_row, no_kind, row_deep, row_written, row_held, rules)
 
 -- ---- the answers
 
-module _ {d x ws t' : List ℕ} {n i room : ℕ} {r : Result ℕ Fault} where
-  pub long_document : 1048576 < length d → Says (wrong 2 1048576) room t' r → WritesTree d x ws n i room t' r
+-- of row i of sound rows
+abbrev answered : List ℕ → List ℕ → List ℕ → ℕ → ℕ → ℕ → Text
+answered d x ws n i room =
+    let t = tree_written room (too_deep (element_at d x ws) 0 (shape_at ws n i)) (tree_at d x ws n i) in
+    if (is_writable ws n i) t (wrong 20 i)
+
+module _ {d x ws t' : List ℕ} {n i room : ℕ} {r : Result ℕ Fault} {z : Result Unit Fault} (g : Admits d x ws n z) where
+  pub refused : {f : Fault} → z ≡ Err f → Says (wrong f.number f.place) room t' r → WritesTree d x ws n i room t' r
   unfolding tree_writing
-  long_document h s = record { says = rw (lt-ltb 1048576 (length d) h) s }
+  refused e s =
+      let a = refused_as g wrong (λ v. checked v (answered d x ws n i room)) (λ p. refl) e in
+      record { says = subst (λ o. Says o room t' r) (sym a) s }
 
-  module _ (h : length d ≤ 1048576) where
-    pub long_text : 1048576 < length x → Says (wrong 2 1048576) room t' r → WritesTree d x ws n i room t' r
-    unfolding tree_writing
-    long_text k s = record { says = rw (le-ltb 1048576 (length d) h, lt-ltb 1048576 (length x) k) s }
+  pub is_sound : {u : Unit} {t : List ℕ} → z ≡ Ok u → length t ≡ room → WritesSound d x ws n i t t' r → WritesTree d x ws n i room t' r
+  unfolding tree_writing
+  is_sound e l s =
+      let a = admitted_as g wrong (λ v. checked v (answered d x ws n i room)) e in
+      record { says = subst (λ o. Says o room t' r) (sym a) (rw l at s.says) }
 
-    module _ (k : length x ≤ 1048576) {z : Result Unit ℕ} (g : Judges d x ws n z) where
-      pub not_sound : {p : ℕ} → z ≡ Err p → Says (wrong 19 p) room t' r → WritesTree d x ws n i room t' r
-      unfolding tree_writing
-      not_sound e s = record { says = rw (le-ltb 1048576 (length d) h, le-ltb 1048576 (length x) k, judged_unsound g e) s }
+pub admits : {d x ws : List ℕ} {n : ℕ} {z : Result Unit Fault} {u : Unit} → Admits d x ws n z → z ≡ Ok u → Held d x ws n
+admits {d} {x} {ws} {n} g e = let a = admitted g e in sound_rows_held d x ws n a.2 a.0 a.1
 
-      pub is_sound : {u : Unit} {t : List ℕ} → z ≡ Ok u → length t ≡ room → WritesSound d x ws n i t t' r → WritesTree d x ws n i room t' r
-      unfolding tree_writing
-      is_sound e l s = record { says = rw (le-ltb 1048576 (length d) h, le-ltb 1048576 (length x) k, judged_sound g e) (rw l at s.says) }
-
-pub admits : {d x ws : List ℕ} {n : ℕ} {z : Result Unit ℕ} {u : Unit} → length d ≤ 1048576 → length x ≤ 1048576 → Judges d x ws n z → z ≡ Ok u → Held d x ws n
-admits {d} {x} {ws} {n} h k g e = sound_rows_held d x ws n (judged_sound g e) h k
-
-pub ruleset entry = (long_document, long_text, not_sound, is_sound, admits, rules)
+pub ruleset entry = (refused, is_sound, admits, rules)

@@ -16,7 +16,7 @@ use Rattle.utf8.specs.WellFormed.{well_formed}
 use Rattle.tables.specs.Triple.{inside, shown}
 use Rattle.tables.specs.declared.Triple.{Triple}
 use Rattle.answers.specs.Puts.{Puts}
-use Rattle.answers.proofs.Putting.{puts_then}
+use Rattle.answers.proofs.Putting.{puts_then, puts_as}
 use Rattle.document.specs.Kinds as kinds
 use Rattle.items.specs.View.{over}
 use Rattle.items.specs.Words.{Word, word_at, triple_at, absent, docstring_by}
@@ -177,7 +177,7 @@ element_none : (n : List ℕ) (ps : List Pair) (cs : List (List ℕ)) → empty 
 element_none n ps [] h = refl
 element_none n ps (c ∷ cs) h = absurd (subst T (sym h) tt)
 
-element_some : (n : List ℕ) (ps : List Pair) (cs : List (List ℕ)) → empty cs ≡ false → element n ps cs ≡ tag n ps false ++ (concat cs ++ closing_tag n)
+pub element_some : (n : List ℕ) (ps : List Pair) (cs : List (List ℕ)) → empty cs ≡ false → element n ps cs ≡ tag n ps false ++ (concat cs ++ closing_tag n)
 element_some n ps [] h = absurd (subst T h tt)
 element_some n ps (c ∷ cs) h = refl
 
@@ -260,9 +260,6 @@ module _ (d x ws : List ℕ) (k : ℕ) (f : Forest ℕ) where
       go false e = ap (λ b. answer a b (leb 1024 a)) (node_open h e)
 
 -- ---- the start of an element
-
-puts_as : {a b t t' : List ℕ} {n r : ℕ} → a ≡ b → Puts a n t t' r → Puts b n t t' r
-puts_as {t = t} {t'} {n} {r} e p = subst (λ l. Puts l n t t' r) e p
 
 module _ {d x ws : List ℕ} {i put a k : ℕ} {c : Bool} (w : Word ws i 0 k) (g : IsDeep k a c) where
   pub opens_deep : {t t₁ : List ℕ} → c ≡ true → Opens d x ws i a put t t₁ (Err i)

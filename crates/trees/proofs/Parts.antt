@@ -9,18 +9,18 @@ use mathlib.Core.Bool.{true}
 use borrow.Author.Rules.{rules}
 use borrow.Author.Tests.{ne_eqb, ltb-true, leb-true}
 use lib.Dec.{leb, ltb}
+use Rattle.slices.proofs.Runs.{and_both}
 use Rattle.references.specs.Escape.{escape}
 use Rattle.document.specs.Kinds as kinds
 use Rattle.items.specs.Sound.{valid_word}
 use Rattle.items.specs.Written.{pairs}
-use Rattle.items.proofs.Rows.{both_true}
 use Rattle.trees.specs.Written.{word_pairs}
 
 -- ---- word 14
 
 last_access : (w : ℕ) → valid_word kinds.property w ≡ true → (w ≡ 1 → ⊥) → (w ≡ 2 → ⊥) → w ≡ 3
 last_access w v f g =
-    let h = both_true (ltb 0 w) (leb w 3) v in
+    let h = and_both (ltb 0 w) (leb w 3) v in
     omega (arith, ltb-true 0 w h.0, leb-true w 3 h.1, f, g)
 
 last_direction : (w : ℕ) → valid_word kinds.arg w ≡ true → (w ≡ 0 → ⊥) → (w ≡ 1 → ⊥) → w ≡ 2

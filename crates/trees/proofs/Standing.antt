@@ -2,7 +2,7 @@
 -- Assumes nothing.
 use Prim.Native.Nat.{ℕ, zero, suc, ◌+◌, ◌-◌, ◌*◌, ◌≤◌, ◌<◌}
 use native.Mathlib.Omega.{arith}
-use mathlib.Core.Path.{◌≡◌, refl, ap, sym, ◌∙◌}
+use mathlib.Core.Path.{◌≡◌, refl, ap, sym, subst, ◌∙◌}
 use mathlib.Core.List.{List}
 use mathlib.Core.Bool.{Bool, true, false, not, ◌&&◌, and-false}
 use borrow.Author.Rules.{rules}
@@ -10,7 +10,10 @@ use Rattle.std.proofs.Math.Logic.{∥∥₁_elim}
 use Rattle.std.proofs.Math.Bool.{Bool-set}
 use borrow.Author.Tests.{eq-eqb, ne_eqb, eqb-true, eqb-false, ltb-true, leb-true, leb-false, not-false}
 use lib.Dec.{eqb, leb, ltb}
-use lib.ListN.{length}
+use lib.ListN.{length, get_or}
+use Rattle.std.specs.Bool.{MatchBool}
+use Rattle.std.specs.List.{AllWithin, HoldsAt, range_with_len}
+use Rattle.std.proofs.lemmas.List.FromFn.{length-range_with_len, get_or-range_with_len}
 use Rattle.utf8.proofs.Sequences.{below}
 use Rattle.document.specs.Kinds as kinds
 use Rattle.document.specs.Elements.{among}
@@ -244,45 +247,52 @@ pub ruleset looks = (look_begins, look_asked, look_past, look_ends, look_found, 
 
 -- ---- whether there is a child
 
-pub record Having (ws : List ℕ) (n i : ℕ) (s : Standing) (k : ℕ) : Type 0 where
-  pub after : i < k
-  pub within : k ≤ n
-  pub none : (m : ℕ) → i < m → m < k → word_at ws m 1 ≡ suc i → ⊥
-  pub first : s.ordered ≡ true → k ≡ i + 1
+module _ {ws : List ℕ} {n i : ℕ} {s : Standing} where
+  -- in document order
+  module _ (q : ∥ Stands ws n s ∥₁) (o : s.ordered ≡ true) where
+    pub have_past : n ≤ i + 1 → HasChild ws n i false
+    have_past l = record { some = λ e. never e; none = λ _ m a b. absurd (omega arith) }
 
-pub have_begins : {ws : List ℕ} {n i : ℕ} {s : Standing} → i < n → Having ws n i s (i + 1)
-have_begins l = record { after = omega arith; within = omega (arith, l); none = λ m a b. absurd (omega (arith, a, b)); first = λ _. refl }
+    module _ (l : i + 1 < n) {p : ℕ} (w : Word ws (i + 1) 1 p) where
+      pub have_next : p ≡ i + 1 → HasChild ws n i true
+      have_next e = record { some = λ _. (i + 1, omega arith, l, omega (arith, e, w.is)); none = λ f. never (sym f) }
 
-module _ {ws : List ℕ} {n i k : ℕ} {s : Standing} (h : Having ws n i s k) where
-  pub have_ends : n ≤ k → HasChild ws n i false
-  have_ends l = record { some = λ e. never e; none = λ _ m a b. h.none m a (omega (arith, b, l)) }
-
-  module _ (l : k < n) {p : ℕ} (w : Word ws k 1 p) where
-    pub have_found : p ≡ i + 1 → HasChild ws n i true
-    have_found e = record { some = λ _. (k, h.after, l, omega (arith, e, w.is)); none = λ f. never (sym f) }
-
-    module _ (e : p ≡ i + 1 → ⊥) where
-      pub have_ordered : ∥ Stands ws n s ∥₁ → s.ordered ≡ true → HasChild ws n i false
-      have_ordered q o = record { some = λ f. never f; none = λ _ m a b f. ∥∥₁_elim q (λ u v. absurd u) (λ z. over z m a b f) }
+      pub have_none : (p ≡ i + 1 → ⊥) → HasChild ws n i false
+      have_none e = record { some = λ f. never f; none = λ _ m a b f. ∥∥₁_elim q (λ u v. absurd u) (λ z. over z m a b f) }
         where
           over : Stands ws n s → (m : ℕ) → i < m → m < n → word_at ws m 1 ≡ suc i → ⊥
           over q m a b f =
               let d = q.ordered o in
+              let k = i + 1 in
               let c = follow_falls (parent_at ws) n d.under k l in
-              let z = h.first o in
-              let y : parent_at ws k ≤ i = below (parent_at ws k) (i + 1) (λ x. omega (arith, x)) (λ x. absurd (e (omega (arith, x, c, z, w.is)))) in
-              run_ends (parent_at ws) n d.under i k h.after y m (omega (arith, a, z)) b f
+              let y : parent_at ws k ≤ i = below (parent_at ws k) (i + 1) (λ x. omega (arith, x)) (λ x. absurd (e (omega (arith, x, c, w.is)))) in
+              run_ends (parent_at ws) n d.under i k (omega arith) y m (omega (arith, a)) b f
 
-      pub have_more : s.ordered ≡ false → Having ws n i s (k + 1)
-      have_more o = record {
-        after = omega (arith, h.after);
-        within = omega (arith, l);
-        none = λ m a b f. below m k (λ c. h.none m a c f) (λ c.
-            let z : k ≡ m = omega (arith, b, c) in
-            let y : word_at ws k 1 ≡ suc i = ap (λ j. word_at ws j 1) z ∙ f in
-            e (omega (arith, y, w.is)));
-        first = λ f. never (sym o ∙ f);
+      pub have_either : HasChild ws n i (eqb p (i + 1))
+      have_either = go (eqb p (i + 1)) refl
+        where
+          go : (b : Bool) → eqb p (i + 1) ≡ b → HasChild ws n i b
+          go true e = have_next (eqb-true p (i + 1) e)
+          go false e = have_none (eqb-false p (i + 1) e)
+
+-- in any order
+module _ {ws : List ℕ} {n i : ℕ} where
+  pub have_any : (r : Bool) → MatchBool r ((k : ℕ) × (k < length (range_with_len (i + 1) (n - (i + 1)))) × HoldsAt (λ k. word_at ws k 1 ≡ i + 1) (range_with_len (i + 1) (n - (i + 1))) k) (AllWithin (λ k. word_at ws k 1 ≡ i + 1 → ⊥) (range_with_len (i + 1) (n - (i + 1))) 0 (length (range_with_len (i + 1) (n - (i + 1))))) → HasChild ws n i r
+  have_any true h =
+      let m = n - (i + 1) in
+      let l : h.0 < m = omega (arith, h.1, length-range_with_len (i + 1) m) in
+      let e : word_at ws (i + 1 + h.0) 1 ≡ i + 1 = subst (λ j. word_at ws j 1 ≡ i + 1) (get_or-range_with_len (i + 1) m h.0 0 l) (h.2 0) in
+      record { some = λ _. (i + 1 + h.0, omega arith, omega (arith, l), omega (arith, e)); none = λ f. never (sym f) }
+  have_any false h =
+      let m = n - (i + 1) in
+      record {
+        some = λ f. never f;
+        none = λ _ k a b f.
+            subst (λ j. word_at ws j 1 ≡ i + 1 → ⊥) {x = get_or (range_with_len (i + 1) m) (k - (i + 1)) 0} {y = k} (omega (arith, a, b, get_or-range_with_len (i + 1) m (k - (i + 1)) 0 (omega (arith, a, b)))) (h (k - (i + 1)) 0 (omega arith) (omega (arith, a, b, length-range_with_len (i + 1) m))) (omega (arith, f));
       }
+
+pub word_is : {ws : List ℕ} {i k v : ℕ} → Word ws i k v → v ≡ word_at ws i k
+word_is w = w.is
 
 -- row k of the table is held
 module _ {d x ws : List ℕ} {n k : ℕ} (h : Held d x ws n) (l : k < n) where
@@ -292,4 +302,4 @@ module _ {d x ws : List ℕ} {n k : ℕ} (h : Held d x ws n) (l : k < n) where
   pub held_few : k < 262144
   held_few = omega (arith, h.few, l)
 
-pub ruleset haves = (held_row, held_few, have_begins, have_ends, have_found, have_ordered, have_more, rules)
+pub ruleset haves = (held_row, held_few, have_past, have_either, rules)

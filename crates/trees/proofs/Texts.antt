@@ -1,8 +1,8 @@
 -- Laws of putting the bytes of one element.
 -- Assumes nothing.
-use Prim.Native.Nat.{ℕ, zero, suc, ◌+◌, ◌*◌, ◌≤◌, ◌<◌, ◌^◌}
+use Prim.Native.Nat.{ℕ, ◌+◌, ◌*◌, ◌≤◌, ◌<◌, ◌^◌}
 use native.Mathlib.Omega.{arith}
-use mathlib.Core.Path.{◌≡◌, refl, ap, sym, subst, ◌∙◌}
+use mathlib.Core.Path.{◌≡◌, refl, ap, sym, ◌∙◌}
 use mathlib.Core.List.{List, [], ◌∷◌, ◌++◌, append_assoc, append-nil}
 use mathlib.Core.Option.{Option, none, some}
 use mathlib.Core.Bool.{Bool, true, false, ◌&&◌, ◌||◌}
@@ -13,47 +13,24 @@ use lib.ListN.{length, take, drop, get_or, length-append, length-drop}
 use lib.Seq.{length-take-le}
 use Rattle.slices.specs.Bytes.{if, bytes}
 use Rattle.utf8.specs.WellFormed.{well_formed}
-use Rattle.tables.specs.Triple.{inside, resolved, part, shown}
+use Rattle.tables.specs.Triple.{inside, shown}
 use Rattle.tables.specs.declared.Triple.{Triple}
+use Rattle.tables.proofs.Triples.{short_shown}
 use Rattle.answers.specs.Puts.{Puts}
-use Rattle.answers.proofs.Putting.{puts_none, puts_then}
+use Rattle.answers.proofs.Putting.{puts_none, puts_then, puts_as}
 use Rattle.references.specs.Escape.{escape}
 use Rattle.references.proofs.Escapes.{escape_most}
 use Rattle.document.proofs.Tests.{never}
 use Rattle.items.specs.Words.{triple_at, docstring_by, absent, word_at, Word, TripleIs}
 use Rattle.items.specs.View.{over}
 use Rattle.items.specs.Sound.{Use, good_triple, doc_use, any_text, in_document, valid_word}
-use Rattle.items.specs.Written.{Pair, pair, pairs, tag, closing_tag, concat}
+use Rattle.items.specs.Written.{Pair, pairs, tag, closing_tag, concat}
 use Rattle.items.proofs.Rows.{row_word}
 use Rattle.items.proofs.Words.{word_in}
+use Rattle.items.proofs.Written.{pairs-append}
 use Rattle.trees.proofs.Standing.{held_row, held_few}
 use Rattle.trees.specs.Written.{docstring, tag_of, given, name_key, value_key, tp_key, word_pairs, docstrings}
 use Rattle.trees.specs.Steps.{Held, StartPut, DocstringPut, ClosePut, keyed, NamePut, GivenHeld, GivenPut, shown_at, AttributePut, AttributesPut, TaggedPut, WordHeld, WordPut}
-
--- the same bytes in other words
-puts_as : {xs ys t t' : List ℕ} {n r : ℕ} → xs ≡ ys → Puts xs n t t' r → Puts ys n t t' r
-puts_as {t = t} {t' = t'} {n = n} {r = r} e p = subst (λ l. Puts l n t t' r) e p
-
-take_short : (n : ℕ) (l : List ℕ) → length (take n l) ≤ length l
-take_short zero l = omega arith
-take_short (suc n) [] = omega arith
-take_short (suc n) (b ∷ l) = omega (arith, take_short n l)
-
--- no triple shows more than the longer buffer
-short-part : (d x : List ℕ) (t : Triple) → length d ≤ 1048576 → length x ≤ 1048576 → length (part d x t) ≤ 1048576
-short-part d x t h k = go (eqb t.source 1)
-  where
-    go : (b : Bool) → length (if b (take t.len (drop t.start d)) (take t.len (drop t.start x))) ≤ 1048576
-    go true = omega (arith, h, take_short t.len (drop t.start d), length-drop t.start d)
-    go false = omega (arith, k, take_short t.len (drop t.start x), length-drop t.start x)
-
-short_shown : (d x : List ℕ) (t : Triple) → length d ≤ 1048576 → length x ≤ 1048576 → length (shown d x t) ≤ 1048576
-unfolding shown
-short_shown d x t h k = short-part d x (resolved d x t) h k
-
-pairs-append : (ps qs : List Pair) → pairs (ps ++ qs) ≡ pairs ps ++ pairs qs
-pairs-append [] qs = refl
-pairs-append (p ∷ ps) qs = ap (◌++◌ (pair p.key p.value)) (pairs-append ps qs) ∙ sym (append_assoc (pair p.key p.value) (pairs ps) (pairs qs))
 
 -- ---- names of tags
 

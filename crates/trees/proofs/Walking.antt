@@ -17,7 +17,6 @@ use Rattle.tables.proofs.Tables.{empty_stands}
 use Rattle.document.specs.Elements.{among}
 use Rattle.items.specs.Words.{Word, word_at}
 use Rattle.items.specs.Written.{closing_tag}
-use Rattle.items.proofs.Rows.{both_true}
 use Rattle.trees.specs.Trees.{tree, more, sizes}
 use Rattle.trees.specs.Shape.{links_of, under, shape_at, types, args, members, annotations, nodes}
 use Rattle.trees.specs.Written.{element_at, tree_at, tag_of, written_tree}
@@ -30,6 +29,7 @@ use Rattle.trees.specs.declared.walk.Start.TheVariants.{Closed, Opened}
 use Rattle.std.specs.Prelude.{Result, Ok, Err}
 use Rattle.std.specs.declared.ops.ControlFlow.{ControlFlow}
 use Rattle.std.specs.declared.ops.ControlFlow.TheVariants.{Continue, Break}
+use Rattle.slices.proofs.Runs.{and_both}
 use Rattle.trees.specs.Walk.{rest, bytes_of, bytes_in, inside_of, AmongOpen, IsAround, Resumes, Begins, Above, at_top, up, Walking, TopOpen, Walks, Enters, Leaves, Turns, LeavesIs}
 use Rattle.trees.proofs.Standing.{held_row, held_few}
 use Rattle.trees.proofs.Zipper.{rest_all_on, rest_next, rest_next_on, rest_later, rest_none, rest_pass}
@@ -101,10 +101,10 @@ module _ {d x ws : List ℕ} {n top : ℕ} {s : Standing} {w : Walk} {out : List
 
   module _ {k : ℕ} (q : NextAt ws n w.row w.group w.from s k) where
     parent_is : word_at ws k 1 ≡ suc w.row
-    parent_is = eqb-true (word_at ws k 1) (suc w.row) (both_true (among (word_at ws k 0) (group_kinds w.group)) (eqb (word_at ws k 1) (suc w.row)) q.is).1
+    parent_is = eqb-true (word_at ws k 1) (suc w.row) (and_both (among (word_at ws k 0) (group_kinds w.group)) (eqb (word_at ws k 1) (suc w.row)) q.is).1
 
     group_known : group_of (word_at ws k 0) ≡ w.group
-    group_known = group_is w.group (word_at ws k 0) (both_true (among (word_at ws k 0) (group_kinds w.group)) (eqb (word_at ws k 1) (suc w.row)) q.is).0
+    group_known = group_is w.group (word_at ws k 0) (and_both (among (word_at ws k 0) (group_kinds w.group)) (eqb (word_at ws k 1) (suc w.row)) q.is).0
 
     -- in document order all rows up to row k stand in the row
     passed_on : s.ordered ≡ true → (m : ℕ) → w.row < m → m < suc k → w.row < word_at ws m 1

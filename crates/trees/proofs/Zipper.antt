@@ -9,6 +9,7 @@ use mathlib.Core.Bool.{Bool, true, false, and-false}
 use borrow.Author.Tests.{eq-eqb, ne_eqb}
 use lib.Dec.{T}
 use lib.ListN.{drop}
+use Rattle.std.proofs.lemmas.List.{drop-map}
 use Rattle.document.specs.Elements.{among}
 use Rattle.items.specs.Words.{row_of, rows_of, word_at}
 use Rattle.items.proofs.Rows.{row-at, row_word, rows_past}
@@ -41,11 +42,6 @@ some_right bare g h = h
 some_right (more t f) g h = refl
 
 -- ---- links
-
-drop-map : {A B : Type 0} (f : A → B) (i : ℕ) (l : List A) → drop i (map f l) ≡ map f (drop i l)
-drop-map f zero l = refl
-drop-map f (suc i) [] = refl
-drop-map f (suc i) (a ∷ l) = drop-map f i l
 
 module _ (ws : List ℕ) (n : ℕ) where
   link_at : (k : ℕ) → k < n → drop k (links_of n ws) ≡ link_of (row_of (drop (k * 16) ws)) ∷ drop (suc k) (links_of n ws)

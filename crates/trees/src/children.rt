@@ -120,6 +120,7 @@ fn is_child(rows: &[u32], i: usize, group: u32, k: usize) -> bool
 
 // The first child of row i in a group from a row on, or else where the search ended.
 // Not an Option: the walk goes on from where the search ended.
+// `for` and not `find`: a turn may find the child, or end the search without one.
 #[tactic(auto, using(crate::proofs::Standing::looks))]
 pub fn next_child(table: &Table, i: usize, group: u32, from: usize) -> Result<usize, usize>
     requires after { i < from }
@@ -144,13 +145,9 @@ pub fn has_child(table: &Table, i: usize) -> bool
     requires { i < table.now.n }
     ensures { HasChild table.now.rows.now table.now.n i result }
 {
-    for k in i + 1..table.n {
-        if items::word(table.rows, k, 1) as usize == i + 1 {
-            return true;
-        }
-        if table.standing.ordered {
-            return false;
-        }
+    let p = i + 1;
+    if table.standing.ordered {
+        return p < table.n && items::word(table.rows, p, 1) as usize == p;
     }
-    false
+    (p..table.n).any(|k| items::word(table.rows, k, 1) as usize == p)
 }

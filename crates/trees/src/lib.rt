@@ -1,4 +1,5 @@
 // The whole tree of a row: the element of the row with all under it, written in groups (docs/FORMAT.md, Trees).
+// A buffer and a count are passed, and no `Writer`: each clause would also have to say that it holds the same borrow, as a `&mut [u8]` does by itself.
 #![tactic(auto)]
 
 ghost use Rattle.std.specs.Prelude.{length};
@@ -58,11 +59,8 @@ pub fn write_tree<'a>(
     ensures { WritesTree document.now text.now rows.now claimed row
         (length out.old) out.new result }
 {
-    if 1048576 < document.len() || 1048576 < text.len() {
-        return answers::refuse(out, 2, 1048576);
-    }
-    match soundness::check(document, text, rows, claimed) {
-        Err(place) => answers::refuse(out, 19, place),
+    match soundness::admit(document, text, rows, claimed) {
+        Err(fault) => answers::refuse(out, fault.number, fault.place),
         Ok(()) => write_sound(document, text, rows, claimed, row, out),
     }
 }

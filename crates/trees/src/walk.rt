@@ -11,7 +11,9 @@ use document::kinds;
 use std::ops::ControlFlow;
 
 // In row `row` children of a group are sought from row `from` on; so many nodes are open, so many bytes put, and so many turns left at most.
-// No ghost field says that it is under way: that fact is of the buffer too, and each function would have to say that a struct holds the same one.
+// The group is a number and no enum: the walk goes on to the next group by adding one.
+// No ghost field says that a walk is under way: that is a fact of the buffer too, and each function would have to say that the walk it answers
+// speaks of the buffer it has written.
 #[derive(Clone, Copy)]
 pub struct Walk {
     pub row: usize,
@@ -222,7 +224,7 @@ fn one_turn(
 }
 
 // From a walk on to its end, which comes within the turns left.
-// `while` and not `for`: where the next turn stands is what this one found.
+// `while` and not `for`: the turns left are a part of the walk, by which its clauses bound the bytes put.
 #[tactic(auto, using(crate::proofs::Walking::looping))]
 fn walk_on(table: &Table, top: usize, begun: Walk, out: &mut [u8]) -> Result<usize, usize>
     requires walking { Walking table.now.document.now table.now.text.now table.now.rows.now

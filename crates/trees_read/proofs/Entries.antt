@@ -24,7 +24,7 @@ use Rattle.document.specs.Whole.{Room, read, meaning, verdict_of, filled, rows_l
 use Rattle.document.specs.declared.Counts.{Counts}
 use Rattle.document.specs.Verdict.{Verdict, counts}
 use Rattle.items.specs.Words.{rows_of}
-use Rattle.items.specs.Sound.{kind_at, Soundness, sound, unsound, soundness}
+use Rattle.items.specs.Sound.{kind_at, Soundness, sound, soundness}
 use Rattle.items.specs.Writing.{checked}
 use Rattle.roundtrip.specs.Items.{referenced}
 use Rattle.accepted.proofs.Folding.{meaning_accepts}
@@ -35,6 +35,7 @@ use Rattle.trees.specs.Trees.{Tree, size}
 use Rattle.trees.specs.Shape.{shape_at}
 use Rattle.trees.specs.Written.{Element, element_at, tree_at, written_tree}
 use Rattle.trees.specs.Writing.{too_deep, tree_written, is_writable, tree_writing, WritesTree}
+use Rattle.roundtrip.proofs.Entries.{text_of, passed, sound_then}
 use Rattle.trees_read.specs.Statement.{values, Fits, tree_of, ReadsBack, ReaderTrees, SoundTrees}
 use Rattle.trees_read.specs.Entries.{Returns, ReturnsFrom, Writable, ReaderEntries, SoundEntries}
 use Rattle.trees_read.proofs.Shallow.{shallow}
@@ -73,25 +74,12 @@ returns_from doc t e h =
 
 -- ---- the bytes that `write_tree` leaves
 
-text_of : (m : ℕ) (o : Text) → Ok m ≡ answer_of o → (t : List ℕ) × (o ≡ text t) × (length t ≡ m)
-text_of m (text t) e = (t, refl, cc)
-text_of m (wrong k p) e = let z : ◌≡◌ {A = ℕ} 0 1 = cc in absurd (omega arith)
-
 no_text : {X : Type 0} (k p : ℕ) (t : List ℕ) → wrong k p ≡ text t → X
 no_text k p t e = let z : ◌≡◌ {A = ℕ} 0 1 = cc in absurd (omega arith)
-
--- a test that did not end in a refusal
-passed : (b : Bool) (k p : ℕ) (o : Text) (t : List ℕ) → if b (wrong k p) o ≡ text t → o ≡ text t
-passed true k p o t e = no_text k p t e
-passed false k p o t e = e
 
 held : (b : Bool) (k p : ℕ) (o : Text) (t : List ℕ) → if b o (wrong k p) ≡ text t → (b ≡ true) × (o ≡ text t)
 held true k p o t e = (refl, e)
 held false k p o t e = no_text k p t e
-
-sound_then : (s : Soundness) (o : Text) (t : List ℕ) → checked s o ≡ text t → (s ≡ sound) × (o ≡ text t)
-sound_then sound o t e = (refl, e)
-sound_then (unsound p) o t e = no_text 19 p t e
 
 written_then : (room : ℕ) (o : Option ℕ) (b : Tree Element) (t : List ℕ) → tree_written room o b ≡ text t → (o ≡ none) × (t ≡ written_tree b)
 written_then room none b t e =

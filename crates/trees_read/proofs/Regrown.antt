@@ -19,14 +19,12 @@ use Rattle.items.specs.Written.{Pair, tag, closing_tag, concat, element}
 use Rattle.trees.specs.Trees.{Tree, tree, Forest, bare, more, joined, map_tree, map_forest, size, sizes}
 use Rattle.trees.specs.Shape.{Link, link_of, links_of, grouped, chosen, forest, under, shape_at, types, args, members, annotations, nodes}
 use Rattle.trees.specs.Written.{Element, element_of, element_at, docstring, tree_at, tag_of, attributes, doc_tag, docstrings, written_tree, written_forest}
+use Rattle.trees.proofs.Opening.{element_some}
+use Rattle.trees.proofs.Zipper.{joined_bare}
 use Rattle.trees_read.proofs.Good.{Good, Goods, Fit, Documented, kind_in, of_kinds, any_tree, open_in}
 use Rattle.trees_read.proofs.Flat.{content_at, doc_at, row_for, flat, flats, concat-append, length_flat}
 
 -- ---- forests
-
-pub joined_bare : {A : Type 0} (f : Forest A) → joined f bare ≡ f
-joined_bare bare = refl
-joined_bare (more t f) = ap (more t) (joined_bare f)
 
 pub map_joined : {A B : Type 0} (g : A → B) (a b : Forest A) → map_forest g (joined a b) ≡ joined (map_forest g a) (map_forest g b)
 map_joined g bare b = refl
@@ -170,11 +168,6 @@ row_shown doc text (suc n) (suc i) ws r rs e =
     let k : 16 + i * 16 ≡ suc i * 16 = omega arith in
     ap (λ l. viewed doc text (row_of l)) (ap (λ (m : ℕ). drop m ws) (sym k) ∙ sym (drop-drop (i * 16) 16 ws)) ∙ row_shown doc text n i (drop 16 ws) r rs e
 
--- an element with content
-element_open : (n : List ℕ) (ps : List Pair) (cs : List (List ℕ)) → empty cs ≡ false → element n ps cs ≡ tag n ps false ++ (concat cs ++ closing_tag n)
-element_open n ps [] h = let z : ◌≡◌ {A = ℕ} 0 1 = cc in absurd (omega arith)
-element_open n ps (c ∷ cs) h = refl
-
 some_more : (a : List (List ℕ)) (x : List ℕ) (b : List (List ℕ)) → empty (a ++ (x ∷ b)) ≡ false
 some_more [] x b = refl
 some_more (y ∷ a) x b = refl
@@ -201,7 +194,7 @@ content_back : (f : Forest Element) (doc pre post n : List ℕ) (ps : List Pair)
 content_back bare doc pre post n ps ds e h = let z : ◌≡◌ {A = ℕ} 0 1 = cc in absurd (omega arith)
 content_back (more t f) doc pre post n ps ds e h =
     e
-    ∙ ap (λ l. pre ++ (l ++ post)) (element_open n ps (ds ++ (written_tree t ∷ written_forest f)) (some_more ds (written_tree t) (written_forest f)) ∙ ap (λ l. tag n ps false ++ (l ++ closing_tag n)) (concat-append ds (written_tree t ∷ written_forest f)))
+    ∙ ap (λ l. pre ++ (l ++ post)) (element_some n ps (ds ++ (written_tree t ∷ written_forest f)) (some_more ds (written_tree t) (written_forest f)) ∙ ap (λ l. tag n ps false ++ (l ++ closing_tag n)) (concat-append ds (written_tree t ∷ written_forest f)))
     ∙ simp append_assoc
 
 drop_next : (i : ℕ) (l : List Row) (r : Row) (rs : List Row) → drop i l ≡ r ∷ rs → drop (suc i) l ≡ rs

@@ -37,7 +37,7 @@ use Rattle.trees_read.proofs.Depths.{Deep, parents, Low, doc_in, accepts_depths}
 
 -- ---- a tree that is not too deep
 
-first-none : (p q : Option ℕ) → first p q ≡ none → (p ≡ none) × (q ≡ none)
+pub first-none : (p q : Option ℕ) → first p q ≡ none → (p ≡ none) × (q ≡ none)
 first-none none q e = (refl, e)
 first-none (some p) q e = let z : ◌≡◌ {A = ℕ} 0 1 = cc in absurd (omega arith)
 

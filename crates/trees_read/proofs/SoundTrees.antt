@@ -4,7 +4,7 @@ use Prim.Native.Nat.{ℕ, zero, suc, ◌+◌, ◌*◌, ◌-◌, ◌≤◌, ◌<�
 use native.Mathlib.Omega.{arith}
 use mathlib.Core.Path.{◌≡◌, refl, sym, ap, ◌∙◌, subst}
 use mathlib.Core.List.{List, [], ◌∷◌, map}
-use mathlib.Core.Option.{Option, none, some}
+use mathlib.Core.Option.{none, some}
 use mathlib.Core.Bool.{Bool, true, false, not, ◌&&◌, and-false}
 use borrow.Author.Tests.{eqb-true, ne_eqb, not-true}
 use lib.Dec.{eqb, leb, ltb}
@@ -20,14 +20,16 @@ use Rattle.document.specs.Kinds as kinds
 use Rattle.document.specs.Elements.{among, held_by_lem, may_hold}
 use Rattle.items.specs.Words.{RowWords, absent, row_of, rows_of, shown_by}
 use Rattle.items.specs.Sound.{Use, name_use, value_use, tp_use, valid_name, valid_value, any_text, kind_at, good_triple, members_of, any_member, keyed, counted, sound, soundness}
-use Rattle.items.specs.Content.{present}
-use Rattle.items.proofs.Rows.{RowIs, kind_at_lem, row_word, row_parts, sound_row_lem, before_it, both_true}
+use Rattle.items.proofs.Rows.{RowIs, kind_at_lem, row_word, row_parts, sound_row_lem, before_it}
+use Rattle.items.proofs.Words.{present_shown}
 use Rattle.trees.specs.Trees.{Tree, tree, Forest, bare, more, joined, map_tree, map_forest}
 use Rattle.trees.specs.Shape.{Link, link_of, links_of, grouped, chosen, forest, shape_at, types, args, members, annotations, nodes}
 use Rattle.trees.specs.Written.{Element, element_at, tree_at}
-use Rattle.trees.specs.Writing.{is_open_node, first, too_deep, too_deeps}
+use Rattle.trees.specs.Writing.{is_open_node, too_deep, too_deeps}
+use Rattle.trees.proofs.Zipper.{joined_bare}
 use Rattle.trees_read.proofs.Good.{Good, Goods, Fit, Fitting, Documented, kind_in, of_kinds, any_tree, keyed_in, complete, open_in}
-use Rattle.trees_read.proofs.Regrown.{joined_bare, map_grouped}
+use Rattle.trees_read.proofs.Regrown.{map_grouped}
+use Rattle.trees_read.proofs.Shallow.{first-none}
 
 -- whether an element is an open node does not depend on what the trees in it hold
 open_map : (e : ℕ → Element) (x : Element) (f : Forest ℕ) → is_open_node x (map_forest e f) ≡ is_open_node x f
@@ -107,17 +109,6 @@ module _ (h : List ℕ → Forest Element) (w : (ks : List ℕ) → Within ks (h
 
 -- ---- texts
 
-shown_absent : (document text : List ℕ) (t : Triple) → absent t ≡ true → triples.shown document text t ≡ []
-unfolding triples.shown
-shown_absent document text t h = rw (eqb-true t.source 0 (and_both (eqb t.source 0) (eqb t.start 0) (and_both (eqb t.source 0 && eqb t.start 0) (eqb t.len 0) h).0).0)
-
-present_shown : (document text : List ℕ) (t : Triple) → present (shown_by document text t) ≡ triples.shown document text t
-present_shown document text t = go (absent t) refl
-  where
-    go : (b : Bool) → absent t ≡ b → present (if b none (some (triples.shown document text t))) ≡ triples.shown document text t
-    go true e = sym (shown_absent document text t e)
-    go false e = refl
-
 fitting : (document text : List ℕ) (u : Use) (valid : List ℕ → Bool) (t : Triple) → good_triple document text u valid t ≡ true → Fitting u valid (shown_by document text t)
 unfolding good_triple
 fitting document text u valid t h = go (absent t) h
@@ -139,10 +130,6 @@ depth_parts e d i f h = go (is_open_node (e i) f) (leb 1024 d) h
     go true true h = let z : ◌≡◌ {A = ℕ} 0 1 = cc in absurd (omega arith)
     go true false h = ((λ x. refl), h)
     go false c h = ((λ x. absurd (not_both x)), h)
-
-first-none : (p q : Option ℕ) → first p q ≡ none → (p ≡ none) × (q ≡ none)
-first-none none q h = (refl, h)
-first-none (some p) q h = let z : ◌≡◌ {A = ℕ} 0 1 = cc in absurd (omega arith)
 
 deeps_joined : (e : ℕ → Element) (d : ℕ) (f g : Forest ℕ) → too_deeps e d (joined f g) ≡ none → (too_deeps e d f ≡ none) × (too_deeps e d g ≡ none)
 deeps_joined e d bare g h = (refl, h)
@@ -279,7 +266,7 @@ module _ (document text ws : List ℕ) (n : ℕ) (ok : soundness document text w
   held (suc i) j h l e =
       let r = row_at ws (suc i) in
       let z : r.parent - 1 ≡ j = omega arith in
-      let p = (both_true (ltb 0 r.parent && leb r.parent (suc i)) (may_hold (kind_at (rows_of n ws) (r.parent - 1)) r.kind) (is (suc i) h).placed).1 in
+      let p = (and_both (ltb 0 r.parent && leb r.parent (suc i)) (may_hold (kind_at (rows_of n ws) (r.parent - 1)) r.kind) (is (suc i) h).placed).1 in
       ap (λ (k : ℕ). may_hold k r.kind) (sym (ap (kind_at (rows_of n ws)) z ∙ kind_row j (omega arith))) ∙ p
 
   -- the members of row k come after it
@@ -411,4 +398,4 @@ sound_good document text ws zero ok h docs deep = absurd (omega arith)
 sound_good document text ws (suc m) ok h docs deep =
     let l : links_of m (drop 16 ws) ≡ links_from ws 1 m = ap (map link_of) (rows_from_lem m 1 ws) in
     let g = good_step document text ws (suc m) ok docs 0 m 0 (omega arith) (λ gs o. goods_forest document text ws (suc m) ok docs m 1 gs 0 o (omega arith) (omega arith)) in
-    (rw l (g (rw l at deep)), eqb-true (get_or ws 0 0) kinds.node (both_true (eqb (get_or ws 0 0) kinds.node) (eqb (get_or ws 1 0) 0) (is document text ws (suc m) ok 0 (omega arith)).placed).0)
+    (rw l (g (rw l at deep)), eqb-true (get_or ws 0 0) kinds.node (and_both (eqb (get_or ws 0 0) kinds.node) (eqb (get_or ws 1 0) 0) (is document text ws (suc m) ok 0 (omega arith)).placed).0)

@@ -2,7 +2,7 @@
 -- Assumes nothing.
 use Prim.Native.Nat.{ℕ}
 use mathlib.Core.Path.{◌≡◌, refl, sym, subst}
-use mathlib.Core.List.{List, [], ◌∷◌, ◌++◌, append_assoc}
+use mathlib.Core.List.{List, [], ◌∷◌, ◌++◌}
 use mathlib.Core.Option.{Option, none, some}
 use mathlib.Core.Bool.{Bool, true, false}
 use borrow.Author.Tests.{eqb-true, eq-eqb}
@@ -17,6 +17,7 @@ use Rattle.document.specs.Kinds as kinds
 use Rattle.document.specs.Elements.{among}
 use Rattle.items.specs.Sound.{Use}
 use Rattle.items.specs.Written.{Pair, pairs, concat}
+use Rattle.items.proofs.Written.{pairs-append}
 use Rattle.roundtrip.proofs.Texts.{first, whole_tag, whole_close, whole_element}
 use Rattle.trees.specs.Trees.{Tree, tree, Forest, bare, more}
 use Rattle.trees.specs.Written.{Element, tag_of, given, name_key, value_key, tp_key, word_pairs, attributes, doc_tag, docstrings, written_tree, written_forest}
@@ -45,10 +46,6 @@ whole_pair k v h f =
 whole_given : (k : List ℕ) → Whole k → (u : Use) (valid : List ℕ → Bool) (o : Option (List ℕ)) → Fitting u valid o → Whole (pairs (given k o))
 whole_given k h u valid none f = none_whole
 whole_given k h u valid (some v) f = whole_pair k v h f.1
-
-pairs-append : (xs ys : List Pair) → pairs (xs ++ ys) ≡ pairs xs ++ pairs ys
-pairs-append [] ys = refl
-pairs-append (x ∷ xs) ys = rw (pairs-append xs ys, append_assoc)
 
 joint : (xs ys : List Pair) → Whole (pairs xs) → Whole (pairs ys) → Whole (pairs (xs ++ ys))
 joint xs ys h k = subst Whole (sym (pairs-append xs ys)) (whole_append h k)

@@ -1,15 +1,13 @@
 -- Units below 128, told by the largest that each byte may be.
 -- Assumes nothing.
-use Prim.Native.Nat.{ℕ, ◌+◌, ◌-◌, ◌*◌, ◌≤◌, ◌<◌}
+use Prim.Native.Nat.{ℕ, ◌+◌, ◌-◌, ◌*◌, ◌≤◌}
 use mathlib.Core.Path.{◌≡◌}
 use mathlib.Core.List.{List}
-use mathlib.Core.Bool.{Bool, true, false, not}
+use mathlib.Core.Bool.{Bool, true, false}
 use borrow.Author.Rules.{rules}
-use borrow.Author.Tests.{not-true}
 use native.Mathlib.Omega.{arith}
-use lib.ListN.{length, get_or}
-use Rattle.utf8.proofs.Sequences.{below}
-use Rattle.utf16.specs.Outcome.{Exceeds, Below, Limited, Block, IsAscii}
+use lib.ListN.{length}
+use Rattle.utf16.specs.Outcome.{Below, Limited, Block, IsAscii}
 
 -- a loop over units, after i of them
 pub record Limiting (raw : List ℕ) (from first second : ℕ) (over : Bool) (i : ℕ) : Type 0 where

@@ -1,4 +1,5 @@
 // Documents in UTF-16 that begin with a byte order mark, decoded to UTF-8 in a lent buffer.
+// Bytes, place and byte order are parameters and no struct: the laws are over the list of bytes, and buffer and count change beside it.
 #![tactic(auto)]
 
 ghost use Rattle.std.specs.Prelude.{◌≡◌, ◌+◌, ◌*◌, ◌<◌, ◌≤◌, length};
@@ -91,7 +92,7 @@ fn within(raw: &[u8], from: usize, first: u8, second: u8) -> bool
     !over
 }
 
-// Whether 32 units stand at a place, all of them below 128.
+// Whether 32 units stand at a place, all of them below 128. Three cases, each with an answer of its own: one condition would be no plainer.
 #[tactic(auto, using(crate::proofs::Limits::asciis))]
 fn is_ascii(raw: &[u8], at: usize, big: bool) -> bool
     requires { at < length raw.now }
@@ -175,14 +176,12 @@ fn put_some(raw: &[u8], at: usize, big: bool, out: &mut [u8], n: usize) -> Resul
     requires room { n < 4194304 }
     ensures { Steps big raw.now at n out.old out.new result }
 {
-    if n + 32 <= out.len() {
-        if is_ascii(raw, at, big) {
-            let count = put_block(raw, at, big, out, n);
-            return Ok(Step {
-                next: at + 64,
-                count,
-            });
-        }
+    if n + 32 <= out.len() && is_ascii(raw, at, big) {
+        let count = put_block(raw, at, big, out, n);
+        return Ok(Step {
+            next: at + 64,
+            count,
+        });
     }
     put_units(raw, at, big, out, n)
 }

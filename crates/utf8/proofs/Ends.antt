@@ -64,19 +64,19 @@ module _ (s : List ℕ) (end : ℕ) (f c : List ℕ) (b : Boundary s end) (w : W
     ends = rw (dropped, char_first c (drop end s) h) long;
   }
 
--- the way back has come to a place: the last character begins there or before it
+-- the way back has come to a place: the last character begins before it
 pub record Backing (s : List ℕ) (end at : ℕ) : Type 0 where
   pub start : ℕ
   pub last : Last s end start
-  pub since : start ≤ at
-  pub under : at < end
+  pub since : start < at
+  pub under : at ≤ end
 
-pub back_begins : {s : List ℕ} {end : ℕ} → Boundary s end → 0 < end → Backing s end (end - 1)
+pub back_begins : {s : List ℕ} {end : ℕ} → Boundary s end → 0 < end → Backing s end end
 back_begins {s} {end} b h =
     let w = whole (take end s) b.before in
     let p = snoc w.parts w.all (rw (w.is, length-take-le end s b.inside) h) in
     let l = last_is s end p.front p.last b p.whole_front p.char (p.is ∙ w.is) in
-    record { start = length p.front; last = l; since = omega (arith, l.below); under = omega arith }
+    record { start = length p.front; last = l; since = l.below; under = omega arith }
 
 -- the bytes of the last character after its first
 last_next : (s : List ℕ) (end r at : ℕ) → Last s end r → r < at → at < end → (0x80 ≤ get_or s at 0) × (get_or s at 0 ≤ 0xbf)
@@ -89,27 +89,29 @@ last_next s end r at l h k =
     rw (get_or-take n (drop r s) (at - r) 0 i, get_or-drop r s (at - r) 0, e) at q
 
 module _ {s : List ℕ} {end at : ℕ} (b : Backing s end at) where
-  -- it begins here if the byte here continues no character, or nothing stands before it
-  begins_here : (0x80 ≤ get_or s at 0 → get_or s at 0 ≤ 0xbf → at ≤ 0) → Last s end at
+  -- it begins at the byte before the place if that continues no character, and before it if it does
+  begins_here : (0x80 ≤ get_or s (at - 1) 0 → get_or s (at - 1) 0 ≤ 0xbf → ⊥) → Last s end (at - 1)
   begins_here h =
-      let e : b.start ≡ at = below b.start at (λ l. let q = last_next s end b.start at b.last l b.under in absurd (omega (arith, h q.0 q.1))) (λ l. omega (arith, b.since)) in
+      let e : b.start ≡ at - 1 = below b.start (at - 1) (λ l. let q = last_next s end b.start (at - 1) b.last l (omega (arith, b.since, b.under)) in absurd (h q.0 q.1)) (λ l. omega (arith, b.since)) in
       rw e at b.last
 
-  pub back_low : get_or s at 0 < 0x80 → Last s end at
-  back_low l = begins_here (λ p q. absurd (omega arith))
+  pub back_low : get_or s (at - 1) 0 < 0x80 → Last s end (at - 1)
+  back_low l = begins_here (λ p q. omega arith)
 
-  pub back_high : 0xbf < get_or s at 0 → Last s end at
-  back_high l = begins_here (λ p q. absurd (omega arith))
+  pub back_high : 0xbf < get_or s (at - 1) 0 → Last s end (at - 1)
+  back_high l = begins_here (λ p q. omega arith)
 
-  pub back_first : at ≤ 0 → Last s end at
-  back_first l = begins_here (λ p q. l)
+  pub back_first : at ≤ 1 → Last s end 0
+  back_first l =
+      let e : b.start ≡ 0 = omega (arith, b.since) in
+      rw e at b.last
 
-  pub back_more : end ≤ length s → 0 < at → 0x80 ≤ get_or s at 0 → get_or s at 0 ≤ 0xbf → Backing s end (at - 1)
+  pub back_more : end ≤ length s → 1 < at → 0x80 ≤ get_or s (at - 1) 0 → get_or s (at - 1) 0 ≤ 0xbf → Backing s end (at - 1)
   back_more i l p q = record {
     start = b.start;
     last = b.last;
-    since = below b.start at (λ k. omega arith) (λ k.
-        let e : b.start ≡ at = omega (arith, b.since) in
+    since = below b.start (at - 1) (λ k. omega arith) (λ k.
+        let e : b.start ≡ at - 1 = omega (arith, b.since) in
         absurd ((rw e at (cut_is_lead s b.start b.last.cut (omega (arith, b.under)))) p q));
     under = omega (arith, b.under);
   }

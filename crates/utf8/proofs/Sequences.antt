@@ -130,7 +130,7 @@ pub record Shape (a n : ℕ) (l : List ℕ) : Type 0 where
   pub prefix : (x : List ℕ) → sequence (a ∷ (take n l ++ x)) ≡ suc n
   pub room : n ≤ length l
 
-if_some : (t : Bool) (n k : ℕ) → if t (suc k) 0 ≡ suc n → (t ≡ true) × (k ≡ n)
+pub if_some : (t : Bool) (n k : ℕ) → if t (suc k) 0 ≡ suc n → (t ≡ true) × (k ≡ n)
 if_some true n k e = (refl, omega arith)
 if_some false n k e = absurd (omega arith)
 

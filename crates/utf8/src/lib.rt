@@ -234,12 +234,13 @@ fn back(s: &[u8], end: usize) -> usize
     requires end_nonzero { 0 < end }
     ensures { Last s.now end result }
 {
-    let mut at = end - 1;
-    // By `matches!` the proof is not told that the byte at the end is outside of the range.
-    while 0 < at && 0x80 <= s[at] && s[at] <= 0xbf {
-        at -= 1;
+    for at in (1..end).rev() {
+        // By comparisons: after `matches!` a proof has no lasting name for the side of the range that a byte is on.
+        if s[at] < 0x80 || 0xbf < s[at] {
+            return at;
+        }
     }
-    at
+    0
 }
 
 // The end of the last character that is not White_Space, or 0: the text ends there in either case.

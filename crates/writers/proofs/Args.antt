@@ -15,14 +15,15 @@ use Rattle.slices.specs.Bytes.{if, bytes, empty}
 use Rattle.tables.specs.Triple.{shown}
 use Rattle.document.specs.Kinds as kinds
 use Rattle.answers.specs.Puts.{Puts}
-use Rattle.answers.proofs.Putting.{puts_then}
+use Rattle.answers.proofs.Putting.{puts_then, puts_as}
 use Rattle.items.specs.Words.{RowWords, triple_at, viewed, rows_shown, word_at, is_child}
 use Rattle.items.specs.Written.{Annotation, Arg, Pair, pairs, optional, tag, closing_tag, concat, element, written_annotation, written_arg}
 use Rattle.items.specs.Content.{direction, annotation_of, annotations, arg_of}
 use Rattle.items.proofs.Children.{annotations_append}
+use Rattle.items.proofs.Words.{present_shown}
 use Rattle.writers.specs.Rows.{words_in, row_at, rows_in, any_child, SomeChild, Held, Last}
 use Rattle.writers.specs.Writes.{annotations_in, AnnotationsPut, name_at, type_at, direction_at, ArgTagPut, ArgPut}
-use Rattle.writers.proofs.Texts.{puts_as, present_shown, shown_one}
+use Rattle.writers.proofs.Texts.{shown_one}
 
 -- the rows from row i on, in two parts
 shown_split : (d x ws : List ℕ) (i a b : ℕ) → rows_in d x ws i (a + b) ≡ rows_in d x ws i a ++ rows_in d x ws (i + a) b

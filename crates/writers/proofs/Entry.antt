@@ -1,43 +1,39 @@
 -- Laws of the entry: which row is written, and what is answered.
 -- Assumes nothing.
-use Prim.Native.Nat.{ℕ, zero, suc, ◌+◌, ◌*◌, ◌≤◌, ◌<◌, ◌^◌}
+use Prim.Native.Nat.{ℕ, ◌+◌, ◌*◌, ◌≤◌, ◌<◌, ◌^◌}
 use native.Mathlib.Omega.{arith}
 use mathlib.Core.Path.{◌≡◌, refl, ap, sym, subst, ◌∙◌}
-use mathlib.Core.List.{List, [], ◌∷◌, map}
+use mathlib.Core.List.{List, [], map}
 use mathlib.Core.Option.{none, some}
 use mathlib.Core.Bool.{Bool, true, false}
 use borrow.Author.Rules.{rules}
-use borrow.Author.Tests.{eq-eqb, ne_eqb, eqb-true, lt-ltb, le-ltb}
+use borrow.Author.Tests.{eq-eqb, ne_eqb, eqb-true}
 use lib.Dec.{T, eqb}
-use lib.ListN.{length, drop, drop_of_length-le}
+use lib.ListN.{length, drop_of_length-le}
 use lib.Seq.{get_or-drop}
 use Rattle.std.specs.Prelude.{Result, Ok, Err}
+use Rattle.std.proofs.lemmas.List.{drop-map}
 use Rattle.faults.specs.declared.Fault.{Fault}
 use Rattle.slices.specs.Bytes.{if, bytes}
 use Rattle.tables.proofs.Tables.{empty_stands}
 use Rattle.answers.specs.Text.{wrong, Says, Finishes}
+use Rattle.answers.proofs.Putting.{puts_as}
 use Rattle.document.specs.Elements.{among}
-use Rattle.soundness.specs.Outcome.{Judges}
-use Rattle.soundness.proofs.Rows.{judged_sound, judged_unsound}
+use Rattle.soundness.specs.Outcome.{Admits}
+use Rattle.soundness.proofs.Rows.{admitted, refused_as, admitted_as}
 use Rattle.document.specs.Kinds as kinds
 use Rattle.items.specs.Words.{Word, rows_of, viewed, rows_shown}
 use Rattle.items.specs.Written.{annotated, argument, method, signal, written, written_member}
 use Rattle.items.specs.Content.{Row, annotation_of, arg_of, member_of, item_of, first_item, content, content_at}
-use Rattle.items.specs.Writing.{item_written, writing, Writes}
+use Rattle.items.specs.Writing.{checked, item_written, writing, Writes}
 use Rattle.items.proofs.Rows.{row-at, length_rows_of, sound_claimed, sound_held, sound_parent}
 use Rattle.writers.specs.Rows.{row_at, Held}
 use Rattle.writers.specs.Writes.{annotation_at, AnnotationPut, Scannable, ArgPut, MemberScannable, MemberPut, Writable, ItemPut}
 use Rattle.writers.specs.Entry.{Admitted, WritesSound}
 use Rattle.writers.proofs.Scans.{last_all}
-use Rattle.writers.proofs.Texts.{puts_as}
 use Rattle.writers.proofs.Members.{member_row, member_within}
 
 -- the content of row i
-drop-map : {A B : Type 0} (f : A → B) (i : ℕ) (l : List A) → drop i (map f l) ≡ map f (drop i l)
-drop-map f zero l = refl
-drop-map f (suc i) [] = refl
-drop-map f (suc i) (a ∷ l) = drop-map f i l
-
 pub content_is : (d x ws : List ℕ) (m i : ℕ) → i < m → content_at d x ws m i ≡ item_of (rows_shown d x ws m) i (row_at d x ws i)
 unfolding content
 content_is d x ws m i h = ap (first_item (rows_shown d x ws m) i) (drop-map (viewed d x) i (rows_of m ws) ∙ ap (map (viewed d x)) (row-at m i ws h))
@@ -176,26 +172,20 @@ module _ {d x ws t t' : List ℕ} {n i : ℕ} {r : Result ℕ Fault} where
 pub ruleset rows = (zero_room, writable_true, admitted_document, admitted_text, admitted_scans, admitted_few, admitted_held, no_row, no_kind, row_written, rules)
 
 -- the answers
-module _ {d x ws t' : List ℕ} {n i room : ℕ} {r : Result ℕ Fault} where
-  pub long_document : 1048576 < length d → Says (wrong 2 1048576) room t' r → Writes d x ws n i room t' r
+module _ {d x ws t' : List ℕ} {n i room : ℕ} {r : Result ℕ Fault} {z : Result (Unit {0}) Fault} (g : Admits d x ws n z) where
+  pub refused : {f : Fault} → z ≡ Err f → Says (wrong f.number f.place) room t' r → Writes d x ws n i room t' r
   unfolding writing
-  long_document h s = record { says = rw (lt-ltb 1048576 (length d) h) s }
+  refused e s =
+      let a = refused_as g wrong (λ v. checked v (item_written i room (content_at d x ws n i))) (λ p. refl) e in
+      record { says = subst (λ o. Says o room t' r) (sym a) s }
 
-  module _ (h : length d ≤ 1048576) where
-    pub long_text : 1048576 < length x → Says (wrong 2 1048576) room t' r → Writes d x ws n i room t' r
-    unfolding writing
-    long_text k s = record { says = rw (le-ltb 1048576 (length d) h, lt-ltb 1048576 (length x) k) s }
+  pub is_sound : {u : Unit {0}} {t : List ℕ} → z ≡ Ok u → length t ≡ room → WritesSound d x ws n i t t' r → Writes d x ws n i room t' r
+  unfolding writing
+  is_sound e l s =
+      let a = admitted_as g wrong (λ v. checked v (item_written i room (content_at d x ws n i))) e in
+      record { says = subst (λ o. Says o room t' r) (sym a) (rw l at s.says) }
 
-    module _ (k : length x ≤ 1048576) {z : Result (Unit {0}) ℕ} (g : Judges d x ws n z) where
-      pub not_sound : {p : ℕ} → z ≡ Err p → Says (wrong 19 p) room t' r → Writes d x ws n i room t' r
-      unfolding writing
-      not_sound e s = record { says = rw (le-ltb 1048576 (length d) h, le-ltb 1048576 (length x) k, judged_unsound g e) s }
+pub admits : {u : Unit {0}} {d x ws : List ℕ} {n : ℕ} {z : Result (Unit {0}) Fault} → Admits d x ws n z → z ≡ Ok u → Admitted d x ws n
+admits g e = let a = admitted g e in record { document = a.0; text = a.1; rows = a.2 }
 
-      pub is_sound : {u : Unit {0}} {t : List ℕ} → z ≡ Ok u → length t ≡ room → WritesSound d x ws n i t t' r → Writes d x ws n i room t' r
-      unfolding writing
-      is_sound e l s = record { says = rw (le-ltb 1048576 (length d) h, le-ltb 1048576 (length x) k, judged_sound g e) (rw l at s.says) }
-
-pub admits : {u : Unit {0}} {d x ws : List ℕ} {n : ℕ} {z : Result (Unit {0}) ℕ} → length d ≤ 1048576 → length x ≤ 1048576 → Judges d x ws n z → z ≡ Ok u → Admitted d x ws n
-admits h k g e = record { document = h; text = k; rows = judged_sound g e }
-
-pub ruleset entry = (long_document, long_text, not_sound, is_sound, admits, rules)
+pub ruleset entry = (refused, is_sound, admits, rules)

@@ -13,7 +13,7 @@ use lib.Seq.{get_or-drop}
 use Rattle.slices.specs.Bytes.{if, bytes, empty}
 use Rattle.tables.specs.Triple.{shown}
 use Rattle.answers.specs.Puts.{Puts}
-use Rattle.answers.proofs.Putting.{puts_none, puts_then}
+use Rattle.answers.proofs.Putting.{puts_none, puts_then, puts_as}
 use Rattle.references.specs.Escape.{escape}
 use Rattle.document.specs.Kinds as kinds
 use Rattle.items.proofs.Rows.{length_rows_of}
@@ -21,10 +21,11 @@ use Rattle.items.specs.Words.{RowWords, triple_at, viewed, rows_shown, word_at, 
 use Rattle.items.specs.Written.{Annotation, Arg, named, tag, closing_tag, concat, written_annotation, written_arg, written_member}
 use Rattle.items.specs.Content.{Row, annotations, arg_of, args, member_of}
 use Rattle.items.proofs.Children.{args_append}
+use Rattle.items.proofs.Words.{present_shown}
 use Rattle.writers.specs.Rows.{words_in, row_at, rows_in, any_child, Child, SomeChildren, Held, RowHeld, Last}
 use Rattle.writers.specs.Writes.{annotations_in, ArgPut, if_arg, IfArgPut, ArgsScannable, Turn, args_in, tag_of, MemberTagPut, MemberEndPut, MemberScannable, ChildrenPut, MemberPut, CountFits, KindPut}
 use Rattle.writers.proofs.Scans.{last_all}
-use Rattle.writers.proofs.Texts.{puts_as, present_shown, shown_one}
+use Rattle.writers.proofs.Texts.{shown_one}
 use Rattle.writers.proofs.Args.{Clear, later_clear, no_child, before_clear, shown_parts, own_annotations, any_annotation, element_bare, element_full, empty_map}
 
 -- one row, if it is an arg

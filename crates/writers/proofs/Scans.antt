@@ -1,15 +1,21 @@
 -- Laws of scanning rows for children.
 -- Assumes nothing.
-use Prim.Native.Nat.{ℕ, suc, ◌+◌, ◌-◌, ◌*◌, ◌≤◌, ◌<◌}
+use Prim.Native.Nat.{ℕ, zero, suc, ◌+◌, ◌-◌, ◌*◌, ◌≤◌, ◌<◌}
+use native.Mathlib.Nat.{add-zero}
 use native.Mathlib.Omega.{arith}
-use mathlib.Core.Path.{◌≡◌, refl, ap, sym, ◌∙◌}
+use mathlib.Core.Path.{◌≡◌, refl, ap, sym, subst, ◌∙◌}
 use mathlib.Core.List.{List, ◌∷◌}
 use mathlib.Core.Bool.{Bool, true, false}
 use borrow.Author.Rules.{rules}
-use lib.ListN.{drop}
+use lib.ListN.{length, drop, get_or}
 use lib.Seq.{drop-drop}
+use Rattle.std.specs.Prelude.{Option as Maybe, None, Some, MatchOption}
+use Rattle.std.specs.Bool.{MatchBool}
+use Rattle.std.specs.Option.{unwrap_or}
+use Rattle.std.specs.List.{AllWithin, HoldsAt, range_with_len}
+use Rattle.std.proofs.lemmas.List.FromFn.{length-range_with_len, get_or-range_with_len}
 use Rattle.slices.specs.Bytes.{if}
-use Rattle.items.specs.Words.{row_of, word_at}
+use Rattle.items.specs.Words.{Word, row_of, word_at}
 use Rattle.items.specs.Order.{InOrder}
 use Rattle.writers.specs.Rows.{words_in, any_child, Child, SomeChild, NextChild, ChildOf, Last}
 
@@ -19,42 +25,50 @@ rows_one ws k n =
     let e : k * 16 + 16 ≡ suc k * 16 = omega arith in
     rw (drop-drop 16 (k * 16) ws, e)
 
--- a loop that looks for a child: whether one is left is what was asked
-pub record Seeking (ws : List ℕ) (kind p from to k : ℕ) : Type 0 where
-  pub left : any_child kind p (words_in ws from (to - from)) ≡ any_child kind p (words_in ws k (to - k))
-  pub onward : from ≤ k
-  pub within : k ≤ to
+-- a child among m rows from a row on, or none
+module _ (ws : List ℕ) (kind p : ℕ) where
+  any_one : (from m : ℕ) (t : Bool) → Child ws kind p from t → any_child kind p (words_in ws from (suc m)) ≡ if t true (any_child kind p (words_in ws (suc from) m))
+  any_one from m t c =
+      ap (any_child kind p) (rows_one ws from m)
+      ∙ ap (λ b. if b true (any_child kind p (words_in ws (suc from) m))) (sym c.is)
 
-pub seek_begins : {ws : List ℕ} {kind p from to : ℕ} → from ≤ to → Seeking ws kind p from to from
-seek_begins h = record { left = refl; onward = omega arith; within = h }
+  any_some : (m from k : ℕ) → k < m → Child ws kind p (from + k) true → any_child kind p (words_in ws from m) ≡ true
+  any_some zero from k h c = absurd (omega arith)
+  any_some (suc m) from zero h c = any_one from m true (rw add-zero at c)
+  any_some (suc m) from (suc k) h c =
+      let z : from + suc k ≡ suc from + k = omega arith in
+      let e = any_some m (suc from) k (omega (arith, h)) (rw z at c) in
+      any_one from m _ (record { is = refl }) ∙ either _ e
+    where
+      either : (b : Bool) {t : Bool} → t ≡ true → if b true t ≡ true
+      either true e = refl
+      either false e = e
 
-module _ {ws : List ℕ} {kind p from to k : ℕ} (g : Seeking ws kind p from to k) where
-  pub seek_ends : to ≤ k → SomeChild ws kind p from to false
-  seek_ends h =
-      let e : to - k ≡ 0 = omega arith in
-      record { is = sym (g.left ∙ rw e) }
+  any_none : (m from : ℕ) → ((k : ℕ) → from ≤ k → k < from + m → Child ws kind p k false) → any_child kind p (words_in ws from m) ≡ false
+  any_none zero from h = refl
+  any_none (suc m) from h = any_one from m false (h from (omega arith) (omega arith)) ∙ any_none m (suc from) (λ k a b. h k (omega arith) (omega arith))
 
-  module _ (h : k < to) {t : Bool} (c : Child ws kind p k t) where
-    one_left : any_child kind p (words_in ws k (to - k)) ≡ if t true (any_child kind p (words_in ws (suc k) (to - suc k)))
-    one_left =
-        let e : to - k ≡ suc (to - suc k) = omega (arith, h) in
-        ap (λ m. any_child kind p (words_in ws k m)) e
-        ∙ ap (any_child kind p) (rows_one ws k (to - suc k))
-        ∙ ap (λ b. if b true (any_child kind p (words_in ws (suc k) (to - suc k)))) (sym c.is)
+  pub some_child : (from to : ℕ) (r : Bool) → MatchBool r ((k : ℕ) × (k < length (range_with_len from (to - from))) × HoldsAt (λ j. Child ws kind p j true) (range_with_len from (to - from)) k) (AllWithin (λ j. Child ws kind p j false) (range_with_len from (to - from)) 0 (length (range_with_len from (to - from)))) → SomeChild ws kind p from to r
+  some_child from to true h =
+      let m = to - from in
+      let l : h.0 < m = omega (arith, h.1, length-range_with_len from m) in
+      let c = subst (λ j. Child ws kind p j true) (get_or-range_with_len from m h.0 0 l) (h.2 0) in
+      record { is = sym (any_some m from h.0 l c) }
+  some_child from to false h =
+      let m = to - from in
+      record {
+        is = sym (any_none m from (λ k a b. subst (λ j. Child ws kind p j false) {x = get_or (range_with_len from m) (k - from) 0} {y = k} (omega (arith, get_or-range_with_len from m (k - from) 0 (omega arith))) (h (k - from) 0 (omega arith) (omega (arith, length-range_with_len from m)))));
+      }
 
-    pub seek_found : t ≡ true → SomeChild ws kind p from to true
-    seek_found f = record { is = sym (g.left ∙ one_left ∙ rw f) }
+pub word_is : {ws : List ℕ} {i k v : ℕ} → Word ws i k v → v ≡ word_at ws i k
+word_is w = w.is
 
-    pub seek_more : t ≡ false → Seeking ws kind p from to (k + 1)
-    seek_more f =
-        let e : k + 1 ≡ suc k = omega arith in
-        record { left = g.left ∙ one_left ∙ rw (f, e); onward = omega (arith, g.onward); within = omega (arith, h) }
-
--- a loop that looks for the next child
-pub record Passing (ws : List ℕ) (p from to k : ℕ) : Type 0 where
-  pub onward : from ≤ k
-  pub within : k ≤ to
-  pub none : (m : ℕ) → from ≤ m → m < k → word_at ws m 1 ≡ p → ⊥
+-- the next child, or the end
+pub next_child_is : {ws : List ℕ} {p from to r : ℕ} (o : Maybe ℕ) → from ≤ to
+    → MatchOption o ((k : ℕ) → from ≤ k → k < to → word_at ws k 1 ≡ p → ⊥) (λ i. (from ≤ i) × (i < to) × (word_at ws i 1 ≡ p) × ((k : ℕ) → from ≤ k → k < i → word_at ws k 1 ≡ p → ⊥))
+    → r ≡ unwrap_or o to → NextChild ws p from to r
+next_child_is None l h e = rw e record { onward = l; within = omega arith; none = h; is = λ k. absurd (omega arith) }
+next_child_is (Some i) l h e = rw e record { onward = h.0; within = omega (arith, h.1); none = h.3; is = λ _. h.2 }
 
 -- a loop over the rows after row i: up to here they are in order, and `last` is the last child
 pub record Ordering (ws : List ℕ) (n i last k : ℕ) : Type 0 where
@@ -76,4 +90,4 @@ last_ordered {p = p} {j = j} {r = r} c e m = record {
 pub last_all : {ws : List ℕ} {n j : ℕ} → j < n → Last ws n j n
 last_all h = record { onward = h; within = omega arith; none = λ k a b. absurd (omega (arith, a, b)) }
 
-pub ruleset scans = (seek_begins, seek_ends, seek_found, seek_more, last_ordered, last_all, rules)
+pub ruleset scans = (last_ordered, last_all, rules)

@@ -23,19 +23,22 @@ use Rattle.items.specs.Words.{word_at, Word, rows_shown, is_child}
 use Rattle.items.specs.Order.{parent_at}
 use Rattle.items.specs.Written.{Item, annotated, argument, method, signal, written, concat}
 use Rattle.items.specs.Content.{Row, annotations, annotation_of, arg_of, args, member_of, item_of, content_at}
-use Rattle.items.specs.Several.{there, first_missing, bytes_of, texts_of, ends_from, capped, fitted, several_writing, several_ends, WritesSeveral}
-use Rattle.items.proofs.Rows.{both_true}
+use Rattle.items.specs.Several.{there, first_missing, bytes_of, texts_of, ends_from, capped, fitted, items_written, several_writing, several_ends, WritesSeveral}
+use Rattle.items.specs.Writing.{checked}
 use Rattle.items.proofs.Children.{args_append}
 use Rattle.items.proofs.Order.{run_ends}
 use Rattle.soundness.specs.Outcome as outcome
-use Rattle.soundness.specs.Outcome.{Judges}
-use Rattle.soundness.proofs.Rows.{judged_sound, judged_unsound}
+use Rattle.soundness.specs.Outcome.{Admits}
+use Rattle.soundness.proofs.Rows.{refused_as, admitted_as}
 use Rattle.writers.specs.Rows.{row_at, rows_in, Held, Last, RunEnd, Reach}
 use Rattle.writers.specs.Writes.{MemberScannable, Writable, ItemPut}
 use Rattle.writers.specs.Entry.{Admitted}
 use Rattle.writers.specs.Several.{is_item, IsItem, At, Asks, RowPut, Missing, Fit, VetsItems, Vets, Stand, SeveralPut, Fits, FinishesItems, WritesFit, Clears}
 use Rattle.std.specs.Prelude as prelude
-use Rattle.std.specs.Prelude.{None, Some, Result, Ok, Err}
+use Rattle.std.specs.Prelude.{Option as Maybe, None, Some, Result, Ok, Err, MatchOption, ⊤}
+use Rattle.std.specs.Option.{unwrap_or}
+use Rattle.std.specs.List.{AllWithin, HoldsAt}
+use Rattle.slices.proofs.Runs.{and_both}
 use Rattle.faults.specs.Fault.{fault}
 use Rattle.faults.specs.declared.Fault.{Fault}
 use Rattle.writers.proofs.Scans.{last_all}
@@ -46,9 +49,11 @@ use Rattle.writers.proofs.Entry.{content_is, content_past, admitted_document, ad
 
 -- ---- the run of a row
 
-pub record Running (ws : List ℕ) (n i k : ℕ) : Type 0 where
-  pub after : i < k
-  pub within : k ≤ n
+pub run_end_is : {ws : List ℕ} {n i r : ℕ} (o : Maybe ℕ) → i < n
+    → MatchOption o ((k : ℕ) → i + 1 ≤ k → k < n → ⊤) (λ k. (i + 1 ≤ k) × (k < n) × (word_at ws k 1 ≤ i) × ((j : ℕ) → i + 1 ≤ j → j < k → ⊤))
+    → r ≡ unwrap_or o n → RunEnd ws n i r
+run_end_is None l h e = rw e record { onward = l; within = omega arith; is = λ k. absurd (omega arith) }
+run_end_is (Some k) l h e = rw e record { onward = omega (arith, h.0); within = omega (arith, h.1); is = λ _. h.2 }
 
 pub reach_run : {ws : List ℕ} {n i r : ℕ} {o : Bool} → outcome.Orders ws n o → o ≡ true → RunEnd ws n i r → Reach ws n i r
 reach_run {ws} {n} {i} {r} a e g = record {
@@ -132,11 +137,11 @@ module _ {ws : List ℕ} {n i : ℕ} where
   module _ (e : IsItem ws n i true) where
     pub item_below : i < n
     unfolding is_item
-    item_below = ltb-true i n (both_true (ltb i n) (among (word_at ws i 0) kinds.written) (sym e.is)).0
+    item_below = ltb-true i n (and_both (ltb i n) (among (word_at ws i 0) kinds.written) (sym e.is)).0
 
     pub item_writable : {k : ℕ} → Word ws i 0 k → Writable k true
     unfolding is_item
-    item_writable w = record { is = sym (ap (λ z. among z kinds.written) w.is ∙ (both_true (ltb i n) (among (word_at ws i 0) kinds.written) (sym e.is)).1) }
+    item_writable w = record { is = sym (ap (λ z. among z kinds.written) w.is ∙ (and_both (ltb i n) (among (word_at ws i 0) kinds.written) (sym e.is)).1) }
 
 pub ruleset kinds_of = (item_past, item_kind, rules)
 
@@ -177,29 +182,18 @@ module _ (f : ℕ → Option Item) where
       ap (λ b. if b (first_missing f is) (some i)) (h 0 (omega arith))
       ∙ missing_some is r (omega (arith, l)) (λ k m. h (suc k) (omega (arith, m))) e
 
--- a loop over the rows asked for: those before are items
-pub record Looking (ws : List ℕ) (n : ℕ) (is : List ℕ) (k : ℕ) : Type 0 where
-  pub within : k ≤ length is
-  pub before : (j : ℕ) → j < k → is_item ws n (get_or is j 0) ≡ true
+module _ {ws : List ℕ} {n i : ℕ} {b : Bool} (c : IsItem ws n i b) where
+  pub an_item : not b ≡ false → is_item ws n i ≡ true
+  an_item e = sym c.is ∙ not-false b e
 
-pub look_begins : {ws is : List ℕ} {n : ℕ} → Looking ws n is 0
-look_begins = record { within = omega arith; before = λ j l. absurd (omega (arith, l)) }
+  pub no_item : not b ≡ true → is_item ws n i ≡ false
+  no_item e = sym c.is ∙ not-true b e
 
-module _ {ws is : List ℕ} {n k : ℕ} (g : Looking ws n is k) where
-  pub look_ends : length is ≤ k → Missing ws n is None
-  look_ends h = record { found = λ j l. g.before j (omega (arith, h, l)) }
-
-  module _ {b : Bool} (c : IsItem ws n (get_or is k 0) b) (h : k < length is) where
-    pub look_found : not b ≡ true → Missing ws n is (Some (get_or is k 0))
-    look_found e = record { found = (k, h, refl, g.before, sym c.is ∙ not-true b e) }
-
-    pub look_more : not b ≡ false → Looking ws n is (k + 1)
-    look_more e = record {
-      within = omega (arith, h);
-      before = λ j l. below j k (λ m. g.before j m) (λ m. let z : k ≡ j = omega (arith, l, m) in rw (← z) (sym c.is ∙ not-false b e));
-    }
-
-pub ruleset looks = (look_begins, look_ends, look_found, look_more, rules)
+pub first_is : {ws is : List ℕ} {n : ℕ} (r : prelude.Option ℕ)
+    → MatchOption r (AllWithin (λ i. is_item ws n i ≡ true) is 0 (length is)) (λ i. (is_item ws n i ≡ false) × (k : ℕ) × (k < length is) × HoldsAt (λ j. j ≡ i) is k × AllWithin (λ i. is_item ws n i ≡ true) is 0 k)
+    → Missing ws n is r
+first_is None h = record { found = λ k l. h k 0 (omega arith) l }
+first_is (Some i) h = record { found = (h.1, h.2, sym (h.3 0), (λ j l. h.4 j 0 (omega arith) l), h.0) }
 
 -- ---- what is wrong with what is asked for
 
@@ -237,42 +231,22 @@ module _ {d x ws is : List ℕ} {n slots : ℕ} {r : prelude.Option ℕ} (g : Mi
 
 pub ruleset vetting = (vet_missing, vet_few, vet_fine, rules)
 
-module _ {d x ws is : List ℕ} {n slots : ℕ} where
-  pub vet_document : 1048576 < length d → Vets d x ws n is slots (Err (fault 2 1048576))
+module _ {d x ws is : List ℕ} {n slots : ℕ} {z : Result (Unit {0}) Fault} (g : Admits d x ws n z) where
+  pub vet_refused : {f : Fault} → z ≡ Err f → Vets d x ws n is slots (Err f)
   unfolding several_writing
-  vet_document h = record {
-    says = λ room. rw (lt-ltb 1048576 (length d) h);
+  vet_refused e = record {
+    says = λ room. refused_as g wrong (λ v. checked v (items_written (content_at d x ws n) is room slots)) (λ p. refl) e;
     admitted = λ e. absurd (cc);
     fine = λ e. absurd (cc);
   }
 
-  module _ (h : length d ≤ 1048576) where
-    pub vet_text : 1048576 < length x → Vets d x ws n is slots (Err (fault 2 1048576))
-    unfolding several_writing
-    vet_text k = record {
-      says = λ room. rw (le-ltb 1048576 (length d) h, lt-ltb 1048576 (length x) k);
-      admitted = λ e. absurd (cc);
-      fine = λ e. absurd (cc);
-    }
-
-    module _ (k : length x ≤ 1048576) {z : Result (Unit {0}) ℕ} (g : Judges d x ws n z) where
-      pub vet_unsound : {p : ℕ} → z ≡ Err p → Vets d x ws n is slots (Err (fault 19 p))
-      unfolding several_writing
-      vet_unsound e = record {
-        says = λ room. rw (le-ltb 1048576 (length d) h, le-ltb 1048576 (length x) k, judged_unsound g e);
-        admitted = λ e. absurd (cc);
-        fine = λ e. absurd (cc);
-      }
-
-      pub vet_sound : {u : Unit {0}} {r : Result (Unit {0}) Fault} → z ≡ Ok u → VetsItems d x ws n is slots r → Vets d x ws n is slots r
-      unfolding several_writing
-      vet_sound e v = record {
-        says = λ room. rw (le-ltb 1048576 (length d) h, le-ltb 1048576 (length x) k, judged_sound g e) (v.says room);
-        admitted = λ f. admits h k g e;
-        fine = v.fine;
-      }
-
-pub ruleset vets = (vet_document, vet_text, vet_unsound, vet_sound, admits, rules)
+  pub vet_sound : {u : Unit {0}} {r : Result (Unit {0}) Fault} → z ≡ Ok u → VetsItems d x ws n is slots r → Vets d x ws n is slots r
+  unfolding several_writing
+  vet_sound e v = record {
+    says = λ room. admitted_as g wrong (λ v. checked v (items_written (content_at d x ws n) is room slots)) e ∙ v.says room;
+    admitted = λ f. admits g e;
+    fine = v.fine;
+  }
 
 -- ---- one of the rows asked for
 

@@ -1,50 +1,30 @@
 -- Laws of putting what rows show.
 -- Assumes nothing.
-use Prim.Native.Nat.{ℕ, zero, suc, ◌+◌, ◌-◌, ◌*◌, ◌≤◌, ◌<◌, ◌^◌}
+use Prim.Native.Nat.{ℕ, suc, ◌+◌, ◌-◌, ◌*◌, ◌≤◌, ◌<◌, ◌^◌}
 use native.Mathlib.Omega.{arith}
-use mathlib.Core.Path.{◌≡◌, refl, ap, sym, subst, ◌∙◌}
+use mathlib.Core.Path.{◌≡◌, refl, ap, sym, ◌∙◌}
 use mathlib.Core.List.{List, [], ◌∷◌, ◌++◌, map, append_assoc, append-nil}
-use mathlib.Core.Option.{none, some}
-use mathlib.Core.Bool.{Bool, true, false, ◌&&◌}
+use mathlib.Core.Option.{some}
+use mathlib.Core.Bool.{Bool, true, false}
 use borrow.Author.Rules.{rules}
-use borrow.Author.Tests.{ne_eqb, eqb-true}
-use lib.Dec.{eqb}
-use lib.ListN.{length, take, drop, length-append, length-drop}
+use lib.ListN.{length, drop, length-append}
 use Rattle.slices.specs.Bytes.{if, bytes}
-use Rattle.tables.specs.Triple.{resolved, part, shown}
+use Rattle.tables.specs.Triple.{shown}
 use Rattle.tables.specs.declared.Triple.{Triple}
+use Rattle.tables.proofs.Triples.{short_shown}
 use Rattle.answers.specs.Puts.{Puts}
-use Rattle.answers.proofs.Putting.{puts_none, puts_then}
+use Rattle.answers.proofs.Putting.{puts_none, puts_then, puts_as}
 use Rattle.references.specs.Escape.{escape}
 use Rattle.references.proofs.Escapes.{escape_most}
 use Rattle.document.specs.Kinds as kinds
-use Rattle.items.specs.Words.{triple_at, shown_by, absent, viewed, word_at, Word, TripleIs, is_child}
-use Rattle.items.specs.Written.{Annotation, Pair, pair, pairs, optional, tag, concat, written_annotation}
-use Rattle.items.specs.Content.{present, annotation_of, annotations}
+use Rattle.items.specs.Words.{triple_at, absent, viewed, word_at, Word, TripleIs, is_child}
+use Rattle.items.specs.Written.{Annotation, Pair, pairs, optional, tag, concat, written_annotation}
+use Rattle.items.specs.Content.{annotation_of, annotations}
+use Rattle.items.proofs.Written.{pairs-append}
+use Rattle.items.proofs.Words.{present_shown}
 use Rattle.writers.specs.Rows.{Child, row_at, rows_in, RowHeld}
 use Rattle.writers.proofs.Scans.{rows_one}
 use Rattle.writers.specs.Writes.{ShownAt, ShownPut, annotation_at, AnnotationPut, if_annotation, IfAnnotationPut, Scannable, annotations_in, AnnotationsPut, name_at, type_at, direction_at, PairsPut, DirectionPut, ArgTagPut}
-
--- the same bytes in other words
-pub puts_as : {xs ys t t' : List ℕ} {n r : ℕ} → xs ≡ ys → Puts xs n t t' r → Puts ys n t t' r
-puts_as {t = t} {t' = t'} {n = n} {r = r} e p = subst (λ l. Puts l n t t' r) e p
-
-take_short : (n : ℕ) (l : List ℕ) → length (take n l) ≤ length l
-take_short zero l = omega arith
-take_short (suc n) [] = omega arith
-take_short (suc n) (b ∷ l) = omega (arith, take_short n l)
-
--- no triple shows more than the longer buffer
-short-part : (d x : List ℕ) (t : Triple) → length d ≤ 1048576 → length x ≤ 1048576 → length (part d x t) ≤ 1048576
-short-part d x t h k = go (eqb t.source 1)
-  where
-    go : (b : Bool) → length (if b (take t.len (drop t.start d)) (take t.len (drop t.start x))) ≤ 1048576
-    go true = omega (arith, h, take_short t.len (drop t.start d), length-drop t.start d)
-    go false = omega (arith, k, take_short t.len (drop t.start x), length-drop t.start x)
-
-short_shown : (d x : List ℕ) (t : Triple) → length d ≤ 1048576 → length x ≤ 1048576 → length (shown d x t) ≤ 1048576
-unfolding shown
-short_shown d x t h k = short-part d x (resolved d x t) h k
 
 module _ {d x ws : List ℕ} {i k : ℕ} where
   pub shown_is : {t : Triple} {s : List ℕ} → length d ≤ 1048576 → length x ≤ 1048576 → TripleIs ws i k t → s ≡ shown d x t → ShownAt d x ws i k s
@@ -55,24 +35,6 @@ module _ {d x ws : List ℕ} {i k : ℕ} where
     puts = rw e.is at p;
     most = omega (arith, p.counts, length-append before (escape s), escape_most s, e.short);
   }
-
--- absent shows nothing
-absent_source : (a b c : Bool) → a && b && c ≡ true → a ≡ true
-absent_source true b c h = refl
-absent_source false b c h = h
-
-pub present_shown : (d x : List ℕ) (t : Triple) → present (shown_by d x t) ≡ shown d x t
-unfolding shown
-present_shown d x t = go (absent t) refl
-  where
-    none_there : absent t ≡ true → [] ≡ part d x (resolved d x t)
-    none_there h =
-        let e : t.source ≡ 0 = eqb-true t.source 0 (absent_source (eqb t.source 0) (eqb t.start 0) (eqb t.len 0) h) in
-        rw (ne_eqb t.source 1 (λ f. omega (arith, e, f)), ne_eqb t.source 2 (λ f. omega (arith, e, f)))
-
-    go : (b : Bool) → absent t ≡ b → present (if b none (some (part d x (resolved d x t)))) ≡ part d x (resolved d x t)
-    go true h = none_there h
-    go false h = refl
 
 -- an attribute's end and the next one's beginning
 regroup : (e f p q : List ℕ) → e ++ ((34 ∷ p ++ f) ++ (34 ∷ q)) ≡ ((e ++ 34 ∷ []) ++ ((p ++ (f ++ 34 ∷ [])) ++ [])) ++ q
@@ -216,10 +178,6 @@ module _ {ws : List ℕ} {i n w : ℕ} (e : Word ws i 14 w) where
     direction_outward f g p =
         let z : word_at ws i 14 ≡ suc (suc (w - 2)) = sym e.is ∙ omega (arith, f, g) in
         record { puts = rw z p; most = omega (arith, p.counts) }
-
-pairs-append : (ps qs : List Pair) → pairs (ps ++ qs) ≡ pairs ps ++ pairs qs
-pairs-append [] qs = refl
-pairs-append (p ∷ ps) qs = ap (◌++◌ (pair p.key p.value)) (pairs-append ps qs) ∙ sym (append_assoc (pair p.key p.value) (pairs ps) (pairs qs))
 
 pub arg_tag : {d x ws t t₁ t₂ t₃ t₄ : List ℕ} {i n m l k r : ℕ} → Puts (bytes "<arg") n t t₁ m → PairsPut (optional (name_at d x ws i)) m t₁ t₂ l → PairsPut (type_at d x ws i) l t₂ t₃ k → DirectionPut ws i k t₃ t₄ r → ArgTagPut d x ws i n t t₄ r
 arg_tag {d} {x} {ws} {i = i} p q s w = record {

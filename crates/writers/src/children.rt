@@ -25,19 +25,13 @@ pub fn is_child(rows: &[u32], i: usize, kind: u32, p: usize) -> bool
 }
 
 // Whether a row from one on up to another is of a kind, and its parent's row plus one is p.
-#[tactic(auto, using(crate::proofs::Scans::scans))]
 pub fn has_child(rows: &[u32], from: usize, to: usize, kind: u32, p: usize) -> bool
     requires onward { from ≤ to }
     requires few { to ≤ 262144 }
     requires held { to * 16 ≤ length rows.now }
     ensures { SomeChild rows.now kind p from to result }
 {
-    for k in from..to {
-        if is_child(rows, k, kind, p) {
-            return true;
-        }
-    }
-    false
+    (from..to).any(|k| is_child(rows, k, kind, p))
 }
 
 // Whether an arg or an annotation of row p less one is among the rows from row p on up to another.
@@ -52,19 +46,13 @@ pub fn has_children(rows: &[u32], p: usize, to: usize) -> bool
 
 // The first row from one on up to another whose parent's row plus one is p, or the other.
 // Not an Option: callers want where a range of rows ends, and with no such row that is the other.
-// A loop of its own, as that of `run_end` is: a test handed to one loop would need clauses for the rows that it reads.
 pub fn next_child(rows: &[u32], from: usize, to: usize, p: usize) -> usize
     requires onward { from ≤ to }
     requires few { to ≤ 262144 }
     requires held { to * 16 ≤ length rows.now }
     ensures { NextChild rows.now p from to result }
 {
-    for k in from..to {
-        if parent_at(rows, k) == p {
-            return k;
-        }
-    }
-    to
+    (from..to).find(|&k| parent_at(rows, k) == p).unwrap_or(to)
 }
 
 // Whether a row whose parent's row plus one is q stands in a child of row p less one that is not the last.
@@ -118,15 +106,10 @@ fn run_end(rows: &[u32], n: usize, i: usize) -> usize
     requires within { i < n }
     ensures { RunEnd rows.now n i result }
 {
-    for k in i + 1..n {
-        if parent_at(rows, k) <= i {
-            return k;
-        }
-    }
-    n
+    (i + 1..n).find(|&k| parent_at(rows, k) <= i).unwrap_or(n)
 }
 
-// A row from which on none stands in row i, nor in what stands in row i: near in document order, else n.
+// A row from which on no row stands in row i, nor in what stands in row i. It is near i where the rows are in document order, else it is n.
 // Not an Option: a range of rows ends at n too.
 pub fn reach(rows: &[u32], n: usize, i: usize, ordered: bool) -> usize
     requires rows { Held rows.now n }

@@ -1,4 +1,5 @@
 // The four writers: method, signal, annotation and arg, from sound rows.
+// A buffer and a count are passed, and no `Writer`: each clause would also have to say that it holds the same borrow, as a `&mut [u8]` does by itself.
 #![tactic(auto)]
 
 ghost use Rattle.std.specs.Prelude.{◌+◌, ◌*◌, ◌≤◌, ◌<◌, ◌^◌, true, length};
@@ -226,7 +227,7 @@ fn put_notes(source: &Source, count: usize, p: usize, out: &mut [u8], n: usize) 
 }
 
 // The start tag of a method or a signal, up to the end of its name.
-// Apart from `put_member_end`: put together from the bare name of a tag, either would take one more call for each piece.
+// The words stand whole here and in `put_member_end`: if they were put together from the tag's name, each would take a call for each piece.
 fn put_member_tag(source: &Source, i: usize, kind: u32, out: &mut [u8], n: usize) -> usize
     requires row { RowHeld source.now.rows.now i }
     requires room { n < 4294967296 }
@@ -351,11 +352,8 @@ pub fn write<'a>(
     ensures { Writes document.now text.now rows.now claimed row
         (length out.old) out.new result }
 {
-    if 1048576 < document.len() || 1048576 < text.len() {
-        return answers::refuse(out, 2, 1048576);
-    }
-    match soundness::check(document, text, rows, claimed) {
-        Err(place) => answers::refuse(out, 19, place),
+    match soundness::admit(document, text, rows, claimed) {
+        Err(fault) => answers::refuse(out, fault.number, fault.place),
         Ok(()) => write_sound(document, text, rows, claimed, row, out),
     }
 }
@@ -378,17 +376,14 @@ fn asked_at(asked: &[u32], k: usize) -> usize
 }
 
 // The first of the rows asked for that is no item, if there is one.
-#[tactic(auto, using(crate::proofs::Several::looks))]
 fn first_missing(rows: &[u32], n: usize, asked: &[u32]) -> Option<usize>
     requires { Held rows.now n }
     ensures { Missing rows.now n asked.now result }
 {
-    for &row in asked {
-        if !is_item(rows, n, row as usize) {
-            return Some(row as usize);
-        }
-    }
-    None
+    asked
+        .iter()
+        .map(|&row| row as usize)
+        .find(|&row| !is_item(rows, n, row))
 }
 
 // Of sound rows: 20 at the first row that is no item, 18 at how many are asked for where there are fewer words for their ends.
@@ -431,16 +426,8 @@ fn vet<'a>(
     ensures { Vets document.now text.now rows.now claimed asked.now
         slots result }
 {
-    if 1048576 < document.len() || 1048576 < text.len() {
-        return Err(Fault {
-            number: 2,
-            place: 1048576,
-        });
-    }
-    match soundness::check(document, text, rows, claimed) {
-        Err(place) => Err(Fault { number: 19, place }),
-        Ok(()) => vet_items(document, text, rows, claimed, asked, slots),
-    }
+    soundness::admit(document, text, rows, claimed)?;
+    vet_items(document, text, rows, claimed, asked, slots)
 }
 
 // The item of the k-th row asked for; in document order only the rows of its own run are looked at.

@@ -1,12 +1,7 @@
 -- `attributes::quoted` meets its contract: the kind of what is left, after the kind so far, is what was asked.
 -- Assumes nothing.
-use Prim.Native.Nat.{◌-◌}
-use lib.ListN.{length}
 use Rattle.attributes.proofs.Found.{Quoting}
 use Rattle.attributes.proofs.quoted.Given as goal
 
 abbrev pub invariant-loop-at : goal.invariant-loop-at
 invariant-loop-at l = Quoting l.quote l.doc l.from l.at l.form
-
-abbrev pub decreases-loop-at : goal.decreases-loop-at
-decreases-loop-at l = length l.doc - l.at

@@ -3,11 +3,8 @@
 use Rattle.breaches.proofs.Order.{lessers}
 use Rattle.breaches.proofs.lesser.Goals as goal
 
-pub returns-then-q-p : goal.returns-then-q-p
-returns-then-q-p c = search lessers
-
-pub returns-else-q-p : goal.returns-else-q-p
-returns-else-q-p c = search lessers
+pub returns-in-Some-Some : goal.returns-in-Some-Some
+returns-in-Some-Some c = search lessers
 
 pub returns-in-Some-None : goal.returns-in-Some-None
 returns-in-Some-None c = search lessers

@@ -13,4 +13,4 @@ returns-in_err-markup_at c =
     rw (p.1, p.2) (ignore_fault c.loop-at.invariant c.loop-at-test.true c.markup_at.ensures c.in_err-markup_at.was)
 
 pub loop-at-preserved : goal.loop-at-preserved
-loop-at-preserved c = ignore_more c.loop-at.invariant c.loop-at-test.true c.markup_at.ensures (rw c.in-Ignored.is at c.in_ok-markup_at.was) c.find-at-in-Ignored.ensures
+loop-at-preserved c = ignore_more c.loop-at.invariant c.loop-at-test.true c.markup_at.ensures (rw c.in-Ignored.is at c.in_ok-markup_at.was) c.find-at.ensures

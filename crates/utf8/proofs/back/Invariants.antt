@@ -1,10 +1,7 @@
--- `utf8::back` meets its contract. The invariant: the last character begins here or before. The measure is the place.
+-- `utf8::back` meets its contract. The invariant: the last character begins before here.
 -- Assumes nothing.
 use Rattle.utf8.proofs.Ends.{Backing}
 use Rattle.utf8.proofs.back.Given as goal
 
 abbrev pub invariant-loop-at : goal.invariant-loop-at
 invariant-loop-at l = Backing l.s l.end l.at
-
-abbrev pub decreases-loop-at : goal.decreases-loop-at
-decreases-loop-at l = l.at

@@ -15,7 +15,7 @@ none_read = record { name = 0; name_len = 0; value = 0; value_len = 0; form = Fo
 
 pub returns-then-is_wanted : goal.returns-then-is_wanted
 returns-then-is_wanted c =
-    let p : Attribute → Bool = wanted c.args.keys.now c.args.key c.args.len c.args.tp c.args.doc.now in
+    let p : Attribute → Bool = wanted c.args.keys.now c.args.sought c.args.doc.now in
     let e : get_or c.args.attrs.now c.loop-i.i blank ≡ get_or c.args.attrs.now c.loop-i.i none_read = get_or_default c.args.attrs.now c.loop-i.i blank none_read (omega arith) in
     let w : p (get_or c.args.attrs.now c.loop-i.i none_read) ≡ true = sym c.is_wanted.ensures ∙ c.if-is_wanted.true in
     subst (λ (a : Attribute). Picks p c.args.attrs.now c.args.n (value_of (some a))) e
@@ -26,7 +26,7 @@ returns-then-is_wanted c =
 
 pub loop-i-preserved : goal.loop-i-preserved
 loop-i-preserved c =
-    let p : Attribute → Bool = wanted c.args.keys.now c.args.key c.args.len c.args.tp c.args.doc.now in
+    let p : Attribute → Bool = wanted c.args.keys.now c.args.sought c.args.doc.now in
     let e : get_or c.args.attrs.now c.loop-i.i blank ≡ get_or c.args.attrs.now c.loop-i.i none_read = get_or_default c.args.attrs.now c.loop-i.i blank none_read (omega arith) in
     let w : p (get_or c.args.attrs.now c.loop-i.i none_read) ≡ false = sym c.is_wanted.ensures ∙ c.if-is_wanted.false in (
       omega arith,
@@ -38,6 +38,6 @@ loop-i-preserved c =
 
 pub returns : goal.returns
 returns c =
-    turn_end (wanted c.args.keys.now c.args.key c.args.len c.args.tp c.args.doc.now) c.args.attrs.now c.args.n c.requires
+    turn_end (wanted c.args.keys.now c.args.sought c.args.doc.now) c.args.attrs.now c.args.n c.requires
     (record { i = c.loop-i.i; within = c.loop-i.invariant.0; rest = c.loop-i.invariant.1 })
     c.loop-i-test.false

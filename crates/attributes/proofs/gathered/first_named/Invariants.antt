@@ -6,7 +6,7 @@ use Rattle.attributes.proofs.gathered.first_named.Given as goal
 
 abbrev pub invariant-loop-i : goal.invariant-loop-i
 invariant-loop-i l =
-    let p = wanted l.keys l.key l.len l.tp l.doc in
+    let p = wanted l.keys l.sought l.doc in
     (l.i ≤ l.n) × (first_by p (take l.n l.attrs) ≡ first_by p (drop l.i (take l.n l.attrs)))
 
 abbrev pub decreases-loop-i : goal.decreases-loop-i

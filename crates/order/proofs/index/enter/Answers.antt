@@ -6,5 +6,5 @@ use Rattle.order.proofs.index.enter.Goals as goal
 pub returns-then-is_definition : goal.returns-then-is_definition
 returns-then-is_definition c = search entering
 
-pub returns : goal.returns
-returns c = search entering
+pub returns-else-is_definition : goal.returns-else-is_definition
+returns-else-is_definition c = search entering
