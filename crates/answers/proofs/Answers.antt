@@ -38,6 +38,20 @@ module _ {n number place : ℕ} {t t' : List ℕ} where
 
 pub ruleset steps = (refused, finish-full, finish_fits, rules)
 
+-- by a fault whose number and place are known
+module _ {f : Fault} {number place : ℕ} (e : f ≡ fault number place) where
+  f_number : f.number ≡ number
+  f_number = ap (λ (z : Fault). z.number) e
+
+  f_place : f.place ≡ place
+  f_place = ap (λ (z : Fault). z.place) e
+
+  pub told : {room : ℕ} {out : List ℕ} {r : Result ℕ Fault} → Says (wrong f.number f.place) room out r → Says (wrong number place) room out r
+  told s = rw (f_number, f_place) at s
+
+  pub finished : {n : ℕ} {t t' : List ℕ} {r : Result ℕ Fault} → Finishes n f.number f.place t t' r → Finishes n number place t t' r
+  finished s = rw (f_number, f_place) at s
+
 -- the two equations of an entry
 pub said : (f : List ℕ → ℕ → Text) (v : List ℕ) (room : ℕ) (t : List ℕ) (r : Result ℕ Fault) → Says (f v room) room t r → (r ≡ answer_of (f v room)) × (t ≡ left_of room (f v room))
 said f v room t r s = (s.answer, s.left)

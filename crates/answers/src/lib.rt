@@ -13,20 +13,20 @@ pub type TextAnswer = Result<usize, Fault>;
 
 // Leaves zeros.
 #[tactic(auto, using(crate::proofs::Answers::steps))]
-pub fn refuse(out: &mut [u8], number: u32, place: usize) -> TextAnswer
-    ensures { Says (wrong number place) (length out.old) out.new result }
+pub fn refuse(out: &mut [u8], fault: Fault) -> TextAnswer
+    ensures { Says (wrong fault.number fault.place) (length out.old) out.new result }
 {
     tables::clear_bytes(out, 0);
-    Err(Fault { number, place })
+    Err(fault)
 }
 
-// Leaves n bytes and zeros after them, or zeros where they do not fit.
+// Leaves n bytes and zeros after them, or, where they do not fit, zeros and the fault.
 #[tactic(auto, using(crate::proofs::Answers::steps))]
-pub fn finish(out: &mut [u8], n: usize, number: u32, place: usize) -> TextAnswer
-    ensures { Finishes n number place out.old out.new result }
+pub fn finish(out: &mut [u8], n: usize, fault: Fault) -> TextAnswer
+    ensures { Finishes n fault.number fault.place out.old out.new result }
 {
     if out.len() < n {
-        return refuse(out, number, place);
+        return refuse(out, fault);
     }
     tables::clear_bytes(out, n);
     Ok(n)

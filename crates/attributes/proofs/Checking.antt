@@ -18,14 +18,13 @@ use Rattle.answers.specs.Text.{text}
 use Rattle.references.specs.Unescape.{plain}
 use Rattle.references.proofs.Shapes.{unescape_plain}
 use Rattle.document.specs.Tags.{Attr, Shown, Checked, good, fault, also, member, check}
-use Rattle.attributes.specs.One.{part, attr_of, Fit}
-use Rattle.attributes.specs.Lookup.{blank, part_is, name_is, wanted, first_by, value_of, value_in, Picks, keyed_at}
+use Rattle.attributes.specs.One.{attr_of, Fit}
+use Rattle.attributes.specs.Lookup.{blank, part_is, name_is, keyed, first_by, value_of, value_in, Picks}
 use Rattle.attributes.specs.Outcome.{Checkable, among, attrs_of, References, listed, there, Weighs, Judges, Checks}
 use Rattle.document.specs.Outcome.{is_none, is_absent}
 use Rattle.document.specs.declared.Form.{Form}
 use Rattle.document.specs.declared.Value.{Value}
 use Rattle.attributes.specs.declared.Attribute.{Attribute}
-use Rattle.attributes.specs.declared.asked.Sought.TheVariants.{Named}
 use Rattle.faults.specs.declared.Fault.{Fault}
 
 -- ---- whether a name came before
@@ -79,13 +78,13 @@ fit_there {doc} a f = rw f.form (go (all plain (attr_of doc a).raw))
     go true = refl
     go false = refl
 
--- the first with a name that lies in the document is there where the name is listed
-first_listed : (doc : List ℕ) (at n : ℕ) (xs : List Attribute) → at + n ≤ length doc → ((k : ℕ) → k < length xs → Fit doc 0 (length doc) (get_or xs k blank)) → there (value_of (first_by (wanted doc (Named at n) doc) xs)) ≡ listed (part doc at n) (map (attr_of doc) xs)
+-- the first with a name is there where the name is listed
+first_listed : (doc n : List ℕ) (xs : List Attribute) → ((k : ℕ) → k < length xs → Fit doc 0 (length doc) (get_or xs k blank)) → there (value_of (first_by (name_is (keyed n) doc) xs)) ≡ listed n (map (attr_of doc) xs)
 unfolding first_by
-first_listed doc at n [] l h = refl
-first_listed doc at n (x ∷ xs) l h =
-    there_if (wanted doc (Named at n) doc x) x (first_by (wanted doc (Named at n) doc) xs) (fit_there x (h 0 (omega arith)))
-    ∙ rw (name_within (keyed_at doc at n) doc x (h 0 (omega arith)).name, le-leb (at + n) (length doc) l, first_listed doc at n xs l (λ k b. h (suc k) (omega arith)))
+first_listed doc n [] h = refl
+first_listed doc n (x ∷ xs) h =
+    there_if (name_is (keyed n) doc x) x (first_by (name_is (keyed n) doc) xs) (fit_there x (h 0 (omega arith)))
+    ∙ rw (name_within (keyed n) doc x (h 0 (omega arith)).name, first_listed doc n xs (λ k b. h (suc k) (omega arith)))
 
 -- ---- one attribute
 
@@ -95,8 +94,8 @@ module _ {doc : List ℕ} {a : Attribute} (f : Fit doc 0 (length doc) a) where
   weigh_room s = (f.value, s)
 
   module _ (before : Value) where
-    pub weigh_duplicate : is_absent before ≡ false → Weighs doc a before (Err (record { number = 8; place = a.name }))
-    weigh_duplicate h = record { is = λ c. rw h }
+    pub weigh_duplicate : {f : Fault} → is_absent before ≡ false → f ≡ record { number = 8; place = a.name } → Weighs doc a before (Err f)
+    weigh_duplicate h q = rw q record { is = λ c. rw h }
 
     module _ (e : is_absent before ≡ true) where
       new : there before ≡ false
@@ -129,20 +128,20 @@ module _ (i : ℕ) {t : Bool} where
 pub ruleset counts = (among_all, among_none, rules)
 
 -- after those before it
-module _ {doc : List ℕ} {xs : List Attribute} {i : ℕ} (h : i < length xs) (g : Checkable doc xs (suc i)) where
+module _ {doc : List ℕ} {xs : List Attribute} {i : ℕ} (h : i < length xs) (g : Checkable doc xs) where
   -- what `weigh` asks
   pub judge_asks : Fit doc 0 (length doc) (get_or xs i blank) × (length doc ≤ 1048576)
   judge_asks = (g.fitted.rule i (omega arith), g.small)
 
-  pub judge_is : {m : ℕ} {v : Value} {r : Result (Unit {0}) Fault} → m ≡ among (get_or xs i blank).twin i → Picks (wanted doc (Named (get_or xs i blank).name (get_or xs i blank).name_len) doc) xs m v → Weighs doc (get_or xs i blank) v r → Judges doc xs i r
+  pub judge_is : {m : ℕ} {v : Value} {r : Result (Unit {0}) Fault} → m ≡ among (get_or xs i blank).twin i → Picks (name_is (keyed (attr_of doc (get_or xs i blank)).name) doc) (take m xs) v → Weighs doc (get_or xs i blank) v r → Judges doc xs i r
   unfolding value_in first_by
   judge_is {m} {v} {r} e p w = record { is = rw (← seen (get_or xs i blank).twin refl (rw e at p)) w.is }
     where
-      seen : (t : Bool) → (get_or xs i blank).twin ≡ t → Picks (wanted doc (Named (get_or xs i blank).name (get_or xs i blank).name_len) doc) xs (among t i) v → there v ≡ listed (attr_of doc (get_or xs i blank)).name (attrs_of doc xs i)
+      seen : (t : Bool) → (get_or xs i blank).twin ≡ t → Picks (name_is (keyed (attr_of doc (get_or xs i blank)).name) doc) (take (among t i) xs) v → there v ≡ listed (attr_of doc (get_or xs i blank)).name (attrs_of doc xs i)
       seen true f p =
           let e : length (take i xs) ≡ i = length-take-le i xs (omega arith) in
           ap there p.is
-          ∙ first_listed doc (get_or xs i blank).name (get_or xs i blank).name_len (take i xs) judge_asks.0.name (λ k b. rw (get_or-take i xs k blank (omega arith)) (g.fitted.rule k (omega arith)))
+          ∙ first_listed doc (attr_of doc (get_or xs i blank)).name (take i xs) (λ k b. rw (get_or-take i xs k blank (omega arith)) (g.fitted.rule k (omega arith)))
       seen false f p = ap there p.is ∙ sym (g.fresh.rule i (omega arith) f)
 
 -- ---- all attributes
@@ -160,79 +159,39 @@ pub onto_also : (x : Attr) (t : List ℕ) (c : Checked) → also x (text t) c �
 onto_also x t (good s) = refl
 onto_also x t (fault k p) = refl
 
--- a check of the first n that stands at i: what was asked is what is asked of the rest, after those shown
-pub record Checking (doc : List ℕ) (xs : List Attribute) (n i : ℕ) : Type 0 where
+-- a check that stands at i: what was asked is what is asked of the rest, after those shown
+pub record Checking (doc : List ℕ) (xs : List Attribute) (i : ℕ) : Type 0 where
   pub shown : List Shown
-  pub left : check [] (attrs_of doc xs n) ≡ onto shown (check (back (attrs_of doc xs i) []) (map (attr_of doc) (drop i (take n xs))))
-  pub room : n ≤ length xs
-  pub within : i ≤ n
+  pub left : check [] (map (attr_of doc) xs) ≡ onto shown (check (back (attrs_of doc xs i) []) (map (attr_of doc) (drop i xs)))
 
 pub onto_none : (c : Checked) → onto [] c ≡ c
 onto_none (good s) = refl
 onto_none (fault k p) = refl
 
-pub check_begins : {doc : List ℕ} {xs : List Attribute} {n : ℕ} → n ≤ length xs → Checking doc xs n 0
-check_begins {doc} {xs} {n} h = record { shown = []; left = sym (onto_none (check [] (attrs_of doc xs n))); room = omega arith; within = omega arith }
-
-checkable_to : {doc : List ℕ} {xs : List Attribute} {n i : ℕ} → Checkable doc xs n → i < n → Checkable doc xs (suc i)
-checkable_to g h = record {
-  small = g.small;
-  fitted = record { rule = λ k l. g.fitted.rule k (omega arith) };
-  fresh = record { rule = λ k l. g.fresh.rule k (omega arith) };
-}
+pub check_begins : {doc : List ℕ} {xs : List Attribute} → Checking doc xs 0
+check_begins {doc} {xs} = record { shown = []; left = sym (onto_none (check [] (map (attr_of doc) xs))) }
 
 attrs_more : (doc : List ℕ) (xs : List Attribute) (i : ℕ) → i < length xs → attrs_of doc xs (suc i) ≡ attrs_of doc xs i ++ attr_of doc (get_or xs i blank) ∷ []
 attrs_more doc xs i h = rw (take-suc xs i blank h) (map-append (attr_of doc) (take i xs) (get_or xs i blank ∷ []))
 
-module _ {doc : List ℕ} {xs : List Attribute} {n i : ℕ} (g : Checking doc xs n i) where
-  check_ends : n ≤ i → Checks doc xs n (Ok tt)
-  check_ends h =
-      let e : drop i (take n xs) ≡ [] = drop_of_length-le (take n xs) {i = i} (omega (arith, length-take-le n xs g.room)) in
-      record { is = (g.shown ++ [], g.left ∙ rw e) }
+module _ {doc : List ℕ} {xs : List Attribute} {i : ℕ} (g : Checking doc xs i) where
+  pub check_ends : length xs ≤ i → Checks doc xs (Ok tt)
+  check_ends h = record { is = (g.shown ++ [], g.left ∙ rw (drop_of_length-le xs h)) }
 
-  module _ (h : i < n) where
+  module _ (h : i < length xs) where
     -- the check of the one in hand
-    here : check [] (attrs_of doc xs n) ≡ onto g.shown (check (back (attrs_of doc xs i) []) (attr_of doc (get_or xs i blank) ∷ map (attr_of doc) (drop (suc i) (take n xs))))
-    here =
-        let l : length (take n xs) ≡ n = length-take-le n xs g.room in
-        let b : i < length (take n xs) = omega arith in
-        g.left ∙ rw (drop-cons (take n xs) i blank b, get_or-take n xs i blank h)
+    here : check [] (map (attr_of doc) xs) ≡ onto g.shown (check (back (attrs_of doc xs i) []) (attr_of doc (get_or xs i blank) ∷ map (attr_of doc) (drop (suc i) xs)))
+    here = g.left ∙ rw (drop-cons xs i blank h)
 
-    check_fault : {f : Fault} → Judges doc xs i (Err f) → Checks doc xs n (Err f)
+    pub check_fault : {f : Fault} → Judges doc xs i (Err f) → Checks doc xs (Err f)
     check_fault j = record { is = here ∙ rw (member_listed (attr_of doc (get_or xs i blank)).name (attrs_of doc xs i), j.is _) }
 
-    pub check_more : Judges doc xs i (Ok tt) → Checking doc xs n (i + 1)
+    pub check_more : Judges doc xs i (Ok tt) → Checking doc xs (i + 1)
     check_more j =
         let d = j.is in
         record {
           shown = g.shown ++ record { attr = attr_of doc (get_or xs i blank); value = d.0 } ∷ [];
           left =
               here
-              ∙ rw (member_listed (attr_of doc (get_or xs i blank)).name (attrs_of doc xs i), d.1, d.2, onto_also (attr_of doc (get_or xs i blank)) d.0, onto_onto, add-one, attrs_more doc xs i (omega (arith, g.room)), back_more);
-          room = g.room;
-          within = omega arith;
+              ∙ rw (member_listed (attr_of doc (get_or xs i blank)).name (attrs_of doc xs i), d.1, d.2, onto_also (attr_of doc (get_or xs i blank)) d.0, onto_onto, add-one, attrs_more doc xs i h, back_more);
         }
-
--- ---- a loop over the first n: a turn has its number
-
-pub record Turn (doc : List ℕ) (xs : List Attribute) (n : ℕ) : Type 0 where
-  pub i : ℕ
-  pub so : Checking doc xs n i
-
-abbrev pub turn_first : {doc : List ℕ} {xs : List Attribute} {n : ℕ} → n ≤ length xs → Turn doc xs n
-turn_first h = record { i = 0; so = check_begins h }
-
-module _ {doc : List ℕ} {xs : List Attribute} {n : ℕ} (t : Turn doc xs n) where
-  pub turn_end : n ≤ t.i → Checks doc xs n (Ok tt)
-  turn_end h = check_ends t.so h
-
-  module _ (h : t.i < n) where
-    -- what `judge` asks
-    pub turn_asks : Checkable doc xs n → (t.i < length xs) × Checkable doc xs (suc t.i)
-    turn_asks g = (omega (arith, t.so.room), checkable_to g h)
-
-    pub turn_fault : {f : Fault} → Judges doc xs t.i (Err f) → Checks doc xs n (Err f)
-    turn_fault j = check_fault t.so h j
-
-    abbrev pub turn_more : Judges doc xs t.i (Ok tt) → Turn doc xs n
-    turn_more j = record { i = t.i + 1; so = check_more t.so h j }

@@ -8,8 +8,9 @@ use borrow.Author.Rules.{rules}
 use borrow.Author.Tests.{eqb-true}
 use native.Mathlib.Omega.{arith}
 use lib.Dec.{eqb}
+use Rattle.std.proofs.lemmas.Slice.Eq.{text_from_reads}
 use Rattle.slices.specs.Bytes.{if, bytes, same}
-use Rattle.slices.proofs.Runs.{same_equal}
+use Rattle.slices.proofs.Runs.{same_equal, Differs, differing}
 use Rattle.document.specs.Tags.{is_tp_type_lem}
 use Rattle.attributes.specs.Slots.{class_of}
 
@@ -57,34 +58,38 @@ classed n =
     by_key Classed n (bytes "suffix") (record { name = refl; ty = refl; value = refl; access = refl; direction = refl; suffix = refl; tp = refl; below = omega arith }) (λ f.
     other_classed n a b c d e f (is_tp_type_lem n) refl))))))
 
--- ---- the class of a name, found by asking for each key
+-- ---- the class of a name, by what it is and is not
 
-key_class : (n key : List ℕ) {t : Bool} (k : ℕ) → t ≡ same n key → t ≡ true → same n key ≡ eqb (class_of n) k → k ≡ class_of n
-key_class n key k p e c = sym (eqb-true (class_of n) k (sym c ∙ sym p ∙ e))
+module _ (n : List ℕ) {t : Bool} (p : t ≡ is_tp_type_lem n) where
+  pub class_tp : t ≡ true → 6 ≡ class_of n
+  class_tp e = sym (eqb-true (class_of n) 6 (sym (classed n).tp ∙ sym p ∙ e))
 
-module _ (n : List ℕ) {t : Bool} where
-  pub class_tp : t ≡ is_tp_type_lem n → t ≡ true → 6 ≡ class_of n
-  class_tp p e = sym (eqb-true (class_of n) 6 (sym (classed n).tp ∙ sym p ∙ e))
+  pub class_other : t ≡ false → Differs n (bytes "name") → Differs n (bytes "type") → Differs n (bytes "value") → Differs n (bytes "access") → Differs n (bytes "direction") → Differs n (bytes "suffix") → 7 ≡ class_of n
+  class_other f a b c d e g = sym (other_class n a.is b.is c.is d.is e.is g.is false (sym p ∙ f))
 
-  pub class_name : t ≡ same n (bytes "name") → t ≡ true → 0 ≡ class_of n
-  class_name p e = key_class n (bytes "name") 0 p e (classed n).name
+module _ {n : List ℕ} where
+  pub class_name : n ≡ bytes "name" → 0 ≡ class_of n
+  unfolding class_of
+  class_name e = rw e
 
-  pub class_type : t ≡ same n (bytes "type") → t ≡ true → 1 ≡ class_of n
-  class_type p e = key_class n (bytes "type") 1 p e (classed n).ty
+  pub class_type : n ≡ bytes "type" → 1 ≡ class_of n
+  unfolding class_of
+  class_type e = rw e
 
-  pub class_value : t ≡ same n (bytes "value") → t ≡ true → 2 ≡ class_of n
-  class_value p e = key_class n (bytes "value") 2 p e (classed n).value
+  pub class_value : n ≡ bytes "value" → 2 ≡ class_of n
+  unfolding class_of
+  class_value e = rw e
 
-  pub class_access : t ≡ same n (bytes "access") → t ≡ true → 3 ≡ class_of n
-  class_access p e = key_class n (bytes "access") 3 p e (classed n).access
+  pub class_access : n ≡ bytes "access" → 3 ≡ class_of n
+  unfolding class_of
+  class_access e = rw e
 
-  pub class_direction : t ≡ same n (bytes "direction") → t ≡ true → 4 ≡ class_of n
-  class_direction p e = key_class n (bytes "direction") 4 p e (classed n).direction
+  pub class_direction : n ≡ bytes "direction" → 4 ≡ class_of n
+  unfolding class_of
+  class_direction e = rw e
 
-  pub class_suffix : t ≡ same n (bytes "suffix") → t ≡ true → 5 ≡ class_of n
-  class_suffix p e = key_class n (bytes "suffix") 5 p e (classed n).suffix
+  pub class_suffix : n ≡ bytes "suffix" → 5 ≡ class_of n
+  unfolding class_of
+  class_suffix e = rw e
 
-pub class_other : (n : List ℕ) {t a b c d e f : Bool} → t ≡ is_tp_type_lem n → t ≡ false → a ≡ same n (bytes "name") → a ≡ false → b ≡ same n (bytes "type") → b ≡ false → c ≡ same n (bytes "value") → c ≡ false → d ≡ same n (bytes "access") → d ≡ false → e ≡ same n (bytes "direction") → e ≡ false → f ≡ same n (bytes "suffix") → f ≡ false → 7 ≡ class_of n
-class_other n t t' a a' b b' c c' d d' e e' f f' = sym (other_class n (sym a ∙ a') (sym b ∙ b') (sym c ∙ c') (sym d ∙ d') (sym e ∙ e') (sym f ∙ f') false (sym t ∙ t'))
-
-pub ruleset classes = (class_tp, class_name, class_type, class_value, class_access, class_direction, class_suffix, class_other, rules)
+pub ruleset classes = (class_tp, class_name, class_type, class_value, class_access, class_direction, class_suffix, class_other, differing, text_from_reads, rules)

@@ -2,7 +2,7 @@
 -- Assumes nothing.
 use Prim.Native.Nat.{ℕ, suc, ◌+◌, ◌-◌, ◌≤◌, ◌<◌}
 use mathlib.Core.Path.{◌≡◌, refl, sym, ◌∙◌}
-use mathlib.Core.List.{List}
+use mathlib.Core.List.{List, []}
 use mathlib.Core.Bool.{Bool, true, false, ◌||◌}
 use borrow.Author.Rules.{rules}
 use borrow.Author.Tests.{eqb-true, ne_eqb}
@@ -14,7 +14,7 @@ use lib.Seq.{drop-cons}
 use Rattle.std.specs.Prelude.{Option, Some, None}
 use Rattle.slices.specs.Bytes.{other, span, past}
 use Rattle.slices.specs.Run.{Run}
-use Rattle.slices.proofs.Runs.{Running, run_begins, run_more, run_stops, other_true, other_false}
+use Rattle.slices.proofs.Runs.{Running, run_begins, run_more, run_stops, run_ends, other_true, other_false}
 use Rattle.slices.proofs.Ends.{run_span, run_rest, run_empty, run_some}
 use Rattle.scan.specs.Classes.{white, name_byte}
 use Rattle.scan.specs.Ignorable.{quote}
@@ -42,6 +42,7 @@ quote_begins h = record { run = run_begins h; left = refl }
 module _ {q : ℕ} {doc : List ℕ} {from at : ℕ} {form : Form} (g : Quoting q doc from at form) where
   pub quote_closes : at < length doc → get_or doc at 0 ≡ q → Quotes q doc from (record { end = at; form = form })
   quote_closes h e = record {
+    closed = h;
     run = run_stops g.run h (other_false _ _ e);
     form = sym (g.left ∙ rw (drop-cons doc at 0 h, other_false _ _ e));
   }
@@ -55,6 +56,10 @@ module _ {q : ℕ} {doc : List ℕ} {from at : ℕ} {form : Form} (g : Quoting q
         run = run_more g.run h (other_true _ _ o);
         left = g.left ∙ rw (drop-cons doc at 0 h, other_true _ _ o, p, add-one);
       }
+
+  -- no quote to the end
+  pub quote_none : length doc ≤ at → past (other q) (drop from doc) ≡ []
+  quote_none h = run_rest (run_ends g.run h) ∙ drop_of_length-le doc h
 
   module _ (h : at < length doc) (o : get_or doc at 0 ≡ q → ⊥) {t : Bool} (e : t ≡ special (get_or doc at 0)) where
     pub quote_plain : t ≡ false → Quoting q doc from (at + 1) form
@@ -97,18 +102,18 @@ module _ {doc : List ℕ} {name n : ℕ} {tp : Bool} {at : ℕ} (g : Named doc n
     pub value_other : t ≡ false → Finds (open_quote name (part doc name n)) doc at None
     value_other f = record { onward = tt; is = rw (drop-cons doc at 0 h, sym e ∙ f) }
 
+    pub value_unclosed : t ≡ true → past (other (get_or doc at 0)) (drop (at + 1) doc) ≡ [] → Finds (open_quote name (part doc name n)) doc at None
+    value_unclosed f l =
+        let m : past (other (get_or doc at 0)) (drop (suc at) doc) ≡ [] = rw add-one at l in
+        record { onward = tt; is = rw (drop-cons doc at 0 h, sym e ∙ f, m) }
+
     module _ (f : t ≡ true) {v : ValueEnd} (c : Quotes (get_or doc at 0) doc (at + 1) v) where
       to_close : past (other (get_or doc at 0)) (drop (suc at) doc) ≡ drop v.end doc
       to_close = rw add-one at (run_rest c.run)
 
-      pub value_unclosed : length doc ≤ v.end → Finds (open_quote name (part doc name n)) doc at None
-      value_unclosed l = record {
-        onward = tt;
-        is = rw (drop-cons doc at 0 h, sym e ∙ f, to_close, drop_of_length-le doc l);
-      }
-
-      pub value_found : v.end < length doc → Finds (open_quote name (part doc name n)) doc at (Some (record { attribute = record { name = name; name_len = n; value = at + 1; value_len = v.end - (at + 1); form = v.form; tp = tp; twin = true }; end = v.end + 1 }))
-      value_found l =
+      pub value_found : Finds (open_quote name (part doc name n)) doc at (Some (record { attribute = record { name = name; name_len = n; value = at + 1; value_len = v.end - (at + 1); form = v.form; tp = tp; twin = true }; end = v.end + 1 }))
+      value_found =
+          let l : v.end < length doc = c.closed in
           let r : span (other (get_or doc at 0)) (drop (suc at) doc) ≡ part doc (suc at) (v.end - suc at) = rw add-one at (run_span c.run) in
           let p : suc at + length (span (other (get_or doc at 0)) (drop (suc at) doc)) ≡ v.end = sym (rw add-one at c.run.ends) in
           record {

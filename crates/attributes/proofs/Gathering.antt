@@ -7,8 +7,8 @@ use mathlib.Core.List.{List, [], ◌∷◌, ◌++◌, map-append}
 use borrow.Author.Rules.{rules}
 use native.Mathlib.Numerals.{add-one}
 use native.Mathlib.Omega.{arith}
-use lib.ListN.{length, drop, get_or, set, length-set}
-use lib.Seq.{take-suc-set, take-set-le, get_or-set_same, get_or-set_other}
+use lib.ListN.{length, take, drop, get_or, set, length-set}
+use lib.Seq.{length-take-le, get_or-take, take-take, take-suc-set, take-set-le, get_or-set_same, get_or-set_other}
 use native.Mathlib.Decide.{dec_lt}
 use Rattle.std.specs.Prelude.{Result, Ok, Option, Some, None, Err}
 use Rattle.document.specs.Tags.{Attr, absent, attribute, Gathered, gathered, too_many, with, gather}
@@ -26,8 +26,8 @@ use Rattle.attributes.specs.declared.TagValues.{TagValues}
 
 -- ---- the end: the check, and the values
 
-module _ {doc : List ℕ} {xs : List Attribute} {n at : ℕ} {v : Result (Unit {0}) Fault} (c : Checks doc xs n v) where
-  pub finish_all : {w : Values} → v ≡ (Ok tt) → PicksAll doc xs n w → Finishes doc xs n at (Ok (record { end = at; values = w }))
+module _ {doc : List ℕ} {xs : List Attribute} {at : ℕ} {v : Result (Unit {0}) Fault} (c : Checks doc xs v) where
+  pub finish_all : {w : Values} → v ≡ (Ok tt) → PicksAll doc xs w → Finishes doc xs at (Ok (record { end = at; values = w }))
   finish_all e g = let d = (rw e at c).is in record { is = (d.0, d.1, refl, g.is) }
 
 -- ---- the loop
@@ -92,17 +92,25 @@ module _ {m : ℕ} {doc : List ℕ} {from : ℕ} {xs : List Attribute} {n at : �
   pub gather_inside : at ≤ length doc
   gather_inside = g.inside
 
-  pub gather_checkable : length doc ≤ 1048576 → Fresh doc xs n → Checkable doc xs n
-  gather_checkable s f = record { small = s; fitted = record { rule = λ k b. fit_wide (omega arith) g.inside (g.fitted.rule k b) }; fresh = f }
+  -- those gathered, as the slice that is lent
+  pub gather_checkable : length doc ≤ 1048576 → Fresh doc xs n → Checkable doc (take n xs)
+  gather_checkable s f = record {
+    small = s;
+    fitted = record { rule = λ k b. let q : k < n = omega (arith, long) in rw (get_or-take n xs k blank q) (fit_wide (omega arith) g.inside (g.fitted.rule k q)) };
+    fresh = record { rule = λ k b. let q : k < n = omega (arith, long) in rw (get_or-take n xs k blank q, take-take k n xs (omega arith)) (f.rule k q) };
+  }
+    where
+      long : length (take n xs) ≡ n
+      long = length-take-le n xs (omega (arith, g.long, g.many))
 
   module _ {o : Option Located} (c : Finds attribute doc at o) where
-    pub gather_ends : {r : Result TagValues Fault} → o ≡ None → Finishes doc xs n at r → Gathers doc from r
+    pub gather_ends : {r : Result TagValues Fault} → o ≡ None → Finishes doc (take n xs) at r → Gathers doc from r
     gather_ends {r} e d = go r d
       where
         all : gather 256 (drop from doc) from ≡ gathered (attrs_of doc xs n) (drop at doc) at
         all = g.left ∙ rw (gather_none (256 - n) (drop at doc) at (rw e at c).is, extend_all)
 
-        go : (r : Result TagValues Fault) → Finishes doc xs n at r → Gathers doc from r
+        go : (r : Result TagValues Fault) → Finishes doc (take n xs) at r → Gathers doc from r
         go (Err f) d = record { onward = tt; is = λ q name. rw (all, d.is) }
         go (Ok x) d =
             rw (d.is.2, d.is.3) record {
@@ -111,11 +119,11 @@ module _ {m : ℕ} {doc : List ℕ} {from : ℕ} {xs : List Attribute} {n at : �
             }
 
     module _ {x : Located} (e : o ≡ Some x) where
-      pub gather_full : m ≡ 256 → 256 ≤ n → Gathers doc from (Err (record { number = 17; place = x.attribute.name }))
+      pub gather_full : {f : Fault} → m ≡ 256 → 256 ≤ n → f ≡ record { number = 17; place = x.attribute.name } → Gathers doc from (Err f)
       unfolding gather
-      gather_full k h =
+      gather_full k h q =
           let z : 256 - n ≡ 0 = omega arith in
-          record { onward = tt; is = λ q name. rw (g.left, z, (rw e at c).is, extend_many) }
+          rw q record { onward = tt; is = λ q name. rw (g.left, z, (rw e at c).is, extend_many) }
 
       pub gather_less : length doc - x.end < length doc - at
       gather_less = let d = (rw e at c).onward in omega (arith, d.0, d.1)

@@ -3,13 +3,12 @@
 use Prim.Native.Nat.{ℕ, suc, ◌+◌, ◌-◌, ◌≤◌, ◌<◌, ◌^◌}
 use mathlib.Core.Path.{◌≡◌, sym, ◌∙◌}
 use mathlib.Core.List.{List}
-use mathlib.Core.Bool.{Bool, false, and-false}
+use mathlib.Core.Bool.{Bool, false}
 use borrow.Author.Rules.{rules}
 use borrow.Author.Tests.{le-leb, lt-leb, eq-eqb, ne_eqb}
 use native.Mathlib.Decide.{dec_le}
 use native.Mathlib.Numerals.{add-one}
 use native.Mathlib.Omega.{arith}
-use lib.Dec.{leb}
 use lib.ListN.{length, take, drop, length-drop}
 use lib.Seq.{length-take-le}
 use Rattle.std.specs.Prelude.{Option, Some, None}
@@ -24,7 +23,7 @@ use Rattle.scan.proofs.Prefixes.{Within, colons_within, name_from}
 use Rattle.document.specs.Tags.{is_tp_type_lem}
 use Rattle.document.specs.Prefixes.{tp_type_by}
 use Rattle.document.proofs.Prefixes.{tp_type}
-use Rattle.attributes.specs.Lookup.{part_is, keyed_at}
+use Rattle.attributes.specs.Lookup.{part_is, keyed}
 
 -- a part that runs past the document is of no kind
 pub part_past : (p : List ℕ → Bool) (doc : List ℕ) (at n : ℕ) → length doc < at + n → false ≡ part_is p doc at n
@@ -38,32 +37,18 @@ part_within p doc at n r h e =
     let m : (at + n) - at ≡ n = omega arith in
     (rw m at e) ∙ rw (le-leb (at + n) (length doc) h)
 
--- a key: length first, then bytes
-module _ (doc keys : List ℕ) (at n key len : ℕ) where
-  -- one that runs past the keys is no name
-  pub key_past : length keys < key + len → false ≡ part_is (keyed_at keys key len) doc at n
-  unfolding part_is
-  key_past h = rw (lt-leb (key + len) (length keys) h) (sym (and-false (leb (at + n) (length doc))))
+-- a name of another length than the key is not the key
+pub key_other : (doc key : List ℕ) (at n : ℕ) → (n ≡ length key → ⊥) → false ≡ part_is (keyed key) doc at n
+key_other doc key at n e = go (dec_le (at + n) (length doc))
+  where
+    go : Dec (at + n ≤ length doc) → false ≡ part_is (keyed key) doc at n
+    go (no h) = part_past (keyed key) doc at n (omega arith)
+    go (yes h) =
+        let a : length (take n (drop at doc)) ≡ n = length-take-le n (drop at doc) (rw length-drop (omega arith)) in
+        let m : (at + n) - at ≡ n = omega arith in
+        part_within (keyed key) doc at n false h (rw m (same_short (take n (drop at doc)) key (λ q. e (omega arith))))
 
-  -- nor is one of another length
-  pub key_other : (n ≡ len → ⊥) → false ≡ part_is (keyed_at keys key len) doc at n
-  key_other e = go (dec_le (at + n) (length doc)) (dec_le (key + len) (length keys))
-    where
-      go : Dec (at + n ≤ length doc) → Dec (key + len ≤ length keys) → false ≡ part_is (keyed_at keys key len) doc at n
-      go (no h) k = part_past (keyed_at keys key len) doc at n (omega arith)
-      go (yes h) (no k) = key_past (omega arith)
-      go (yes h) (yes k) =
-          let a : length (take n (drop at doc)) ≡ n = length-take-le n (drop at doc) (rw length-drop (omega arith)) in
-          let b : length (take len (drop key keys)) ≡ len = length-take-le len (drop key keys) (rw length-drop (omega arith)) in
-          let m : (at + n) - at ≡ n = omega arith in
-          part_within (keyed_at keys key len) doc at n false h (rw (m, le-leb (key + len) (length keys) k) (same_short (take n (drop at doc)) (take len (drop key keys)) (λ q. e (omega arith))))
-
-  pub key_same : (r : Bool) → at + n ≤ length doc → key + len ≤ length keys → r ≡ same (take ((at + n) - at) (drop at doc)) (take ((key + len) - key) (drop key keys)) → r ≡ part_is (keyed_at keys key len) doc at n
-  key_same r h k e =
-      let m : (key + len) - key ≡ len = omega arith in
-      part_within (keyed_at keys key len) doc at n r h ((rw m at e) ∙ rw (le-leb (key + len) (length keys) k))
-
-pub ruleset keys = (part_past, part_within, key_past, key_other, key_same, rules)
+pub ruleset keys = (part_past, part_within, key_other, rules)
 
 -- ---- a tp type's name, by its colons
 

@@ -13,6 +13,7 @@ use Rattle.references.specs.Unescape.{Piece, shows, bad, piece, before, joined, 
 use Rattle.references.specs.Outcome as outcome
 use Rattle.references.specs.declared.ValueFault.{ValueFault}
 use Rattle.attributes.specs.Outcome.{References}
+use Rattle.faults.specs.declared.Fault.{Fault}
 
 -- a fault's place
 wrong_before : (s : List ℕ) (t : Text) (n p m : ℕ) → before s t ≡ wrong n p → (t ≡ wrong n p → p < m) → p < m
@@ -44,7 +45,7 @@ module _ (doc : List ℕ) (at n : ℕ) {r : Result (Unit {0}) ValueFault} (c : o
   pub references_good : r ≡ Ok tt → References doc at n (Ok tt)
   references_good e = let m : (at + n) - at ≡ n = omega arith in record { is = rw m at (rw e at c).is }
 
-  pub references_fault : {f : ValueFault} {q : ℕ} → r ≡ Err f → q ≡ at + f.place.0 → References doc at n (Err (record { number = f.number; place = q }))
-  references_fault {f} {q} e h = let m : (at + n) - at ≡ n = omega arith in record { is = (f.place.0, rw m at (rw e at c).is, h) }
+  pub references_fault : {f : ValueFault} {q : ℕ} {x : Fault} → r ≡ Err f → q ≡ at + f.place.0 → x ≡ record { number = f.number; place = q } → References doc at n (Err x)
+  references_fault {f} {q} e h k = rw k let m : (at + n) - at ≡ n = omega arith in record { is = (f.place.0, rw m at (rw e at c).is, h) }
 
 pub ruleset shown = (fault_near, references_good, references_fault, rules)

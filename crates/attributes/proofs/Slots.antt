@@ -137,7 +137,7 @@ module _ {doc : List ℕ} {at : ℕ} {s : Start} (g : Opened doc at s) where
   pub slot_low : s.quote ≤ 39
   slot_low = g.low
 
-  module _ {end : ℕ} (c : Plain s.quote doc s.value end) (h : end < length doc) where
+  module _ {end : ℕ} (c : Plain s.quote doc s.value end) where
     -- the attribute, of which the code keeps the value alone
     abbrev one : Attribute
     one = record {
@@ -151,11 +151,11 @@ module _ {doc : List ℕ} {at : ℕ} {s : Start} (g : Opened doc at s) where
     }
 
     pub slot_onward : s.value ≤ end
-    slot_onward = (c.value h).run.onward
+    slot_onward = c.value.run.onward
 
     one_found : Finds attribute doc at (Some (record { attribute = one; end = end + 1 }))
     one_found =
-        let q = c.value h in
+        let q = c.value in
         let r : span (other s.quote) (drop s.value doc) ≡ part doc s.value (end - s.value) = run_span q.run in
         let l : past (other s.quote) (drop s.value doc) ≡ drop end doc = run_rest q.run in
         let p : s.value + length (span (other s.quote) (drop s.value doc)) ≡ end = sym q.run.ends in
@@ -172,7 +172,7 @@ module _ {doc : List ℕ} {at : ℕ} {s : Start} (g : Opened doc at s) where
             },
             refl,
           );
-          is = g.is ∙ rw (add-one end, l, drop-cons doc end 0 h, p, r);
+          is = g.is ∙ rw (add-one end, l, drop-cons doc end 0 c.value.closed, p, r);
         }
 
     one_shown : unescape (attr_of doc one).raw ≡ text (attr_of doc one).raw
@@ -246,9 +246,9 @@ module _ {doc : List ℕ} {from : ℕ} {slots : List Value} {at : ℕ} (g : Slot
         );
       })
 
-  module _ {s : Start} (c : Opened doc at s) {end : ℕ} (d : Plain s.quote doc s.value end) (h : end < length doc) (e : is_absent (get_or slots s.class no_value) ≡ true) where
+  module _ {s : Start} (c : Opened doc at s) {end : ℕ} (d : Plain s.quote doc s.value end) (e : is_absent (get_or slots s.class no_value) ≡ true) where
     abbrev new : Attribute
-    new = one c d h
+    new = one c d
 
     empty_slot : there (get_or slots s.class no_value) ≡ false
     empty_slot = rw e
@@ -275,9 +275,9 @@ module _ {doc : List ℕ} {from : ℕ} {slots : List Value} {at : ℕ} (g : Slot
       n = g.n + 1;
       count = add-one g.n ∙ ap suc g.count ∙ sym more;
       long = length-set slots s.class (value_of (some new)) ∙ g.long;
-      so = gather_more g.so (one_found c d h) refl room (omega arith);
+      so = gather_more g.so (one_found c d) refl room (omega arith);
       shown = g.shown ++ record { attr = attr_of doc new; value = (attr_of doc new).raw } ∷ [];
-      checked = λ zs. rw (taken, map-append, append_assoc, g.checked, member_listed, not_listed, one_shown c d h, onto_also, onto_onto, back_more);
+      checked = λ zs. rw (taken, map-append, append_assoc, g.checked, member_listed, not_listed, one_shown c d, onto_also, onto_onto, back_more);
       each = λ k l. at_class k l (eqb k s.class) refl;
     }
       where

@@ -193,7 +193,7 @@ module _ {q : ℕ} {doc : List ℕ} {from at k : ℕ} (g : Quoting q doc from at
   plain_skips = quote_steps g l k h.within h.above
 
   pub plain_closes : at + k < length doc → get_or doc (at + k) 0 ≡ q → Plain q doc from (at + k)
-  plain_closes b e = record { within = omega arith; value = λ z. quote_closes plain_skips b e }
+  plain_closes b e = record { value = quote_closes plain_skips b e }
 
   pub plain_more : at + k < length doc → (get_or doc (at + k) 0 ≡ q → ⊥) → {t : Bool} → t ≡ special (get_or doc (at + k) 0) → t ≡ false → Quoting q doc from (at + k + 1) Form.Plain
   plain_more b o e f = quote_plain plain_skips b o e f
@@ -201,10 +201,4 @@ module _ {q : ℕ} {doc : List ℕ} {from at k : ℕ} (g : Quoting q doc from at
 pub plain_room : {doc : List ℕ} {at k : ℕ} → High doc at k → k < 8 → at + k < length doc
 plain_room h b = h.room b
 
-pub plain-ends : {q : ℕ} {doc : List ℕ} {from at : ℕ} → Quoting q doc from at Form.Plain → length doc ≤ at → Plain q doc from at
-plain-ends g h = record { within = g.run.inside; value = λ l. absurd (omega arith) }
-
-pub plain_none : {q : ℕ} {doc : List ℕ} {from : ℕ} → Plain q doc from (length doc)
-plain_none = record { within = omega arith; value = λ l. absurd (omega arith) }
-
-pub ruleset plains = (quote_begins, plain_room, plain_skips, plain_closes, plain_more, plain-ends, plain_none, rules)
+pub ruleset plains = (quote_begins, plain_room, plain_skips, plain_closes, plain_more, rules)

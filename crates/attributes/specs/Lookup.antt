@@ -1,6 +1,6 @@
 -- The first attribute of a kind, its value, and the values of a tag.
 -- Assumes nothing.
-use Rattle.std.specs.Prelude.{ℕ, ◌+◌, ◌≡◌, List, [], ◌∷◌, Bool, true, false, ◌&&◌, leb, length, take}
+use Rattle.std.specs.Prelude.{ℕ, ◌+◌, ◌≡◌, List, [], ◌∷◌, Bool, true, false, ◌&&◌, leb, length}
 use Rattle.std.proofs.Math.Option.{Option, none, some}
 use Rattle.slices.specs.Bytes.{if, bytes, same}
 use Rattle.document.specs.declared.Form.{Form}
@@ -27,25 +27,17 @@ name_is p doc a = part_is p doc a.name a.name_len
 abbrev pub keyed : List ℕ → List ℕ → Bool
 keyed key n = same n key
 
--- the name is the key that is so many bytes of the keys from a place on, and lies in them
-abbrev pub keyed_at : List ℕ → ℕ → ℕ → List ℕ → Bool
-keyed_at keys key len n = leb (key + len) (length keys) && keyed (part keys key len) n
-
 -- the attribute is a tp type
 abbrev pub is_tp_lem : Attribute → Bool
 is_tp_lem a = a.tp
 
 -- what is asked of an attribute, by its name's place and length and whether it is a tp type: the key, or the tp type
-abbrev pub wanted_at : List ℕ → Sought → List ℕ → ℕ → ℕ → Bool → Bool
-wanted_at keys (Named key len) doc at n tp = part_is (keyed_at keys key len) doc at n
-wanted_at keys TpType doc at n tp = tp
+abbrev pub wanted_at : Sought → List ℕ → ℕ → ℕ → Bool → Bool
+wanted_at (Named key) doc at n tp = part_is (keyed key.now) doc at n
+wanted_at TpType doc at n tp = tp
 
-abbrev pub wanted : List ℕ → Sought → List ℕ → Attribute → Bool
-wanted keys sought doc a = wanted_at keys sought doc a.name a.name_len a.tp
-
--- the keys of a tag's values, but for the tp type
-pub record KeyTable (keys : List ℕ) : Type 0 where
-  pub is : keys ≡ bytes "nametypevalueaccessdirectionsuffix"
+abbrev pub wanted : Sought → List ℕ → Attribute → Bool
+wanted sought doc a = wanted_at sought doc a.name a.name_len a.tp
 
 -- the first attribute that is asked for
 unfoldable pub first_by : (Attribute → Bool) → List Attribute → Option Attribute
@@ -72,9 +64,9 @@ values_in doc xs = record {
   tp = value_in is_tp_lem xs;
 }
 
--- what a lookup in the first n of the attributes says
-pub record Picks (p : Attribute → Bool) (xs : List Attribute) (n : ℕ) (v : Value) : Type 0 where
-  pub is : v ≡ value_in p (take n xs)
+-- what a lookup in the attributes says
+pub record Picks (p : Attribute → Bool) (xs : List Attribute) (v : Value) : Type 0 where
+  pub is : v ≡ value_in p xs
 
-pub record PicksAll (doc : List ℕ) (xs : List Attribute) (n : ℕ) (v : Values) : Type 0 where
-  pub is : v ≡ values_in doc (take n xs)
+pub record PicksAll (doc : List ℕ) (xs : List Attribute) (v : Values) : Type 0 where
+  pub is : v ≡ values_in doc xs

@@ -35,8 +35,9 @@ pub record Fit (doc : List ℕ) (from to : ℕ) (a : Attribute) : Type 0 where
   pub form : a.form ≡ form_from Form.Plain (part doc a.value a.value_len)
   pub tp : a.tp ≡ is_tp_type_lem (part doc a.name a.name_len)
 
--- the end of a value that begins at a place, up to a quote
+-- the end of a value that begins at a place, which a quote closes
 pub record Quotes (q : ℕ) (doc : List ℕ) (from : ℕ) (r : ValueEnd) : Type 0 where
+  pub closed : r.end < length doc
   pub run : Run (other q) doc from r.end
   pub form : r.form ≡ form_from Form.Plain (span (other q) (drop from doc))
 

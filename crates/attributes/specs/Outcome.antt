@@ -38,11 +38,11 @@ abbrev pub among : Bool → ℕ → ℕ
 among true i = i
 among false i = 0
 
--- the first n of the attributes lie in the document, which is within the limit, and their marks are right
-pub record Checkable (doc : List ℕ) (ys : List Attribute) (n : ℕ) : Type 0 where
+-- the attributes lie in the document, which is within the limit, and their marks are right
+pub record Checkable (doc : List ℕ) (ys : List Attribute) : Type 0 where
   pub small : length doc ≤ 1048576
-  pub fitted : Fitted doc 0 (length doc) ys n
-  pub fresh : Fresh doc ys n
+  pub fitted : Fitted doc 0 (length doc) ys (length ys)
+  pub fresh : Fresh doc ys (length ys)
 
 -- the check of the references of one value, whose raw bytes have a place and a length
 abbrev pub IsShown : List ℕ → ℕ → ℕ → Result (Unit {0}) Fault → Type 0
@@ -72,17 +72,17 @@ abbrev pub IsChecked : List Attr → Result (Unit {0}) Fault → Type 0
 IsChecked xs (Ok u) = (ss : List Shown) × (check [] xs ≡ good ss)
 IsChecked xs (Err f) = check [] xs ≡ fault f.number f.place
 
-pub record Checks (doc : List ℕ) (ys : List Attribute) (n : ℕ) (r : Result (Unit {0}) Fault) : Type 0 where
-  pub is : IsChecked (attrs_of doc ys n) r
+pub record Checks (doc : List ℕ) (ys : List Attribute) (r : Result (Unit {0}) Fault) : Type 0 where
+  pub is : IsChecked (map (attr_of doc) ys) r
 
 -- the check and the values of all, where they end at a place
-abbrev pub IsFinished : List ℕ → List Attribute → ℕ → ℕ → Result TagValues Fault → Type 0
-IsFinished doc ys n at (Err f) = check [] (attrs_of doc ys n) ≡ fault f.number f.place
-IsFinished doc ys n at (Ok g) =
-    (ss : List Shown) × (check [] (attrs_of doc ys n) ≡ good ss) × (g.end ≡ at) × (g.values ≡ values_in doc (take n ys))
+abbrev pub IsFinished : List ℕ → List Attribute → ℕ → Result TagValues Fault → Type 0
+IsFinished doc ys at (Err f) = check [] (map (attr_of doc) ys) ≡ fault f.number f.place
+IsFinished doc ys at (Ok g) =
+    (ss : List Shown) × (check [] (map (attr_of doc) ys) ≡ good ss) × (g.end ≡ at) × (g.values ≡ values_in doc ys)
 
-pub record Finishes (doc : List ℕ) (ys : List Attribute) (n at : ℕ) (r : Result TagValues Fault) : Type 0 where
-  pub is : IsFinished doc ys n at r
+pub record Finishes (doc : List ℕ) (ys : List Attribute) (at : ℕ) (r : Result TagValues Fault) : Type 0 where
+  pub is : IsFinished doc ys at r
 
 -- an answer that is no fault is a place further on, within the document, and the values are before it
 abbrev pub Onward : List ℕ → ℕ → Result TagValues Fault → Type 0

@@ -55,7 +55,6 @@ pub record High (doc : List ℕ) (at k : ℕ) : Type 0 where
   pub above : (i : ℕ) → i < k → 40 ≤ get_or doc (at + i) 0
   pub room : k < 8 → at + k < length doc
 
--- the end of a value that is shown as it stands; nothing is said of the document's end
+-- the end of a value that is shown as it stands
 pub record Plain (q : ℕ) (doc : List ℕ) (from r : ℕ) : Type 0 where
-  pub within : r ≤ length doc
-  pub value : r < length doc → Quotes q doc from (record { end = r; form = Form.Plain })
+  pub value : Quotes q doc from (record { end = r; form = Form.Plain })

@@ -1,6 +1,6 @@
 // The usual tag: each value goes straight into the slot of its name's class. A tag with two names of a class, or a value that is changed or
 // not closed, is gathered by `some`.
-ghost use Rattle.std.specs.Prelude.{◌≤◌, ◌<◌, length};
+ghost use Rattle.std.specs.Prelude.{◌≤◌, ◌<◌, length, IfSome};
 ghost use Rattle.attributes.specs.Outcome.{Gathers};
 ghost use Rattle.attributes.specs.Slots.{High, Plain};
 
@@ -10,7 +10,7 @@ use document::{Form, Value, Values};
 use faults::Fault;
 use scan::ClassTable;
 
-// How many bytes from a place on are above quotes and special bytes: of the next 8, as far as there are so many.
+// Of the 8 bytes from a place on, how many come before the first below 40, as quotes and special bytes are; 0 where fewer than 8 are left.
 fn high(doc: &[u8], at: usize) -> usize
     requires inside { at < length doc.now }
     requires small { length doc.now ≤ 1048576 }
@@ -22,14 +22,13 @@ fn high(doc: &[u8], at: usize) -> usize
     slices::first_below(doc, at, 40)
 }
 
-// The end of a value that is shown as it stands, or the length where there is a special byte or no quote closes it: the caller goes on by
-// comparing it with the length.
+// The end of a value that is shown as it stands: none where there is a special byte, or no quote closes it.
 #[tactic(auto, using(crate::proofs::Starting::plains))]
-fn plain_end(doc: &[u8], from: usize, quote: u8) -> usize
+fn plain_end(doc: &[u8], from: usize, quote: u8) -> Option<usize>
     requires inside { from ≤ length doc.now }
     requires small { length doc.now ≤ 1048576 }
     requires quote { «quote» ≤ 39 }
-    ensures { Plain «quote» doc.now from result }
+    ensures { IfSome result (Plain «quote» doc.now from) }
 {
     let mut at = from;
     // Not a `for`: the next place is what `high` counted.
@@ -39,19 +38,16 @@ fn plain_end(doc: &[u8], from: usize, quote: u8) -> usize
         if k < 8 {
             let b = doc[at];
             if b == quote {
-                return at;
+                return Some(at);
             }
             if is_special(b) {
-                return doc.len();
+                return None;
             }
             at += 1;
         }
     }
-    at
+    None
 }
-
-// The names that mean something, one after another.
-const KEYS: &[u8] = b"nametypevalueaccessdirectionsuffix";
 
 // The attributes from a place on, and their values: 17 at one too many; then, one by one, duplicate before reference.
 #[tactic(auto, using(crate::proofs::Slots::slotting))]
@@ -60,6 +56,7 @@ pub fn attributes(doc: &[u8], classes: &ClassTable, from: usize) -> Result<TagVa
     requires small { length doc.now ≤ 1048576 }
     ensures { Gathers doc.now from result }
 {
+    // slots[7] is there so that two names of no meaning go to `some`, which compares them.
     let mut slots = [Value::ABSENT; 8];
     let mut at = from;
     // Not a `for`: where the next attribute begins is what was found.
@@ -78,13 +75,12 @@ pub fn attributes(doc: &[u8], classes: &ClassTable, from: usize) -> Result<TagVa
         };
         let class = s.class;
         let value = s.value;
-        let end = plain_end(doc, value, s.quote);
-        if doc.len() <= end {
-            return some::gather(doc, classes, KEYS, from);
-        }
+        let Some(end) = plain_end(doc, value, s.quote) else {
+            return some::gather(doc, classes, from);
+        };
         let before = slots[class];
         if !before.is_absent() {
-            return some::gather(doc, classes, KEYS, from);
+            return some::gather(doc, classes, from);
         }
         slots[class] = Value {
             at: value as u32,

@@ -1,7 +1,8 @@
 // The attributes of a start tag: gathered, checked one by one, and looked up. `attributes` is the entry.
 #![tactic(auto)]
 
-ghost use Rattle.std.specs.Prelude.{◌≡◌, ◌+◌, ◌-◌, ◌≤◌, length, take, drop};
+ghost use Rattle.std.specs.Prelude.{◌≡◌, ◌+◌, ◌-◌, ◌≤◌, [], length, take, drop, IfSome, IfNone};
+ghost use Rattle.slices.specs.Bytes.{other, past};
 ghost use Rattle.scan.specs.Colons.{Scanned};
 ghost use Rattle.references.specs.Unescape.{special};
 ghost use Rattle.document.specs.Tags.{attribute, equals, open_quote, is_tp_type_lem};
@@ -54,7 +55,7 @@ pub struct Located {
     pub end: usize,
 }
 
-// Where a value ends, and its kind.
+// Where a value ends, and its form.
 #[derive(Clone, Copy)]
 pub struct ValueEnd {
     pub end: usize,
@@ -90,29 +91,29 @@ fn is_special(b: u8) -> bool
     b <= b'&' && matches!(b, b'&' | b'\t' | b'\n' | b'\r')
 }
 
-// The end of a value, or the length where no quote closes it: the caller goes on by comparing it with the length.
-fn quoted(doc: &[u8], from: usize, quote: u8) -> ValueEnd
+// The end of a value, where a quote closes it.
+#[tactic(auto, using(crate::proofs::Found::quote_none))]
+fn quoted(doc: &[u8], from: usize, quote: u8) -> Option<ValueEnd>
     requires inside { from ≤ length doc.now }
-    ensures { Quotes «quote» doc.now from result }
+    ensures some { IfSome result (Quotes «quote» doc.now from) }
+    ensures none { IfNone result (past (other «quote») (drop from doc.now) ≡ []) }
 {
     let mut form = Form::Plain;
     // Not a search for the quote alone: the form is found on the way to it.
     for at in from..doc.len() {
         let b = doc[at];
         if b == quote {
-            return ValueEnd { end: at, form };
+            return Some(ValueEnd { end: at, form });
         }
         if is_special(b) {
             form = Form::Changed;
         }
     }
-    ValueEnd {
-        end: doc.len(),
-        form,
-    }
+    None
 }
 
 // At the opening quote of the value, after a name and `=`.
+#[tactic(auto, using(crate::proofs::Found::values))]
 fn quoted_value(doc: &[u8], name: usize, n: usize, tp: bool, at: usize) -> Option<Located>
     requires { Named doc.now name n tp at }
     ensures { Finds (open_quote name (take n (drop name doc.now))) doc.now at result }
@@ -123,11 +124,8 @@ fn quoted_value(doc: &[u8], name: usize, n: usize, tp: bool, at: usize) -> Optio
     let q = doc[at];
     if scan::is_quote(q) {
         let value = at + 1;
-        let v = quoted(doc, value, q);
+        let v = quoted(doc, value, q)?;
         let end = v.end;
-        if doc.len() <= end {
-            return None;
-        }
         let a = Attribute {
             name: name as u32,
             name_len: n as u32,
@@ -160,7 +158,7 @@ fn equals_at(
     if doc.len() <= at {
         return None;
     }
-    if doc[at] == 61 {
+    if doc[at] == b'=' {
         let open = scan::space_end(doc, classes, at + 1);
         return quoted_value(doc, name, n, tp, open);
     }
@@ -211,14 +209,8 @@ fn references_of(doc: &[u8], at: usize, n: usize) -> Result<(), Fault>
     requires small { length doc.now ≤ 1048576 }
     ensures { References doc.now at n result }
 {
-    match references::check(&doc[at..at + n]) {
-        Ok(()) => Ok(()),
-        Err(fault) => {
-            let p = references::in_document(at, fault.place);
-            Err(Fault {
-                number: fault.number,
-                place: p.0,
-            })
-        }
-    }
+    references::check(&doc[at..at + n]).map_err(|f| Fault::new(
+        f.number,
+        references::in_document(at, f.place).0,
+    ))
 }

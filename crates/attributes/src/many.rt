@@ -1,6 +1,6 @@
-// A tag of more than 16 attributes: an array of 256, which is the limit. An attribute is compared with those before it only where the entry of its name's hash is taken.
+// A tag of more than 16 attributes: an array of 256, which is the limit. An attribute is compared with those before it only where the entry
+// of its name's hash is taken.
 ghost use Rattle.std.specs.Prelude.{◌≡◌, ◌+◌, ◌≤◌, length};
-ghost use Rattle.attributes.specs.Lookup.{KeyTable};
 ghost use Rattle.attributes.specs.Twins.{EntryIs, mark};
 ghost use Rattle.attributes.specs.Outcome.{Gathers};
 
@@ -29,17 +29,12 @@ fn marked(a: Attribute, twin: bool) -> Attribute
 
 // The attributes from a place on: 17 where there is one more than the limit.
 // Not one function with some's `gather`: this one marks each attribute by a table, and answers one too many with a fault.
-pub fn gather(
-    doc: &[u8],
-    classes: &ClassTable,
-    keys: &[u8],
-    from: usize,
-) -> Result<TagValues, Fault>
+pub fn gather(doc: &[u8], classes: &ClassTable, from: usize) -> Result<TagValues, Fault>
     requires inside { from ≤ length doc.now }
     requires small { length doc.now ≤ 1048576 }
-    requires key_table { KeyTable keys.now }
     ensures { Gathers doc.now from result }
 {
+    // An array and a count, and no ArrayVec: what is gathered goes on as a slice.
     let mut attrs = [Attribute::BLANK; 256];
     let mut seen = [false; 4096];
     let mut n = 0;
@@ -48,15 +43,12 @@ pub fn gather(
     loop {
         match attribute_at(doc, classes, at) {
             None => {
-                return gathered::finish(doc, &attrs, n, keys, at);
+                return gathered::finish(doc, &attrs[..n], at);
             }
             Some(found) => {
                 let a = found.attribute;
                 if 256 <= n {
-                    return Err(Fault {
-                        number: 17,
-                        place: a.name as usize,
-                    });
+                    return Err(Fault::new(17, a.name as usize));
                 }
                 let e = entry(doc, a.name, a.name_len);
                 attrs[n] = marked(a, seen[e]);

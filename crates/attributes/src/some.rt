@@ -1,6 +1,5 @@
 // A tag of no more than 16 attributes: an array of that many.
 ghost use Rattle.std.specs.Prelude.{◌≤◌, length};
-ghost use Rattle.attributes.specs.Lookup.{KeyTable};
 ghost use Rattle.attributes.specs.Outcome.{Gathers};
 
 use crate::{Attribute, TagValues, attribute_at, gathered, many};
@@ -8,17 +7,12 @@ use faults::Fault;
 use scan::ClassTable;
 
 // The attributes from a place on. Where there is one more they are gathered once more, in a larger array.
-pub fn gather(
-    doc: &[u8],
-    classes: &ClassTable,
-    keys: &[u8],
-    from: usize,
-) -> Result<TagValues, Fault>
+pub fn gather(doc: &[u8], classes: &ClassTable, from: usize) -> Result<TagValues, Fault>
     requires inside { from ≤ length doc.now }
     requires small { length doc.now ≤ 1048576 }
-    requires key_table { KeyTable keys.now }
     ensures { Gathers doc.now from result }
 {
+    // An array and a count, and no ArrayVec: what is gathered goes on as a slice.
     let mut attrs = [Attribute::BLANK; 16];
     let mut n = 0;
     let mut at = from;
@@ -26,12 +20,12 @@ pub fn gather(
     loop {
         match attribute_at(doc, classes, at) {
             None => {
-                return gathered::finish(doc, &attrs, n, keys, at);
+                return gathered::finish(doc, &attrs[..n], at);
             }
             Some(found) => {
                 let a = found.attribute;
                 if 16 <= n {
-                    return many::gather(doc, classes, keys, from);
+                    return many::gather(doc, classes, from);
                 }
                 attrs[n] = a;
                 n += 1;

@@ -8,7 +8,7 @@ ghost use Rattle.attributes.specs.Slots.{class_of, Opened, Four, Key};
 use crate::{Known, Start, is_tp_type};
 use scan::{ClassTable, Name};
 
-// Four bytes as a number.
+// Four bytes as a number, the first byte the lowest: 0x656d616e is `name` read backwards.
 fn four(s: &[u8], at: usize) -> u32
     requires { at + 4 ≤ length s.now }
     ensures { Four s.now «at» result }
@@ -19,6 +19,19 @@ fn four(s: &[u8], at: usize) -> u32
         + 16777216 * (s[at + 3] as u32)
 }
 
+// The first four bytes of the usual five names, and the second four of `direction`, as numbers.
+const NAME: u32 = 0x656d616e;
+
+const TYPE: u32 = 0x65707974;
+
+const VALUE_START: u32 = 0x756c6176;
+
+const ACCESS_START: u32 = 0x65636361;
+
+const DIRECTION_START: u32 = 0x65726964;
+
+const DIRECTION_NEXT: u32 = 0x6f697463;
+
 // The rest of `direction`, `value` or `access`, whose first four bytes are the number.
 #[tactic(auto, using(crate::proofs::Starting::knows))]
 fn longer(doc: &[u8], at: usize, w: u32) -> Option<Known>
@@ -26,26 +39,14 @@ fn longer(doc: &[u8], at: usize, w: u32) -> Option<Known>
     requires four { Four doc.now «at» w }
     ensures { IfSome result (Key doc.now «at») }
 {
-    if w == 0x65726964 {
-        if four(doc, at + 4) == 0x6f697463 {
-            if doc[at + 8] == 110 {
-                return Some(Known { class: 4, len: 9 });
-            }
-        }
-        return None;
+    if w == DIRECTION_START && four(doc, at + 4) == DIRECTION_NEXT && doc[at + 8] == b'n' {
+        return Some(Known { class: 4, len: 9 });
     }
-    if w == 0x756c6176 {
-        if doc[at + 4] == 101 {
-            return Some(Known { class: 2, len: 5 });
-        }
-        return None;
+    if w == VALUE_START && doc[at + 4] == b'e' {
+        return Some(Known { class: 2, len: 5 });
     }
-    if w == 0x65636361 {
-        if doc[at + 4] == 115 {
-            if doc[at + 5] == 115 {
-                return Some(Known { class: 3, len: 6 });
-            }
-        }
+    if w == ACCESS_START && doc[at + 4] == b's' && doc[at + 5] == b's' {
+        return Some(Known { class: 3, len: 6 });
     }
     None
 }
@@ -57,10 +58,10 @@ fn known(doc: &[u8], at: usize) -> Option<Known>
     ensures { IfSome result (Key doc.now «at») }
 {
     let w = four(doc, at);
-    if w == 0x656d616e {
+    if w == NAME {
         return Some(Known { class: 0, len: 4 });
     }
-    if w == 0x65707974 {
+    if w == TYPE {
         return Some(Known { class: 1, len: 4 });
     }
     longer(doc, at, w)
@@ -73,29 +74,24 @@ fn quick(doc: &[u8], at: usize) -> Option<Start>
     requires small { length doc.now ≤ 1048576 }
     ensures { IfSome result (Opened doc.now «at») }
 {
-    if doc.len() < at + 16 {
-        return None;
-    }
-    if doc[at] != 32 {
+    if doc.len() < at + 16 || doc[at] != b' ' {
         return None;
     }
     let k = known(doc, at + 1)?;
     let end = at + 1 + k.len;
-    if doc[end] != 61 {
-        return None;
-    }
     let open = end + 1;
-    if doc[open] != 34 {
+    if doc[end] != b'=' || doc[open] != b'"' {
         return None;
     }
     Some(Start {
         class: k.class,
         value: open + 1,
-        quote: 34,
+        quote: b'"',
     })
 }
 
-// The class of a name, which is a tp type's or not.
+// The class of a name, which is a tp type's or not: 6 is a tp type's, and 7 any other name's.
+// A class is the index of its slot in few.rt and nothing else: hence a number, and no enum.
 #[tactic(auto, using(crate::proofs::Classes::classes))]
 fn class_of(name: &[u8], tp: bool) -> usize
     requires { tp ≡ is_tp_type_lem name.now }
@@ -104,25 +100,15 @@ fn class_of(name: &[u8], tp: bool) -> usize
     if tp {
         return 6;
     }
-    if slices::equal(name, b"name") {
-        return 0;
+    match name {
+        b"name" => 0,
+        b"type" => 1,
+        b"value" => 2,
+        b"access" => 3,
+        b"direction" => 4,
+        b"suffix" => 5,
+        _ => 7,
     }
-    if slices::equal(name, b"type") {
-        return 1;
-    }
-    if slices::equal(name, b"value") {
-        return 2;
-    }
-    if slices::equal(name, b"access") {
-        return 3;
-    }
-    if slices::equal(name, b"direction") {
-        return 4;
-    }
-    if slices::equal(name, b"suffix") {
-        return 5;
-    }
-    7
 }
 
 // The class of the name that begins at a place.
@@ -154,10 +140,7 @@ fn opened(doc: &[u8], classes: &ClassTable, from: usize) -> Option<Start>
         return None;
     }
     let equals = scan::space_end(doc, classes, end);
-    if doc.len() <= equals {
-        return None;
-    }
-    if doc[equals] != 61 {
+    if doc.len() <= equals || doc[equals] != b'=' {
         return None;
     }
     let at = scan::space_end(doc, classes, equals + 1);

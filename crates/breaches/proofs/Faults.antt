@@ -4,29 +4,27 @@ use Prim.Native.Nat.{ℕ, suc, ◌+◌, ◌-◌, ◌≤◌, ◌<◌}
 use mathlib.Core.Path.{◌≡◌, refl, ap, sym, ◌∙◌}
 use mathlib.Core.List.{List, [], ◌∷◌}
 use mathlib.Core.Bool.{Bool, true, false}
-use borrow.Author.Rules.{rules}
 use borrow.Author.Tests.{lt-ltb, le-ltb}
 use native.Mathlib.Decide.{dec_lt}
 use native.Mathlib.Omega.{arith}
-use lib.ListN.{length, take, drop, length-drop}
-use lib.Seq.{length-take-le}
-use Rattle.std.specs.Prelude.{Option, Some, None}
+use lib.ListN.{length, take, drop}
+use Rattle.std.specs.Prelude.{Option, Some, None, MatchOption}
+use Rattle.std.specs.Option.{IsSomeAnd}
 use Rattle.slices.specs.Bytes.{if}
-use Rattle.profile.specs.Places.{first_place}
-use Rattle.profile.specs.Profile.{name_fault, raw, hyphens}
+use Rattle.profile.specs.Places.{first_place, found}
+use Rattle.profile.specs.Profile.{name_fault}
+use Rattle.profile.proofs.Places.{found_there, found_none, some_found, none_found}
 use Rattle.breaches.specs.Least.{lesser, least}
 use Rattle.breaches.specs.Breaches.{places_of, fault_at, in_name}
 
 module _ (at f n : ℕ) where
-  pub fault_there : f < n → Some (at + f) ≡ least (fault_at at f n)
+  fault_there : f < n → Some (at + f) ≡ least (fault_at at f n)
   unfolding least lesser
   fault_there h = rw (lt-ltb f n h)
 
-  pub fault_none : n ≤ f → None ≡ least (fault_at at f n)
+  fault_none : n ≤ f → None ≡ least (fault_at at f n)
   unfolding least
   fault_none h = rw (le-ltb f n h)
-
-pub ruleset faults = (fault_there, fault_none, rules)
 
 -- one byte further on
 fault_on : (at f n : ℕ) → least (fault_at (suc at) f n) ≡ least (fault_at at (suc f) (suc n))
@@ -58,23 +56,32 @@ first_least p (b ∷ l) at = go (p (b ∷ l)) (first_least p l (suc at))
         ap (lesser (Some at)) h ∙ less_later at (first_place p l) (length l) ∙ ap Some e ∙ fault_there at 0 (suc (length l)) (omega arith)
     go false h = h ∙ fault_on at (first_place p l) (length l)
 
+-- a place that is found is the least
+pub found_least : (n f : ℕ) → found n f ≡ least (fault_at 0 f n)
+found_least n f = go (dec_lt f n)
+  where
+    go : Dec (f < n) → found n f ≡ least (fault_at 0 f n)
+    go (yes h) = let z : f ≡ 0 + f = omega arith in found_there n f h ∙ ap Some z ∙ fault_there 0 f n h
+    go (no h) = found_none n f (omega arith) ∙ fault_none 0 f n (omega arith)
+
+-- it is told from where the bytes begin; F of two places says that the second is so much further on
+shifted : (n f at : ℕ) {F : ℕ → ℕ → Type 0} (x r : Option ℕ) → x ≡ found n f → MatchOption x (r ≡ None) (λ p. IsSomeAnd r (F p)) → ((p q : ℕ) → F p q → q ≡ at + p) → r ≡ least (fault_at at f n)
+shifted n f at None r e m t = m ∙ fault_none at f n (none_found e refl)
+shifted n f at (Some p) (Some q) e m t =
+    let d = some_found e refl in
+    let z : q ≡ at + f = t p q m ∙ rw d.0 in
+    rw z (fault_there at f n d.1)
+shifted n f at (Some p) None e m t = absurd m
+
 -- the bytes from a place to another
-module _ (doc : List ℕ) (from to : ℕ) (h : from ≤ to) (i : to ≤ length doc) where
-  part_length : length (take (to - from) (drop from doc)) ≡ to - from
-  part_length = length-take-le (to - from) (drop from doc) (rw (length-drop from doc) (omega arith))
+module _ (doc : List ℕ) (from to : ℕ) where
+  abbrev part : List ℕ
+  part = take (to - from) (drop from doc)
 
-  part_places : (p : List ℕ → Bool) {f : ℕ} {r : Option ℕ} → f ≡ first_place p (take (to - from) (drop from doc)) → r ≡ least (fault_at from f (to - from)) → r ≡ least (places_of p (take (to - from) (drop from doc)) from)
-  part_places p e q = q ∙ rw e (sym (first_least p (take (to - from) (drop from doc)) from ∙ rw part_length))
+  module _ {x r : Option ℕ} {F : ℕ → ℕ → Type 0} (m : MatchOption x (r ≡ None) (λ p. IsSomeAnd r (F p))) (t : (p q : ℕ) → F p q → q ≡ from + p) where
+    pub part_places : (p : List ℕ → Bool) → x ≡ found (length part) (first_place p part) → r ≡ least (places_of p part from)
+    part_places p e = shifted (length part) (first_place p part) from x r e m t ∙ sym (first_least p part from)
 
-  pub part_value : {f : ℕ} {r : Option ℕ} → f ≡ first_place raw (take (to - from) (drop from doc)) → r ≡ least (fault_at from f (to - from)) → r ≡ least (places_of raw (take (to - from) (drop from doc)) from)
-  part_value e q = part_places raw e q
-
-  pub part_name : {f : ℕ} {r : Option ℕ} → f ≡ name_fault (take (to - from) (drop from doc)) → r ≡ least (fault_at from f (to - from)) → r ≡ least (in_name (take (to - from) (drop from doc)) from)
-  unfolding in_name
-  part_name e q = q ∙ rw (e, part_length)
-
--- the inside of a comment
-pub part_comment : (doc : List ℕ) (at end : ℕ) {f : ℕ} {r : Option ℕ} → at + 7 ≤ end → end ≤ length doc → f ≡ first_place hyphens (take (end - 3 - (at + 4)) (drop (at + 4) doc)) → r ≡ least (fault_at (at + 4) f (end - 3 - (at + 4))) → r ≡ least (places_of hyphens (take (end - 3 - (at + 4)) (drop (at + 4) doc)) (at + 4))
-part_comment doc at end h i e q = part_places doc (at + 4) (end - 3) (omega arith) (omega arith) hyphens e q
-
-pub ruleset parts = (part_value, part_comment, part_name, rules)
+    pub part_name : x ≡ found (length part) (name_fault part) → r ≡ least (in_name part from)
+    unfolding in_name
+    part_name e = shifted (length part) (name_fault part) from x r e m t

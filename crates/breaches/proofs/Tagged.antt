@@ -7,7 +7,6 @@ use mathlib.Core.Bool.{Bool, true, false}
 use borrow.Author.Rules.{rules}
 use native.Mathlib.Numerals.{add-one}
 use native.Mathlib.Omega.{arith}
-use lib.Dec.{eqb}
 use lib.ListN.{length, take, drop}
 use Rattle.std.specs.Prelude.{Result, Ok, Err, Option}
 use Rattle.slices.specs.Bytes.{if, span, past, empty}
@@ -18,15 +17,12 @@ use Rattle.answers.specs.Text.{Text, text, wrong}
 use Rattle.references.specs.Unescape.{unescape}
 use Rattle.document.specs.Tags.{Attr, Gathered, gathered, too_many, gather, Shown, Checked, good, also, member, check}
 use Rattle.document.specs.Tags as tags
-use Rattle.document.specs.Tokens.{Tag, Token, start, close, fault, Next, more, last, tag_end, with_shown, with_attrs, opening, close_end, closing}
-use Rattle.document.specs.declared.Refusal.{Refusal}
-use Rattle.document.specs.declared.StartTag.{StartTag}
-use Rattle.document.specs.declared.Token as token
-use Rattle.tags.specs.Outcome.{TagAt, Ends}
+use Rattle.document.specs.Tokens.{Tag, Token, start, fault, Next, more, last, tag_end, with_shown, with_attrs, opening}
+use Rattle.tags.specs.Outcome.{Ends}
 use Rattle.tags.specs.declared.TagEnd.{TagEnd}
 use Rattle.breaches.specs.Least.{lesser, least}
 use Rattle.breaches.specs.Breaches.{in_values, in_name, in_names}
-use Rattle.breaches.specs.Outcome.{attributes_breach, tag_breach, Collects, Starts, Closes}
+use Rattle.breaches.specs.Outcome.{attributes_breach, tag_breach, Collects, Starts}
 use Rattle.breaches.specs.declared.Way.{Way}
 use Rattle.breaches.proofs.Order.{lesser_swap, least_append}
 use Rattle.breaches.proofs.Names.{tag_name}
@@ -119,27 +115,3 @@ module _ {doc : List ℕ} (lt : ℕ) {m : ℕ} (n : Run name_byte doc (lt + 1) m
       }
 
 pub ruleset startings = (tag_name, start_inside, collected_inside, start_unended, start_ended, rules)
-
--- a closing tag is no start tag
-closing_shuts : (l : List ℕ) (at : ℕ) (g : Tag) (q : ℕ) → closing l at ≡ more (start g) q → ⊥
-unfolding closing
-closing_shuts l at g q e = named (empty (span name_byte l)) (past white (past name_byte l)) e
-  where
-    n : List ℕ
-    n = span name_byte l
-
-    p : ℕ
-    p = suc (suc at) + length n + length (span white (past name_byte l))
-
-    shut : (u : Bool) → if u (more (close at n (suc p)) (suc p)) (last (fault 4 (suc at))) ≡ more (start g) q → ⊥
-    shut true e = let z : ◌≡◌ {A = ℕ} 0 1 = cc in omega arith
-    shut false e = let z : ◌≡◌ {A = ℕ} 0 1 = cc in omega arith
-
-    named : (u : Bool) (m : List ℕ) → if u (last (fault 4 (suc at))) (close_end at n m p) ≡ more (start g) q → ⊥
-    named true m e = let z : ◌≡◌ {A = ℕ} 0 1 = cc in omega arith
-    named false [] e = let z : ◌≡◌ {A = ℕ} 0 1 = cc in omega arith
-    named false (b ∷ m) e = shut (eqb b 62) e
-
-module _ {doc : List ℕ} {lt : ℕ} {r : Result token.Token Refusal} (a : TagAt doc lt (closing (drop (lt + 2) doc) lt) r) {o : ℕ} where
-  pub close_start : {c : StartTag} → r ≡ Ok (token.Token.Start c) → Closes doc lt o
-  close_start {c} e = record { is = λ t q k. let d = (rw e at a).is in absurd (closing_shuts (drop (lt + 2) doc) lt d.0 c.end d.2) }

@@ -18,15 +18,17 @@ use Rattle.document.specs.declared.Refusal.{Refusal}
 use Rattle.document.specs.declared.StartTag.{StartTag}
 use Rattle.document.specs.declared.Token as token
 use Rattle.document.proofs.Runs.{run_more, run_last, run_refused}
+use Rattle.profile.specs.Places.{found}
 use Rattle.profile.specs.Profile.{char_fault}
 use Rattle.profile.specs.After.{after_fault}
 use Rattle.met.specs.Met.{start_tags, comments_to, met_tokens, met_tags, root_end}
 use Rattle.met.proofs.Reaching.{reached-more}
 use Rattle.breaches.specs.Least.{lesser, least}
-use Rattle.breaches.specs.Breaches.{fault_at, tag_values, in_comments, tag_names, in_text, root_name, after_root, breaches}
+use Rattle.breaches.specs.Breaches.{tag_values, in_comments, tag_names, in_text, root_name, after_root, breaches}
 use Rattle.breaches.specs.Outcome.{Accepted, breach_from, Walks}
 use Rattle.breaches.specs.declared.Walk.{Walk}
 use Rattle.breaches.proofs.Order.{lesser_assoc, least_append}
+use Rattle.breaches.proofs.Faults.{found_least}
 use Rattle.breaches.proofs.Walking.{turned}
 
 -- ---- the root's name
@@ -90,11 +92,11 @@ pub ruleset roots = (root_fault, root_end_lem, root_close, root_named, root_fits
 parts : (a b c d e f : List ℕ) → lesser (lesser (lesser (least a) (lesser (least b) (least c))) (least d)) (lesser (least e) (least f)) ≡ least (a ++ b ++ c ++ d ++ e ++ f)
 parts a b c d e f = simp (least_append, lesser_assoc)
 
-pub all_rules : {doc : List ℕ} {w : Walk} {f g : ℕ} {t u v x y z : Option ℕ} → Walks doc w → f ≡ char_fault doc → t ≡ least (fault_at 0 f (length doc)) → g ≡ after_fault (drop w.at doc) w.at → u ≡ least (fault_at 0 g (length doc)) → v ≡ least (root_name (met_tags doc)) → x ≡ lesser w.breach t → y ≡ lesser v u → z ≡ lesser x y → z ≡ least (breaches doc)
+pub all_rules : {doc : List ℕ} {w : Walk} {t u v x y z : Option ℕ} → Walks doc w → t ≡ found (length doc) (char_fault doc) → u ≡ found (length doc) (after_fault (drop w.at doc) w.at) → v ≡ least (root_name (met_tags doc)) → x ≡ lesser w.breach t → y ≡ lesser v u → z ≡ lesser x y → z ≡ least (breaches doc)
 unfolding breaches breach_from
-all_rules {doc} {w} k a b c d e p q r =
+all_rules {doc} {w} k a b c d e f =
     let ts = met_tokens doc in
-    r ∙ rw (p, q, b, a, d, c, e, k.breach, k.end) (parts (tag_values (start_tags ts)) (in_comments doc (comments_to doc 0 ts)) (tag_names (start_tags ts)) (in_text doc) (root_name (start_tags ts)) (after_root doc (root_end doc)))
+    f ∙ rw (d, e, c, a, found_least (length doc) (char_fault doc), b, found_least (length doc) (after_fault (drop w.at doc) w.at), k.breach, k.end) (parts (tag_values (start_tags ts)) (in_comments doc (comments_to doc 0 ts)) (tag_names (start_tags ts)) (in_text doc) (root_name (start_tags ts)) (after_root doc (root_end doc)))
 
 pub walk_inside : {doc : List ℕ} {w : Walk} → Walks doc w → w.at ≤ length doc
 walk_inside k = k.inside

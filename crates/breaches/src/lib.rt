@@ -10,7 +10,7 @@ ghost use Rattle.tags.specs.Outcome.{TagStart};
 ghost use Rattle.profile.specs.Profile.{hyphens, raw};
 ghost use Rattle.met.specs.Met.{met_tags};
 ghost use Rattle.breaches.specs.Least.{lesser, least};
-ghost use Rattle.breaches.specs.Breaches.{places_of, fault_at, in_name, root_name, breaches};
+ghost use Rattle.breaches.specs.Breaches.{places_of, in_name, root_name, breaches};
 ghost use Rattle.breaches.specs.Outcome.{Accepted, NameAt, AttributeAt, ignored_breach, attribute_breach, Passes, Collects, Starts, Closes, Walking, Walked, Walks};
 
 use attributes::Attribute;
@@ -51,21 +51,12 @@ fn lesser(a: Option<usize>, b: Option<usize>) -> Option<usize>
     }
 }
 
-// A fault in n bytes that begin at a place.
-fn fault_at(at: usize, fault: usize, n: usize) -> Option<usize>
-    requires { «at» + n < 2 ^ 64 }
-    ensures { result ≡ least (fault_at «at» fault n) }
-{
-    if fault < n { Some(at + fault) } else { None }
-}
-
 // In the name from a place to another.
 fn name_breach(doc: &[u8], from: usize, to: usize) -> Option<usize>
     requires { NameAt doc.now from to }
     ensures { result ≡ least (in_name (take (to - from) (drop from doc.now)) from) }
 {
-    let fault = profile::name_fault(&doc[from..to]);
-    fault_at(from, fault, to - from)
+    profile::name_fault(&doc[from..to]).map(|p| from + p)
 }
 
 // In the raw value from a place to another.
@@ -75,8 +66,7 @@ fn value_breach(doc: &[u8], from: usize, to: usize) -> Option<usize>
     requires short { length doc.now ≤ 1048576 }
     ensures { result ≡ least (places_of raw (take (to - from) (drop from doc.now)) from) }
 {
-    let fault = profile::value_fault(&doc[from..to]);
-    fault_at(from, fault, to - from)
+    profile::value_fault(&doc[from..to]).map(|p| from + p)
 }
 
 // In the comment whose `<` stands at a place and which ends at another.
@@ -88,9 +78,7 @@ fn comment_breach(doc: &[u8], at: usize, end: usize) -> Option<usize>
         (places_of hyphens (take («end» - 3 - («at» + 4)) (drop («at» + 4) doc.now)) («at» + 4)) }
 {
     let from = at + 4;
-    let to = end - 3;
-    let fault = profile::comment_fault(&doc[from..to]);
-    fault_at(from, fault, to - from)
+    profile::comment_fault(&doc[from..end - 3]).map(|p| from + p)
 }
 
 // In what is ignored from a `<` to a place: only a comment has breaches.
@@ -114,7 +102,7 @@ fn to_tag(doc: &[u8], from: usize) -> Way
 {
     let mut breach = None;
     let mut at = slices::find(doc, from, b'<');
-    // The next place is what the call found, so no range has it.
+    // The next place is what the call found, so no range gives it.
     while at < doc.len() {
         match scan::markup_at(doc, at) {
             Ok(Markup::Ignored(next)) => {
@@ -155,7 +143,7 @@ fn attributes_breach(doc: &[u8], classes: &ClassTable, from: usize) -> Way
 {
     let mut breach = None;
     let mut at = from;
-    // The next place is what the call found, so no range has it.
+    // The next place is what the call found, so no range gives it.
     loop {
         match attributes::attribute_at(doc, classes, at) {
             None => {
@@ -203,9 +191,7 @@ fn close_end(doc: &[u8], classes: &ClassTable, lt: usize) -> usize
     ensures { Closes doc.now lt result }
 {
     match tags::closing_tag(doc, classes, lt) {
-        Ok(Token::Close(c)) => c.end,
-        Ok(Token::End(_)) => doc.len(),
-        Ok(Token::Start(_)) => doc.len(),
+        Ok(c) => c.end,
         Err(_) => doc.len(),
     }
 }
@@ -254,7 +240,7 @@ fn to_root_end(doc: &[u8], classes: &ClassTable) -> Walk
         depth: 0,
         breach: None,
     };
-    // The next place is what the step found, so no range has it.
+    // The next place is what the step found, so no range gives it.
     loop {
         w = step(doc, classes, w);
         if w.depth == 0 {
@@ -289,9 +275,8 @@ pub fn least_breach(doc: &[u8]) -> Option<usize>
     let classes = scan::classes();
     let w = to_root_end(doc, &classes);
     let met = w.breach;
-    let n = doc.len();
-    let text = fault_at(0, profile::char_fault(doc), n);
-    let after = fault_at(0, profile::after_fault(doc, w.at), n);
+    let text = profile::char_fault(doc);
+    let after = profile::after_fault(doc, w.at);
     let root = root_breach(doc, &classes);
     lesser(lesser(met, text), lesser(root, after))
 }

@@ -1,7 +1,6 @@
 -- The loops over the words of a block and over the blocks, and what they have put when they end.
 -- Assumes nothing.
 use Rattle.std.proofs.Common.{◌≡◌, ℕ, suc, ◌+◌, ◌-◌, ◌<◌, ◌≤◌, List, ◌∙◌, arith, rules}
-use Rattle.std.specs.Prelude.{min}
 use Rattle.tables.specs.Table.{Rep}
 use Rattle.columns.specs.Put.{Roomy, Block, Puts, Apart, Below, Lays}
 use Rattle.columns.proofs.Putting.{no_rows, no_words, rows_joined, words_joined}
@@ -47,18 +46,11 @@ module _ {place f : ℕ → ℕ → ℕ} {R : ℕ} (apart : Apart place R) {t₀
       within = omega arith;
     }
 
-    filled_more : {a n : ℕ} → Filled place f R a t₀ t → a < n → n ≤ R → Puts place f 0 16 a n t t' → Filled place f R n t₀ t'
+    pub filled_more : {a n : ℕ} → Filled place f R a t₀ t → a < n → n ≤ R → Puts place f 0 16 a n t t' → Filled place f R n t₀ t'
     filled_more g h l p = record {
       puts = rows_joined {place = place} {f = f} apart (omega arith) l (omega arith) (omega arith) g.puts p;
       few = l;
     }
-
-    -- a block of 16 rows, and the last
-    pub filled_next : {a n : ℕ} → Filled place f R a t₀ t → 16 < R - a → n ≡ min R (a + 16) → Puts place f 0 16 a n t t' → Filled place f R (a + 16) t₀ t'
-    filled_next {a} g h e p = let z : min R (a + 16) ≡ a + 16 = omega (arith, h) in filled_more g (omega arith) (omega (arith, h)) (rw (e, z) at p)
-
-    filled_last : {a n : ℕ} → Filled place f R a t₀ t → a < R → R - a ≤ 16 → n ≡ min R (a + 16) → Puts place f 0 16 a n t t' → Filled place f R R t₀ t'
-    filled_last {a} g l h e p = let z : min R (a + 16) ≡ R = omega (arith, h) in filled_more g l (omega arith) (rw (e, z) at p)
 
   -- the row above a block stays as it is while the block is put
   pub going_below : {m a n : ℕ} → Going place f m a n t₀ t → Block a n R → Below place f a t₀ → Below place f a t
@@ -74,10 +66,7 @@ module _ {place f : ℕ → ℕ → ℕ} {R : ℕ} (apart : Apart place R) {t₀
 pub filled_end : {place : ℕ → ℕ → ℕ → ℕ} {word : ℕ → List ℕ → ℕ → ℕ → ℕ} {words : ℕ → List ℕ → List ℕ} {R n : ℕ} {xs t₀ t : List ℕ} → Lays place word words → Filled (place R) (word R xs) R n t₀ t → R ≤ n → Rep 16 t R (words R xs)
 filled_end {R = R} {n} {xs} {t₀} {t} y g h = y.whole R xs t (λ k r b l. g.puts.here k r (omega arith) b (omega arith) (omega (arith, h)))
 
-pub filled_all : {place : ℕ → ℕ → ℕ → ℕ} {word : ℕ → List ℕ → ℕ → ℕ → ℕ} {words : ℕ → List ℕ → List ℕ} {R a n : ℕ} {xs t₀ t t' : List ℕ} → Lays place word words → Filled (place R) (word R xs) R a t₀ t → a < R → R - a ≤ 16 → n ≡ min R (a + 16) → Puts (place R) (word R xs) 0 16 a n t t' → Rep 16 t' R (words R xs)
-filled_all {R = R} y g l h e p = filled_end y (filled_last (y.apart R) g l h e p) (omega arith)
+pub block_of : {a n R : ℕ} → (a < n) × (n ≤ R) → Block a n R
+block_of h = record { order = omega (arith, h); within = h.1 }
 
-pub block_of : {a n R : ℕ} → a < R → n ≡ min R (a + 16) → Block a n R
-block_of h e = record { order = omega (arith, h, e); within = omega (arith, e) }
-
-pub ruleset filling = (going_none, filled_none, going_end, going_ready, filled_ready, filled_below, going_more, filled_next, going_below, filled_end, block_of, rules)
+pub ruleset filling = (going_none, filled_none, going_end, going_ready, filled_ready, filled_below, going_more, filled_more, going_below, filled_end, block_of, rules)

@@ -2,10 +2,10 @@
 -- Assumes nothing.
 use Rattle.std.proofs.Common.{◌≡◌, ℕ, zero, suc, ◌+◌, ◌-◌, ◌*◌, ◌%◌, ◌^◌, ◌<◌, ◌≤◌, List, length, get_or, set, refl, ◌∙◌, add-one, arith, length-set, get_or-set_other, get_or-set_same, w64, Fits, rules}
 use native.Mathlib.Decide.{dec_lt}
-use Rattle.columns.specs.Words.{in_rows, in_columns, difference, restored}
+use Rattle.columns.specs.Words.{less, in_rows, in_columns, difference, restored}
 use Rattle.columns.specs.Put.{Roomy, Block, Puts, Apart, word_above, restored_above, Below}
 use Rattle.columns.specs.Statement.{Words}
-use Rattle.columns.proofs.Wrapped.{less_is, wrapped_none}
+use Rattle.columns.proofs.Wrapped.{wrapped_none}
 use Rattle.columns.specs.Places.{column_before, column_inside, row_inside, columns_apart, rows_apart}
 
 module _ {place f : ℕ → ℕ → ℕ} where
@@ -72,10 +72,9 @@ above_some (suc r) k xs h =
     rw e
 
 -- v is what is put at row r, where b is the word above that row
-difference_is : (xs : List ℕ) (k r b v : ℕ) → Words xs → v < 2 ^ 32 → b ≡ word_above xs k r → (v + b) % 2 ^ 32 ≡ get_or xs (in_rows k r) 0 → v ≡ difference xs k r
-difference_is xs k zero b v w h e q = omega (arith, w (in_rows k 0))
-difference_is xs k (suc r) b v w h e q =
-    less_is (get_or xs (in_rows k (suc r)) 0) (get_or xs (in_rows k r) 0) v (w (in_rows k r)) h (rw e at q)
+difference_is : (xs : List ℕ) (k r b v : ℕ) → Words xs → b ≡ word_above xs k r → v ≡ less (get_or xs (in_rows k r) 0) b → v ≡ difference xs k r
+difference_is xs k zero b v w e q = omega (arith, w (in_rows k 0))
+difference_is xs k (suc r) b v w e q = q ∙ rw e
 
 restored_is : (R : ℕ) (xs : List ℕ) (k r b v : ℕ) → Words xs → b ≡ restored_above R xs k r → v ≡ (b + get_or xs (in_columns R k r) 0) % 2 ^ 32 → v ≡ restored R xs k r
 restored_is R xs k zero b v w e q = q ∙ rw e (wrapped_none _ (w (in_columns R k 0)))
@@ -93,10 +92,10 @@ pub column_begins : {R k a n b : ℕ} {xs t : List ℕ} → a ≤ n → b ≡ wo
 column_begins h e = record { puts = no_rows; last = e; after = omega arith; within = h }
 
 module _ {R k a n b r : ℕ} {xs t₀ t : List ℕ} (g : ColumnGoing R k xs a n t₀ t b r) where
-  pub column-more : Roomy R xs t₀ → Block a n R → k < 16 → r < n → Words xs → (v : ℕ) → v < 2 ^ 32 → (v + b) % 2 ^ 32 ≡ get_or xs (in_rows k r) 0 → ColumnGoing R k xs a n t₀ (set t (in_columns R k r) v) (get_or xs (in_rows k r) 0) (r + 1)
-  column-more y z h l w v m q = record {
+  pub column-more : Roomy R xs t₀ → Block a n R → k < 16 → r < n → Words xs → (v : ℕ) → v ≡ less (get_or xs (in_rows k r) 0) b → ColumnGoing R k xs a n t₀ (set t (in_columns R k r) v) (get_or xs (in_rows k r) 0) (r + 1)
+  column-more y z h l w v q = record {
     puts = rows_joined {place = in_columns R} {f = difference xs} (columns_apart R) (omega arith) (omega (arith, z.within)) g.after (omega arith) g.puts
-        (one_put {place = in_columns R} {f = difference xs} v (omega (arith, column_inside R k r h (omega (arith, z.within)), y.room, g.puts.same)) (difference_is xs k r b v w m g.last q));
+        (one_put {place = in_columns R} {f = difference xs} v (omega (arith, column_inside R k r h (omega (arith, z.within)), y.room, g.puts.same)) (difference_is xs k r b v w g.last q));
     last = rw add-one;
     after = omega (arith, g.after);
     within = omega arith;

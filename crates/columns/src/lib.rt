@@ -33,14 +33,14 @@ fn put_column(rows: &[u32], count: usize, k: usize, from: usize, to: usize, out:
     let mut above = word_above(rows, k, from);
     for r in from..to {
         let word = rows[r * 16 + k];
-        let less = std::num::wrapping_sub_u32(word, above);
+        let less = word.wrapping_sub(above);
         out[start + r] = less;
         above = word;
     }
 }
 
-// Not one with `put_column`, which takes the word above from its source, and this from what it put.
 // Puts word k of each row of a block: the word above it plus the column's word.
+// Not one with `put_column`, which takes the word above from its source, and this from what it put.
 #[tactic(auto, using(crate::proofs::Putting::putting))]
 fn put_words(columns: &[u32], count: usize, k: usize, from: usize, to: usize, out: &mut [u32])
     requires word { k < 16 }
@@ -53,7 +53,7 @@ fn put_words(columns: &[u32], count: usize, k: usize, from: usize, to: usize, ou
     let start = k * count;
     let mut above = word_above(out, k, from);
     for r in from..to {
-        above = std::num::wrapping_add_u32(above, columns[start + r]);
+        above = above.wrapping_add(columns[start + r]);
         out[r * 16 + k] = above;
     }
 }
@@ -126,15 +126,29 @@ fn put_block<W: Way>(source: &[u32], count: usize, from: usize, to: usize, out: 
     }
 }
 
+// Where the block from a row on ends: 16 rows further on, or at the last.
+fn block_end(from: usize, count: usize) -> usize
+    requires { from < count }
+    ensures { (from < result) × (result ≤ count) }
+{
+    if count - from < 16 {
+        return count;
+    }
+    from + 16
+}
+
 // Puts the words of all rows, a block at a time.
+// A cursor and not `step_by`, and `block_end` not by `min`: by either columns of small tables take up to an eighth more time.
 #[tactic(auto, using(crate::proofs::Filling::filling))]
 fn put_all<W: Way>(source: &[u32], count: usize, out: &mut [u32])
     requires { Roomy count source.now out.old }
     ensures { Rep 16 out.new count (W.words count source.now) }
 {
-    for from in (0..count).step_by(16) {
-        let to = count.min(from + 16);
+    let mut from = 0;
+    while from < count {
+        let to = block_end(from, count);
         put_block::<W>(source, count, from, to, out);
+        from = to;
     }
 }
 
@@ -144,22 +158,16 @@ fn check(held: usize, room: usize, count: u64) -> Result<usize, Fault>
     ensures { Checks count held room result }
 {
     if 262144 < count {
-        return Err(Fault {
-            number: 30,
-            place: 262144,
-        });
+        return Err(Fault::new(30, 262144));
     }
     let n = count as usize;
     if held < n * 16 || room < n * 16 {
-        return Err(Fault {
-            number: 18,
-            place: n,
-        });
+        return Err(Fault::new(18, n));
     }
     Ok(n)
 }
 
-// Leaves zeros.
+// Leaves zeros. Not one with order's `refuse`: answer and clause differ in type.
 #[tactic(auto, using(crate::proofs::Answers::steps))]
 fn refuse(out: &mut [u32], fault: Fault) -> Result<(), Fault>
     ensures { Says (refused fault.number fault.place) (length out.old) out.new

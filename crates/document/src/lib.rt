@@ -103,6 +103,7 @@ pub struct Counts {
 pub type Verdict = Result<Counts, Refusal>;
 
 // How the raw value of an attribute shows its text: as it stands, or changed; or there is no such attribute.
+// No Option of a value: that takes four bytes more for each of a tag's seven values, by which reading takes 2 % more time.
 #[derive(Clone, Copy)]
 pub enum Form {
     Absent,
@@ -126,7 +127,7 @@ impl Value {
         form: Form::Absent,
     };
 
-    // Whether a value is not there.
+    // Whether a value is not there. A function, so that tests in three crates have its clause.
     pub fn is_absent(self) -> bool
         ensures { result ≡ is_absent self }
     {
@@ -220,6 +221,8 @@ pub enum Next {
 
 // What reading goes over and what it fills: the document, the classes of its bytes, and the buffers that the caller lends.
 // They are lent, since the library has no heap.
+// Functions that fill nothing take the document and the classes apart, and say in a clause that it is short: by a struct of the two, lent by
+// reference, reading takes 2 % more time.
 #[derive(Drop)]
 pub struct Reader<'a, 'r> {
     pub doc: &'a [u8],

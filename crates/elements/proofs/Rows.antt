@@ -93,6 +93,25 @@ module _ {doc : List ℕ} {c : StartTag} {f : Fill} {h : Head} {name second tp :
 refused : {doc : List ℕ} {c : StartTag} {f : Fill} {k p : ℕ} {x : Refusal} {rows text : List ℕ} → Ready doc c f → ((t : Tag) → TagIs doc c t → opens_as whole k p t ≡ refuses x) → Opening doc k c p f rows rows text text (Err x)
 refused r i = record { at = r.at; onward = tt; is = i }
 
+-- the row of a kind is at a step, after which something goes on with the step's answer
+pub record AtStep {A : Type 0} (doc : List ℕ) (c : StartTag) (k p : ℕ) (step : Tag → (A → Opened Shown) → Opened Shown) (next : (t : Tag) → TagIs doc c t → A → Opened Shown) : Type 0 where
+  pub is : (t : Tag) (z : TagIs doc c t) → opens_as whole k p t ≡ step t (next t z)
+
+module _ {A : Type 0} {doc : List ℕ} {c : StartTag} {k p : ℕ} {step : Tag → (A → Opened Shown) → Opened Shown} {next : (t : Tag) → TagIs doc c t → A → Opened Shown} (i : AtStep doc c k p step next) where
+  -- the step refuses
+  pub step_refused : {f : Fill} {x : Refusal} {rows text : List ℕ} → Ready doc c f → ((t : Tag) → TagIs doc c t → (g : A → Opened Shown) → step t g ≡ refuses x) → Opening doc k c p f rows rows text text (Err x)
+  step_refused r d = refused r (λ t z. i.is t z ∙ d t z (next t z))
+
+  -- or it goes on
+  past : {belongs : A → Type 0} (d : (t : Tag) → TagIs doc c t → (a : A) × belongs a × ((g : A → Opened Shown) → step t g ≡ g a)) (t : Tag) (z : TagIs doc c t) → opens_as whole k p t ≡ next t z (d t z).0
+  past d t z = i.is t z ∙ (d t z).2 (next t z)
+
+-- the last step gives the row's word
+worded : {doc : List ℕ} {c : StartTag} {k p : ℕ} {f : Fill} {step : Tag → (ℕ → Opened Shown) → Opened Shown} {w : ℕ} {h : Head} {rows rows' text text' : List ℕ} {g : Fill} → Ready doc c f → (n v : (t : Tag) → TagIs doc c t → Option Shown) → ((t : Tag) (z : TagIs doc c t) → ValueIs doc c.values.name (n t z)) → ((t : Tag) (z : TagIs doc c t) → ValueIs doc c.values.ty (v t z)) → AtStep doc c k p step (λ t z w. opens (row whole t k p (n t z) (v t z) (tp_type t.attrs) w)) → Steps doc c ◌≡◌ step (Ok w) → h ≡ head_of c k p 0 → RowPut doc (record { kind = h.kind; parent = h.parent; word = w; at = h.at }) c.values.name c.values.ty c.values.tp f rows rows' text text' g → Opening doc k c p f rows rows' text text' (Ok g)
+worded {k = k} {p = p} r n v a b i d e q =
+    opened r r.fits.values.name r.fits.values.ty r.fits.values.tp (rw e) q
+    (λ t z. (n t z, v t z, tp_type t.attrs, past i d t z ∙ ap (λ w. opens (row whole t k p (n t z) (v t z) (tp_type t.attrs) w)) (sym (d t z).1), a t z, b t z, z.values.tp))
+
 -- the kinds by what they need
 pub interface_kind : NamedKind interface_name kinds.interface
 unfolding opens_as
@@ -167,6 +186,10 @@ module _ {doc : List ℕ} {c : StartTag} where
 
 -- ---- rows
 
+-- a name that is there and good
+pub named_start : {doc : List ℕ} {c : StartTag} {k p : ℕ} {good : List ℕ → Bool} → NamedKind good k → AtStep doc c k p (tested 1 (bytes "name") 13 good) (λ t z n. opens (row whole t k p (some n) none none 0))
+named_start {p = p} i = record { is = λ t z. i.is p t }
+
 module _ {doc : List ℕ} {c : StartTag} {f : Fill} (r : Ready doc c f) {p : ℕ} {h : Head} {rows rows' text text' : List ℕ} {g : Fill} where
   pub node_done : h ≡ head_of c kinds.node p 0 → RowPut doc h c.values.name absent absent f rows rows' text text' g → Opening doc kinds.node c p f rows rows' text text' (Ok g)
   unfolding opens_as
@@ -186,106 +209,59 @@ module _ {doc : List ℕ} {c : StartTag} {f : Fill} (r : Ready doc c f) {p : ℕ
   unfolding opens_as
   member_done e q = opened r r.fits.values.name r.fits.values.ty r.fits.values.tp e q (λ t z. (attr (bytes "name") t, attr (bytes "type") t, tp_type t.attrs, refl, z.values.name, z.values.ty, z.values.tp))
 
-  -- a name that is there and good
   pub named_done : {k : ℕ} {good : List ℕ → Bool} → NamedKind good k → Steps {V = Unit {0}} doc c (λ u s. Held doc c.values.name s) (tested 1 (bytes "name") 13 good) (Ok tt) → h ≡ head_of c k p 0 → RowPut doc h c.values.name absent absent f rows rows' text text' g → Opening doc k c p f rows rows' text text' (Ok g)
-  named_done {k} i d e q = opened r r.fits.values.name (absent_fits r) (absent_fits r) e q (λ t z. let s = d t z in (some s.0, none, none, i.is p t ∙ s.2 (λ n. opens (row whole t k p (some n) none none 0)), s.1, refl, refl))
-
-pub named_refused : {doc : List ℕ} {c : StartTag} {f : Fill} {k p : ℕ} {good : List ℕ → Bool} {x : Refusal} {rows text : List ℕ} → Ready doc c f → NamedKind good k → ((t : Tag) → TagIs doc c t → (f : Shown → Opened Shown) → tested 1 (bytes "name") 13 good t f ≡ refuses x) → Opening doc k c p f rows rows text text (Err x)
-named_refused {k = k} {p = p} r i d = refused r (λ t z. i.is p t ∙ d t z (λ n. opens (row whole t k p (some n) none none 0)))
+  named_done i d e q = opened r r.fits.values.name (absent_fits r) (absent_fits r) e q (λ t z. (some (d t z).0, none, none, past (named_start i) d t z, (d t z).1, refl, refl))
 
 -- annotation: two attributes
-annotation_is : (p : ℕ) (t : Tag) → opens_as whole kinds.annotation p t ≡ demanded 1 (bytes "name") t (λ n. demanded 4 (bytes "value") t (λ v. opens (row whole t kinds.annotation p (some n) (some v) none 0)))
-unfolding opens_as
-annotation_is p t = refl
+abbrev annotation_with : ℕ → Tag → Shown → Shown → Opened Shown
+annotation_with p t n v = opens (row whole t kinds.annotation p (some n) (some v) none 0)
 
-module _ {doc : List ℕ} {c : StartTag} {f : Fill} (r : Ready doc c f) (p : ℕ) where
-  pub annotation_unnamed : {x : Refusal} {rows text : List ℕ} → ((t : Tag) → TagIs doc c t → (f : Shown → Opened Shown) → demanded 1 (bytes "name") t f ≡ refuses x) → Opening doc kinds.annotation c p f rows rows text text (Err x)
-  annotation_unnamed d = refused r (λ t z. annotation_is p t ∙ d t z (λ n. demanded 4 (bytes "value") t (λ v. opens (row whole t kinds.annotation p (some n) (some v) none 0))))
+module _ {doc : List ℕ} {c : StartTag} {p : ℕ} where
+  pub annotation_start : AtStep doc c kinds.annotation p (demanded 1 (bytes "name")) (λ t z n. demanded 4 (bytes "value") t (annotation_with p t n))
+  unfolding opens_as
+  annotation_start = record { is = λ t z. refl }
 
   module _ (d : Steps {V = Unit {0}} doc c (λ u s. Held doc c.values.name s) (demanded 1 (bytes "name")) (Ok tt)) where
-    first : (t : Tag) (z : TagIs doc c t) → opens_as whole kinds.annotation p t ≡ demanded 4 (bytes "value") t (λ v. opens (row whole t kinds.annotation p (some (d t z).0) (some v) none 0))
-    first t z = annotation_is p t ∙ (d t z).2 (λ n. demanded 4 (bytes "value") t (λ v. opens (row whole t kinds.annotation p (some n) (some v) none 0)))
+    pub annotation_named : AtStep doc c kinds.annotation p (demanded 4 (bytes "value")) (λ t z. annotation_with p t (d t z).0)
+    annotation_named = record { is = past annotation_start d }
 
-    pub annotation_unvalued : {x : Refusal} {rows text : List ℕ} → ((t : Tag) → TagIs doc c t → (f : Shown → Opened Shown) → demanded 4 (bytes "value") t f ≡ refuses x) → Opening doc kinds.annotation c p f rows rows text text (Err x)
-    annotation_unvalued y = refused r (λ t z. first t z ∙ y t z (λ v. opens (row whole t kinds.annotation p (some (d t z).0) (some v) none 0)))
-
-    pub annotation_done : {h : Head} {rows rows' text text' : List ℕ} {g : Fill} → Steps {V = Unit {0}} doc c (λ u s. Held doc c.values.value s) (demanded 4 (bytes "value")) (Ok tt) → h ≡ head_of c kinds.annotation p 0 → RowPut doc h c.values.name c.values.value absent f rows rows' text text' g → Opening doc kinds.annotation c p f rows rows' text text' (Ok g)
-    annotation_done y e q = opened r r.fits.values.name r.fits.values.value (absent_fits r) e q (λ t z. let v = y t z in (some (d t z).0, some v.0, none, first t z ∙ v.2 (λ v. opens (row whole t kinds.annotation p (some (d t z).0) (some v) none 0)), (d t z).1, v.1, refl))
+    pub annotation_done : {f : Fill} {h : Head} {rows rows' text text' : List ℕ} {g : Fill} → Ready doc c f → Steps {V = Unit {0}} doc c (λ u s. Held doc c.values.value s) (demanded 4 (bytes "value")) (Ok tt) → h ≡ head_of c kinds.annotation p 0 → RowPut doc h c.values.name c.values.value absent f rows rows' text text' g → Opening doc kinds.annotation c p f rows rows' text text' (Ok g)
+    annotation_done r y e q = opened r r.fits.values.name r.fits.values.value (absent_fits r) e q (λ t z. (some (d t z).0, some (y t z).0, none, past annotation_named y t z, (d t z).1, (y t z).1, refl))
 
 -- property: three steps
-abbrev property_next : ℕ → Tag → Shown → Opened Shown
-property_next p t n = tested 2 (bytes "type") 14 signature t (λ s. accessed t (λ w. opens (row whole t kinds.property p (some n) (some s) (tp_type t.attrs) w)))
+abbrev property_with : ℕ → Tag → Shown → Shown → ℕ → Opened Shown
+property_with p t n s w = opens (row whole t kinds.property p (some n) (some s) (tp_type t.attrs) w)
 
-property_is : (p : ℕ) (t : Tag) → opens_as whole kinds.property p t ≡ tested 1 (bytes "name") 13 property_name t (property_next p t)
-unfolding opens_as
-property_is p t = refl
-
-module _ {doc : List ℕ} {c : StartTag} {f : Fill} (r : Ready doc c f) (p : ℕ) where
-  pub property_unnamed : {x : Refusal} {rows text : List ℕ} → ((t : Tag) → TagIs doc c t → (f : Shown → Opened Shown) → tested 1 (bytes "name") 13 property_name t f ≡ refuses x) → Opening doc kinds.property c p f rows rows text text (Err x)
-  property_unnamed d = refused r (λ t z. property_is p t ∙ d t z (property_next p t))
+module _ {doc : List ℕ} {c : StartTag} {p : ℕ} where
+  pub property_start : AtStep doc c kinds.property p (tested 1 (bytes "name") 13 property_name) (λ t z n. tested 2 (bytes "type") 14 signature t (λ s. accessed t (property_with p t n s)))
+  unfolding opens_as
+  property_start = record { is = λ t z. refl }
 
   module _ (d : Steps {V = Unit {0}} doc c (λ u s. Held doc c.values.name s) (tested 1 (bytes "name") 13 property_name) (Ok tt)) where
-    past_name : (t : Tag) (z : TagIs doc c t) → opens_as whole kinds.property p t ≡ property_next p t (d t z).0
-    past_name t z = property_is p t ∙ (d t z).2 (property_next p t)
-
-    pub property_untyped : {x : Refusal} {rows text : List ℕ} → ((t : Tag) → TagIs doc c t → (f : Shown → Opened Shown) → tested 2 (bytes "type") 14 signature t f ≡ refuses x) → Opening doc kinds.property c p f rows rows text text (Err x)
-    property_untyped y = refused r (λ t z. past_name t z ∙ y t z (λ s. accessed t (λ w. opens (row whole t kinds.property p (some (d t z).0) (some s) (tp_type t.attrs) w))))
+    pub property_named : AtStep doc c kinds.property p (tested 2 (bytes "type") 14 signature) (λ t z s. accessed t (property_with p t (d t z).0 s))
+    property_named = record { is = past property_start d }
 
     module _ (y : Steps {V = Unit {0}} doc c (λ u s. Held doc c.values.ty s) (tested 2 (bytes "type") 14 signature) (Ok tt)) where
-      past_type : (t : Tag) (z : TagIs doc c t) → opens_as whole kinds.property p t ≡ accessed t (λ w. opens (row whole t kinds.property p (some (d t z).0) (some (y t z).0) (tp_type t.attrs) w))
-      past_type t z = past_name t z ∙ (y t z).2 (λ s. accessed t (λ w. opens (row whole t kinds.property p (some (d t z).0) (some s) (tp_type t.attrs) w)))
+      pub property_typed : AtStep doc c kinds.property p accessed (λ t z. property_with p t (d t z).0 (y t z).0)
+      property_typed = record { is = past property_named y }
 
-      pub property_unaccessed : {x : Refusal} {rows text : List ℕ} → Accesses doc c (Err x) → Opening doc kinds.property c p f rows rows text text (Err x)
-      property_unaccessed a = refused r (λ t z. past_type t z ∙ a.is t z (λ w. opens (row whole t kinds.property p (some (d t z).0) (some (y t z).0) (tp_type t.attrs) w)))
-
-      pub property_done : {h : Head} {w : ℕ} {rows rows' text text' : List ℕ} {g : Fill} → Accesses doc c (Ok w) → h ≡ head_of c kinds.property p 0 → RowPut doc (record { kind = h.kind; parent = h.parent; word = w; at = h.at }) c.values.name c.values.ty c.values.tp f rows rows' text text' g → Opening doc kinds.property c p f rows rows' text text' (Ok g)
-      property_done {w = w} a e q =
-          opened r r.fits.values.name r.fits.values.ty r.fits.values.tp (rw e) q
-          (λ t z.
-          let n = a.is t z in (
-            some (d t z).0,
-            some (y t z).0,
-            tp_type t.attrs,
-            past_type t z ∙ n.2 (λ w. opens (row whole t kinds.property p (some (d t z).0) (some (y t z).0) (tp_type t.attrs) w)) ∙ ap (λ w. opens (row whole t kinds.property p (some (d t z).0) (some (y t z).0) (tp_type t.attrs) w)) (sym n.1),
-            (d t z).1,
-            (y t z).1,
-            z.values.tp,
-          ))
+      pub property_done : {f : Fill} {h : Head} {w : ℕ} {rows rows' text text' : List ℕ} {g : Fill} → Ready doc c f → Accesses doc c (Ok w) → h ≡ head_of c kinds.property p 0 → RowPut doc (record { kind = h.kind; parent = h.parent; word = w; at = h.at }) c.values.name c.values.ty c.values.tp f rows rows' text text' g → Opening doc kinds.property c p f rows rows' text text' (Ok g)
+      property_done r a = worded r (λ t z. some (d t z).0) (λ t z. some (y t z).0) (λ t z. (d t z).1) (λ t z. (y t z).1) property_typed a.is
 
 -- arg: two steps
-abbrev arg_last : ℕ → Tag → Shown → ℕ → Opened Shown
-arg_last p t s w = opens (row whole t kinds.arg p (attr (bytes "name") t) (some s) (tp_type t.attrs) w)
+abbrev arg_with : ℕ → Tag → Shown → ℕ → Opened Shown
+arg_with p t s w = opens (row whole t kinds.arg p (attr (bytes "name") t) (some s) (tp_type t.attrs) w)
 
-abbrev arg_next : ℕ → Tag → Shown → Opened Shown
-arg_next p t s = directed whole (attr (bytes "direction") t) t (λ w. opens (row whole t kinds.arg p (attr (bytes "name") t) (some s) (tp_type t.attrs) w))
-
-arg_is : (p : ℕ) (t : Tag) → opens_as whole kinds.arg p t ≡ tested 2 (bytes "type") 14 signature t (arg_next p t)
-unfolding opens_as
-arg_is p t = refl
-
-module _ {doc : List ℕ} {c : StartTag} {f : Fill} (r : Ready doc c f) (p : ℕ) where
-  pub arg_untyped : {x : Refusal} {rows text : List ℕ} → ((t : Tag) → TagIs doc c t → (f : Shown → Opened Shown) → tested 2 (bytes "type") 14 signature t f ≡ refuses x) → Opening doc kinds.arg c p f rows rows text text (Err x)
-  arg_untyped y = refused r (λ t z. arg_is p t ∙ y t z (arg_next p t))
+module _ {doc : List ℕ} {c : StartTag} {p : ℕ} where
+  pub arg_start : AtStep doc c kinds.arg p (tested 2 (bytes "type") 14 signature) (λ t z s. directed whole (attr (bytes "direction") t) t (arg_with p t s))
+  unfolding opens_as
+  arg_start = record { is = λ t z. refl }
 
   module _ (y : Steps {V = Unit {0}} doc c (λ u s. Held doc c.values.ty s) (tested 2 (bytes "type") 14 signature) (Ok tt)) where
-    arg_typed : (t : Tag) (z : TagIs doc c t) → opens_as whole kinds.arg p t ≡ arg_next p t (y t z).0
-    arg_typed t z = arg_is p t ∙ (y t z).2 (arg_next p t)
+    pub arg_typed : AtStep doc c kinds.arg p (λ t f. directed whole (attr (bytes "direction") t) t f) (λ t z. arg_with p t (y t z).0)
+    arg_typed = record { is = past arg_start y }
 
-    pub arg_undirected : {x : Refusal} {rows text : List ℕ} → Directs doc c (Err x) → Opening doc kinds.arg c p f rows rows text text (Err x)
-    arg_undirected a = refused r (λ t z. arg_typed t z ∙ a.is t z (arg_last p t (y t z).0))
-
-    pub arg_done : {h : Head} {w : ℕ} {rows rows' text text' : List ℕ} {g : Fill} → Directs doc c (Ok w) → h ≡ head_of c kinds.arg p 0 → RowPut doc (record { kind = h.kind; parent = h.parent; word = w; at = h.at }) c.values.name c.values.ty c.values.tp f rows rows' text text' g → Opening doc kinds.arg c p f rows rows' text text' (Ok g)
-    arg_done {w = w} a e q =
-        opened r r.fits.values.name r.fits.values.ty r.fits.values.tp (rw e) q
-        (λ t z.
-        let n = a.is t z in (
-          attr (bytes "name") t,
-          some (y t z).0,
-          tp_type t.attrs,
-          arg_typed t z ∙ n.2 (arg_last p t (y t z).0) ∙ ap (arg_last p t (y t z).0) (sym n.1),
-          z.values.name,
-          (y t z).1,
-          z.values.tp,
-        ))
+    pub arg_done : {f : Fill} {h : Head} {w : ℕ} {rows rows' text text' : List ℕ} {g : Fill} → Ready doc c f → Directs doc c (Ok w) → h ≡ head_of c kinds.arg p 0 → RowPut doc (record { kind = h.kind; parent = h.parent; word = w; at = h.at }) c.values.name c.values.ty c.values.tp f rows rows' text text' g → Opening doc kinds.arg c p f rows rows' text text' (Ok g)
+    arg_done r a = worded r (λ t z. attr (bytes "name") t) (λ t z. some (y t z).0) (λ t z. z.values.name) (λ t z. (y t z).1) arg_typed a.is
 
 pub ruleset elements = (tag_small, interface_kind, row_fits, absent_fits, rules)

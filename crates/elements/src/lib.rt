@@ -1,5 +1,6 @@
 // What a start tag needs: the row of each kind of element, or the tag's first fault.
-// No function takes a whole `Reader`: the parts that it is not given it leaves alone, with no clause to say so.
+// A function takes the parts of a `Reader` that it needs and not all of it: then no clause has to say that the other parts stay as they are.
+// That a parent is small is a clause of its own: the parent is no part of what `Ready` speaks of, and of the root it is 0.
 #![tactic(auto)]
 
 ghost use Rattle.std.specs.Prelude.{◌≡◌, ◌≤◌, ◌<◌, ◌+◌, ◌^◌, List, ℕ, Bool};
@@ -22,7 +23,7 @@ fn excerpt(v: Value) -> Excerpt
     }
 }
 
-// The attribute of a key is there, or 12: the keys are 1 name, 2 type, 3 access, 4 value.
+// An attribute is there, or refusal 12, whose `key` says which one is missing: 1 name, 2 type, 3 access, 4 value.
 fn demand(c: &StartTag, v: Value, key: u32) -> Result<(), Refusal>
     requires { c.now.at + c.now.len < 2 ^ 32 }
     ensures { (doc k : List ℕ) → AttributeIs doc c.now v k → Steps doc c.now (λ u s. Held doc v s) (demanded key k) result }
@@ -37,7 +38,7 @@ fn demand(c: &StartTag, v: Value, key: u32) -> Result<(), Refusal>
     Ok(())
 }
 
-// The attribute of a key is there, or 12; and it is good, or a number.
+// An attribute is there, or refusal 12 with its key, as above; and it is good, or refusal `number`.
 fn demand_good<P: Fn(&[u8], Value) -> bool>(
     doc: &[u8],
     c: &StartTag,
@@ -58,7 +59,7 @@ fn demand_good<P: Fn(&[u8], Value) -> bool>(
     Err(document::bare(number, c.at))
 }
 
-// The number of a property's access: 12 where it has none, 15 where it is none of the three.
+// The number of a property's access; refusal 12 where it has none, 15 where it is none of the three.
 fn access_word(doc: &[u8], c: &StartTag) -> Result<u32, Refusal>
     requires small { c.now.at + c.now.len < 2 ^ 32 }
     requires lies { Lies doc.now c.now.values.access }
@@ -72,7 +73,7 @@ fn access_word(doc: &[u8], c: &StartTag) -> Result<u32, Refusal>
     }
 }
 
-// The number of an arg's direction, 0 where it has none, as the row's word has it: 16 where it is neither `in` nor `out`.
+// The number of an arg's direction, 0 where it has none, as the row's word has it; refusal 16 where it is neither `in` nor `out`.
 fn direction_word(doc: &[u8], c: &StartTag) -> Result<u32, Refusal>
     requires { Lies doc.now c.now.values.direction }
     ensures { Directs doc.now c.now result }

@@ -4,7 +4,7 @@
 use document::Verdict;
 
 // What reading a file answers: the verdict, and how many bytes of its text were decoded; 0 of a file without a mark, and where decoding is
-// refused. The interface for C tells it so.
+// refused. No Option: the definitions (`decoded_length`, `document_left`) answer and take a length, 0 for none, and the word for C is that.
 #[derive(Clone, Copy)]
 pub struct Reading {
     pub verdict: Verdict,

@@ -12,7 +12,8 @@ use members::{annotation, callable, property};
 use skip::docstring_or_skip;
 use telepathy::definition;
 
-// Whether an element of this kind is a definition: simple-type, enum, struct or mapping.
+// Whether an element of this kind is a definition: simple-type, enum, struct or mapping. Beside order's function of this name: that one's clause
+// speaks of a row, by order's definition of a type definition.
 #[tactic(auto, using(crate::proofs::Interfaces::kinds))]
 pub fn is_definition(kind: u32) -> bool
     ensures { Among kind kinds.definitions result }

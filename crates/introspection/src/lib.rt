@@ -11,7 +11,7 @@ ghost use Rattle.document.specs.Whole.{room_of};
 ghost use Rattle.items.specs.Several.{several_writing, several_ends};
 ghost use Rattle.items.specs.Writing.{writing};
 ghost use Rattle.trees.specs.Writing.{tree_writing};
-ghost use Rattle.introspection.specs.Words.{verdict_words, answer_words, columns_words, part_words, bit, Reads, ReadsStrictly, text_words, outcome_words, lookup_words, message_by, warning_message_by, refusal_words, order_words, ordering_words};
+ghost use Rattle.introspection.specs.Words.{verdict_words, answer_words, columns_words, part_words, Reads, ReadsStrictly, text_words, outcome_words, lookup_words, message_by, warning_message_by, refusal_words, order_words, ordering_words};
 ghost use Rattle.order.specs.Ordering as order;
 
 use answers::TextAnswer;
@@ -32,10 +32,10 @@ fn refusal_words(x: Refusal, decoded: usize) -> [u64; 16]
         0,
         0,
         0,
-        bit(0 < shown),
+        u64::from(0 < shown),
         x.first.at as u64,
         x.first.len as u64,
-        bit(1 < shown),
+        u64::from(1 < shown),
         x.second.at as u64,
         x.second.len as u64,
         x.key as u64,
@@ -46,6 +46,7 @@ fn refusal_words(x: Refusal, decoded: usize) -> [u64; 16]
     ]
 }
 
+// What reading says of a file: the counts of those accepted, or the refusal; then how many bytes were decoded.
 fn verdict_words(v: Verdict, decoded: usize) -> [u64; 16]
     ensures { result ≡ verdict_words v decoded }
 {
@@ -72,6 +73,7 @@ fn verdict_words(v: Verdict, decoded: usize) -> [u64; 16]
     }
 }
 
+// Number, place, bytes written: of a text that was made, or why none was.
 fn answer_words(a: TextAnswer) -> [u64; 3]
     ensures { result ≡ answer_words a }
 {
@@ -81,6 +83,7 @@ fn answer_words(a: TextAnswer) -> [u64; 3]
     }
 }
 
+// Number and place: of a copy between rows and columns, both 0 where it was made.
 fn columns_words(a: Result<(), Fault>) -> [u64; 2]
     ensures { result ≡ columns_words a }
 {
@@ -90,6 +93,7 @@ fn columns_words(a: Result<(), Fault>) -> [u64; 2]
     }
 }
 
+// Number, place, definitions, members that bear names of no row.
 fn order_words(a: Result<Ordered, Fault>) -> [u64; 4]
     ensures { result ≡ order_words a }
 {
@@ -99,16 +103,16 @@ fn order_words(a: Result<Ordered, Fault>) -> [u64; 4]
     }
 }
 
-fn bit(yes: bool) -> u64
-    ensures { result ≡ bit yes }
-{
-    u64::from(yes)
-}
-
+// Whether the part lies in what was lent, as 1 or 0; then its source, start and length.
 fn part_words(yes: bool, t: Triple) -> [u64; 4]
     ensures { result ≡ part_words yes t }
 {
-    [bit(yes), t.source as u64, t.start as u64, t.len as u64]
+    [
+        u64::from(yes),
+        t.source as u64,
+        t.start as u64,
+        t.len as u64,
+    ]
 }
 
 // Reads a file into the tables lent; one in UTF-16 is decoded into the fourth buffer.

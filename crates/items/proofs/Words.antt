@@ -12,9 +12,13 @@ use lib.Dec.{eqb}
 use Rattle.slices.specs.Bytes.{if}
 use Rattle.tables.specs.Triple.{shown}
 use Rattle.tables.specs.declared.Triple.{Triple}
-use Rattle.items.specs.Words.{Word, absent, shown_by}
+use Rattle.items.specs.Words.{Word, word_at, absent, shown_by}
 use Rattle.items.specs.Content.{present}
 use Rattle.items.proofs.Rows.{row_word}
+
+-- a word, as the definition has it
+pub word_is : {ws : List ℕ} {i k v : ℕ} → Word ws i k v → v ≡ word_at ws i k
+word_is w = w.is
 
 -- a word, as one of the words that begin with the row
 pub word_in : {ws : List ℕ} {i k a : ℕ} → Word ws i k a → a ≡ get_or (drop (i * 16) ws) k 0

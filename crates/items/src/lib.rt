@@ -7,7 +7,7 @@ ghost use Rattle.items.specs.Words.{Word, TripleIs, absent};
 
 use tables::Triple;
 
-// Word k of row i.
+// Word k of row i. Words go by their numbers, as in docs/FORMAT.md and in the definitions.
 pub fn word(rows: &[u32], i: usize, k: usize) -> u32
     requires inside { k < 16 }
     requires held { i * 16 + 16 ≤ length rows.now }
@@ -29,7 +29,7 @@ pub fn triple(rows: &[u32], i: usize, k: usize) -> Triple
     }
 }
 
-// Three zeros. Three tests, since a pattern of a triple takes a line for each word.
+// Three zeros. Three tests: a pattern of a triple takes a line for each word, and a derived `==` would want a constant of three zeros.
 pub fn is_absent(t: Triple) -> bool
     ensures { result ≡ absent t }
 {

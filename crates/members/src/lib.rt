@@ -1,4 +1,5 @@
 // Members: annotation, arg, property, method, signal.
+// That a parent is small is a clause of its own, as in `elements`: the parent is no part of what `Ready` speaks of.
 #![tactic(auto)]
 
 ghost use Rattle.std.specs.Prelude.{◌+◌, ◌≤◌, ◌<◌, [], true, false, length};

@@ -12,6 +12,7 @@ use Rattle.slices.specs.Bytes.{bytes}
 use Rattle.tables.proofs.Tables.{empty_stands}
 use Rattle.answers.specs.Text.{text, wrong, roomy, Says, Finishes}
 use Rattle.answers.specs.Puts.{Puts}
+use Rattle.answers.proofs.Answers.{told, finished}
 use Rattle.answers.proofs.Putting.{puts_then}
 use Rattle.references.specs.Unescape.{unescape}
 use Rattle.references.specs.Outcome.{Checks, Shows}
@@ -89,4 +90,4 @@ module _ {room : ℕ} {u : List ℕ} {r : Result ℕ Fault} where
     pub second_bad : {s : List ℕ} → excerpt_of doc t ≡ text s → excerpt_of doc t' ≡ wrong 19 0 → Says (wrong 19 0) room u r → Unexpected doc t t' room u r
     second_bad h e s = record { says = λ x f g. rw (f, g, h, e) s }
 
-pub ruleset framing = (around, unescapes, plain_made, framed_made, mismatched_made, unescaped_made, unescaped_bad, named_made, named_bad, valued_made, valued_bad, unexpected_made, first_bad, second_bad, rules)
+pub ruleset framing = (told, finished, around, unescapes, plain_made, framed_made, mismatched_made, unescaped_made, unescaped_bad, named_made, named_bad, valued_made, valued_bad, unexpected_made, first_bad, second_bad, rules)

@@ -10,6 +10,7 @@ use Rattle.std.specs.Prelude.{Result}
 use Rattle.faults.specs.declared.Fault.{Fault}
 use Rattle.slices.specs.Bytes.{bytes}
 use Rattle.answers.specs.Text.{Text, text, wrong, roomy, Says}
+use Rattle.answers.proofs.Answers.{told}
 use Rattle.messages.specs.Texts.{Entry, words, pieces_of, refusals, warnings, key_name}
 use Rattle.messages.specs.Message.{excerpt_of, present, joined, framed, message_by}
 use Rattle.messages.specs.Steps.{NoneOf, PlainText, NoText, Plainly, Missing, NoKey, Lacking, Turned, Malformed, NoReason, Warned}
@@ -80,6 +81,6 @@ module _ {room : ℕ} {u : List ℕ} {r : Result ℕ Fault} where
   pub warned_unknown : {doc : List ℕ} {name : Wide} {reason : ℕ} → (reason ≡ 1 → ⊥) → NoReason reason → Says (wrong 19 0) room u r → Warned doc reason name room u r
   warned_unknown h n s = record { says = λ x f. rw (n.is h) s }
 
-pub ruleset cutting = (text_told, text_none, lacking_told, lacking_unknown, warned_first, warned_told, warned_unknown, rules)
+pub ruleset cutting = (told, text_told, text_none, lacking_told, lacking_unknown, warned_first, warned_told, warned_unknown, rules)
 
 pub ruleset texts = (text_by, malformed_by, rules)

@@ -6,6 +6,7 @@ ghost use Rattle.answers.specs.Text.{Says};
 ghost use Rattle.messages.specs.Message.{message_of, warning_message_of, widened};
 
 use answers::TextAnswer;
+use faults::Fault;
 use parts::Part;
 use tables::Triple;
 
@@ -13,7 +14,7 @@ mod parts;
 mod shown;
 mod texts;
 
-// A triple of whatever words: source, start, length.
+// A triple of whatever words: source, start, length. Not `tables::Triple`: the words of the interface for C are of 64 bits.
 #[derive(Clone, Copy)]
 pub struct Wide {
     pub source: u64,
@@ -53,7 +54,7 @@ pub fn message(document: &[u8], told: Told, out: &mut [u8]) -> TextAnswer
         return texts::plainly(number, out);
     }
     if 1048576 < document.len() {
-        return answers::refuse(out, 2, 1048576);
+        return answers::refuse(out, Fault::new(2, 1048576));
     }
     texts::told(Part { bytes: document }, told, out)
 }
@@ -71,7 +72,7 @@ pub fn warning_message(
         (length out.old) out.new result }
 {
     if 1048576 < document.len() {
-        return answers::refuse(out, 2, 1048576);
+        return answers::refuse(out, Fault::new(2, 1048576));
     }
     let name = Wide::from(Triple {
         source: 1,

@@ -8,6 +8,7 @@ ghost use Rattle.messages.specs.Steps.{Around, Unescaped, Mismatched, Unexpected
 use crate::Wide;
 use crate::parts::{Frame, Part};
 use answers::{TextAnswer, put};
+use faults::Fault;
 
 // Whether a triple shows something: its source is 1, it is inside the document, and what it shows is UTF-8.
 #[tactic(auto, using(crate::proofs::Excerpts::excerpts))]
@@ -47,7 +48,7 @@ pub fn plain(words: &[u8], out: &mut [u8]) -> TextAnswer
         out.new result }
 {
     let n = put::put_bytes(out, 0, words);
-    answers::finish(out, n, 21, n)
+    answers::finish(out, n, Fault::new(21, n))
 }
 
 // Puts a part of a document, with words around it.
@@ -67,7 +68,7 @@ fn framed(part: Part, frame: Frame, out: &mut [u8]) -> TextAnswer
         (length out.old) out.new result }
 {
     let n = put_framed(part, frame, out);
-    answers::finish(out, n, 21, n)
+    answers::finish(out, n, Fault::new(21, n))
 }
 
 // Words around what a triple shows.
@@ -78,7 +79,7 @@ pub fn named(document: Part, t: Wide, frame: Frame, out: &mut [u8]) -> TextAnswe
 {
     match excerpt(document, t) {
         Some(shown) => framed(shown, frame, out),
-        None => answers::refuse(out, 19, 0),
+        None => answers::refuse(out, Fault::new(19, 0)),
     }
 }
 
@@ -99,10 +100,10 @@ fn unescaped(value: Part, frame: Frame, out: &mut [u8]) -> TextAnswer
         (length out.old) out.new result }
 {
     match references::check(value.bytes) {
-        Err(_) => answers::refuse(out, 19, 0),
+        Err(_) => answers::refuse(out, Fault::new(19, 0)),
         Ok(()) => {
             let n = put_unescaped(value, frame, out);
-            answers::finish(out, n, 21, n)
+            answers::finish(out, n, Fault::new(21, n))
         }
     }
 }
@@ -116,7 +117,7 @@ pub fn valued(document: Part, t: Wide, frame: Frame, out: &mut [u8]) -> TextAnsw
 {
     match excerpt(document, t) {
         Some(value) => unescaped(value, frame, out),
-        None => answers::refuse(out, 19, 0),
+        None => answers::refuse(out, Fault::new(19, 0)),
     }
 }
 
@@ -132,7 +133,7 @@ fn mismatched(closing: Part, element: Part, out: &mut [u8]) -> TextAnswer
     let first = put_framed(closing, tag, out);
     let second = put::put_bytes(out, first, element.bytes);
     let n = put::put_bytes(out, second, b">`");
-    answers::finish(out, n, 21, n)
+    answers::finish(out, n, Fault::new(21, n))
 }
 
 // 6: the closing tag's name, and the open element's.
@@ -143,6 +144,6 @@ pub fn unexpected(document: Part, closing: Wide, element: Wide, out: &mut [u8]) 
 {
     match (excerpt(document, closing), excerpt(document, element)) {
         (Some(tag), Some(name)) => mismatched(tag, name, out),
-        _ => answers::refuse(out, 19, 0),
+        _ => answers::refuse(out, Fault::new(19, 0)),
     }
 }

@@ -5,6 +5,7 @@ ghost use Rattle.messages.specs.Steps.{PlainText, NoText, Plainly, Missing, NoKe
 use crate::parts::{Frame, Part};
 use crate::{Told, Wide, shown};
 use answers::TextAnswer;
+use faults::Fault;
 
 // The text of a number that shows nothing, if it has one.
 #[tactic(auto, using(crate::proofs::Numbers::texts))]
@@ -16,7 +17,7 @@ fn plain_text(number: u64) -> Option<&'static [u8]>
         1 => Some(b"not UTF-8"),
         2 => Some(b"over-long"),
         3 => Some(b"missing root element"),
-        4 => Some(b"malformed markup"),
+        4 | 22..=25 => Some(b"malformed markup"),
         7 => Some(b"maximum element nesting depth exceeded"),
         9 => Some(b"unterminated entity reference"),
         13 => Some(b"bad name"),
@@ -26,10 +27,6 @@ fn plain_text(number: u64) -> Option<&'static [u8]>
         19 => Some(b"unsound rows"),
         20 => Some(b"not writable"),
         21 => Some(b"output short"),
-        22 => Some(b"malformed markup"),
-        23 => Some(b"malformed markup"),
-        24 => Some(b"malformed markup"),
-        25 => Some(b"malformed markup"),
         26 => Some(b"odd number of bytes"),
         27 => Some(b"lone surrogate"),
         28 => Some(b"circular types"),
@@ -46,7 +43,7 @@ pub fn plainly(number: u64, out: &mut [u8]) -> TextAnswer
 {
     match plain_text(number) {
         Some(text) => shown::plain(text, out),
-        None => answers::refuse(out, 19, 0),
+        None => answers::refuse(out, Fault::new(19, 0)),
     }
 }
 
@@ -71,7 +68,7 @@ fn lacking(document: Part, name: Wide, key: u64, out: &mut [u8]) -> TextAnswer
 {
     match missing(key) {
         Some(before) => shown::named(document, name, Frame::new(before, b">`"), out),
-        None => answers::refuse(out, 19, 0),
+        None => answers::refuse(out, Fault::new(19, 0)),
     }
 }
 
@@ -156,6 +153,6 @@ pub fn warned(document: Part, reason: u32, name: Wide, out: &mut [u8]) -> TextAn
             Frame::new(b"malformed element `<", after),
             out,
         ),
-        None => answers::refuse(out, 19, 0),
+        None => answers::refuse(out, Fault::new(19, 0)),
     }
 }

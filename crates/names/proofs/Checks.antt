@@ -3,6 +3,7 @@
 use Prim.Native.Nat.{ℕ, ◌+◌, ◌-◌, ◌*◌, ◌≤◌, ◌<◌}
 use mathlib.Core.Path.{◌≡◌, refl, ap, sym, subst, ◌∙◌}
 use mathlib.Core.Bool.{Bool, true, false, ◌||◌, and-true, and-false, or-false}
+use mathlib.Core.Logic.{◌⊎◌, inl, inr}
 use mathlib.Core.List.{List, [], ◌∷◌}
 use Rattle.std.proofs.Common.{Option, None, Some}
 use borrow.Author.Rules.{rules}
@@ -77,11 +78,15 @@ module _ {s : List ℕ} {at a p : ℕ} where
     pub type_deep : get_or s at 0 ≡ 40 → 32 ≤ p → Typed s at a p None
     type_deep e l = refused 40 e (λ os c. rw (le-ltb (count is_parenthesis os) 32 (omega (arith, c.of_parentheses))))
 
-    pub type_nested : get_or s at 0 ≡ 97 → 32 ≤ a → Typed s at a p None
+    type_nested : get_or s at 0 ≡ 97 → 32 ≤ a → Typed s at a p None
     type_nested e l = refused 97 e (λ os c. rw (le-ltb (count is_array os) 32 (omega (arith, c.of_arrays))))
 
-    pub type_none : {r : Bool} → r ≡ basic_code (get_or s at 0) → r ≡ false → (get_or s at 0 ≡ 118 → ⊥) → (get_or s at 0 ≡ 40 → ⊥) → (get_or s at 0 ≡ 97 → ⊥) → Typed s at a p None
-    type_none e q v o n = refused (get_or s at 0) refl (λ os c. let t : basic_code (get_or s at 0) ≡ false = sym e ∙ q in rw (t, ne_eqb _ _ v, ne_eqb _ _ n, ne_eqb _ _ o))
+    type_other : {r : Bool} → r ≡ basic_code (get_or s at 0) → r ≡ false → (get_or s at 0 ≡ 118 → ⊥) → (get_or s at 0 ≡ 40 → ⊥) → (get_or s at 0 ≡ 97 → ⊥) → Typed s at a p None
+    type_other e q v o n = refused (get_or s at 0) refl (λ os c. let t : basic_code (get_or s at 0) ≡ false = sym e ∙ q in rw (t, ne_eqb _ _ v, ne_eqb _ _ n, ne_eqb _ _ o))
+
+    pub type_none : {r : Bool} → r ≡ basic_code (get_or s at 0) → r ≡ false → (get_or s at 0 ≡ 118 → ⊥) → (get_or s at 0 ≡ 40 → ⊥) → (get_or s at 0 ≡ 97 → ⊥) ⊎ ((get_or s at 0 ≡ 97) × (32 ≤ a)) → Typed s at a p None
+    type_none e q v o (inl n) = type_other e q v o n
+    type_none e q v o (inr n) = type_nested n.0 n.1
 
     pub type_struct : {r : Option ℕ} → get_or s at 0 ≡ 40 → p < 32 → Fielded s (at + 1) a (p + 1) r → Typed s at a p r
     type_struct {r} e l f = record {
@@ -206,7 +211,7 @@ module _ {s : List ℕ} {at a p : ℕ} where
 pub field_falls : {s : List ℕ} {at a p : ℕ} {r : Option ℕ} (e t : ℕ) → Typed s at a p r → r ≡ Some e → 2 * (length s - at) + 1 ≡ t → 2 * (length s - e) + 1 < t
 field_falls {s} {at} {a} {p} e t f q m = let g : Typed s at a p (Some e) = rw q at f in omega (arith, g.onward)
 
-pub ruleset types = (type_end, type_basic, type_variant, type_deep, type_nested, type_none, type_struct, type_bare, type_dict, type_array, rules)
+pub ruleset types = (type_end, type_basic, type_variant, type_deep, type_none, type_struct, type_bare, type_dict, type_array, rules)
 
 pub ruleset field_lists = (field_bad, field_end, field_close, field_more, field_falls, rules)
 

@@ -11,14 +11,14 @@ ghost use Rattle.names.specs.Checks.{Element, Typed, Fielded, Entered};
 fn is_digit(b: u8) -> bool
     ensures { result ≡ digit b }
 {
-    matches!(b, b'0'..=b'9')
+    b.is_ascii_digit()
 }
 
 // A letter, a digit or `_`.
 fn is_element_byte(b: u8) -> bool
     ensures { result ≡ element_byte b }
 {
-    matches!(b, b'A'..=b'Z' | b'a'..=b'z' | b'0'..=b'9' | b'_')
+    b == b'_' || b.is_ascii_digit() || b.is_ascii_alphabetic()
 }
 
 // The end of the element of a name at a place; the place itself where there is none.
@@ -144,10 +144,7 @@ fn complete(s: &[u8], at: usize, arrays: u32, parens: u32) -> Option<usize>
         }
         return fields(s, at + 1, arrays, parens + 1);
     }
-    if b != b'a' {
-        return None;
-    }
-    if 32 <= arrays {
+    if b != b'a' || 32 <= arrays {
         return None;
     }
     let next = at + 1;
@@ -172,7 +169,7 @@ pub fn signature(s: &[u8]) -> bool
         return s[0] == b'v' || basic(s[0]);
     }
     let mut at = 0;
-    // The next place is what the call found, so no range has it.
+    // The next place is what the call found, so no range gives it.
     while at < s.len() {
         match complete(s, at, 0, 0) {
             None => return false,

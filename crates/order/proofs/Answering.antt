@@ -3,12 +3,14 @@
 use Prim.Native.Nat.{ℕ, ◌≤◌, ◌<◌}
 use mathlib.Core.Path.{◌≡◌, refl, sym, ap, subst, ◌∙◌}
 use mathlib.Core.List.{List}
+use mathlib.Core.Bool.{Bool}
 use borrow.Author.Rules.{rules}
 use borrow.Author.Tests.{lt-ltb, le-ltb}
 use native.Mathlib.Nat.{mul-one}
 use native.Mathlib.Omega.{arith}
 use lib.ListN.{length, replicate}
-use Rattle.tables.specs.Table.{Wiped}
+use Rattle.utf8.proofs.Sequences.{below}
+use Rattle.tables.specs.Table.{Rep, Wiped}
 use Rattle.tables.proofs.Tables.{clear_all, clear_rest}
 use Rattle.items.specs.Words.{rows_shown}
 use Rattle.items.specs.Content.{Row}
@@ -16,78 +18,83 @@ use Rattle.items.proofs.Rows.{sound_claimed, sound_held}
 use Rattle.soundness.specs.Outcome.{Admits}
 use Rattle.soundness.proofs.Rows.{admitted, refused_as, admitted_as}
 use Rattle.order.specs.Relation.{order, Chain}
-use Rattle.order.specs.Types.{definitions, uses}
+use Rattle.order.specs.Types.{definitions, uses, undefined}
 use Rattle.order.specs.Ordering.{wrong, types_ordered, checked, ordering, Says}
 use Rattle.std.specs.Prelude.{Result, Ok, Err, Option as Maybe, None, Some}
 use Rattle.faults.specs.Fault.{fault}
 use Rattle.faults.specs.declared.Fault.{Fault}
 use Rattle.order.specs.declared.Ordered.{Ordered}
-use Rattle.order.specs.Steps.{Held, GivenOut, Clear, CircleFound, CountsUndefined, CountsDefinitions, Finishes, OrdersSound, Answers, Orders}
+use Rattle.order.specs.Steps.{Held, GivenOut, Clear, CircleFound, CountsUndefined, CountsDefinitions, Leaves, Finishes, OrdersSound, Answers, Orders}
 use Rattle.order.proofs.Lists.{clash}
 use Rattle.order.proofs.Taking.{order_orders}
 use Rattle.order.proofs.Tables.{definitions_ascend, used_listed}
 use Rattle.order.proofs.Theorems.{at_circle, no_circle, stops, none_on_circle}
 
-pub refused : {t t' : List ℕ} {n p : ℕ} → Wiped 0 t t' → Says (wrong n p) (length t) t' (Err (fault n p))
+pub refused : {t t' : List ℕ} {f : Fault} → Wiped 0 t t' → Says (wrong f.number f.place) (length t) t' (Err f)
 refused {t} z = record { answer = refl; left = z.is ∙ clear_all t }
 
 pub ruleset refusals = (refused, rules)
 
 -- ---- all were given out
 
-module _ {t : List Row} {marks out : List ℕ} {c : ℕ} (g : GivenOut t marks out c) where
-  given_count : length (order (uses t) (definitions t)) ≡ c
-  given_count = g.stands.many ∙ mul-one c
+module _ {out out' : List ℕ} {c u : ℕ} where
+  pub leave_short : {r : Result Ordered Fault} {f : Fault} → length out < c → f ≡ fault 18 c → Says (wrong f.number f.place) (length out) out' r → Leaves out c u out' r
+  leave_short h q s = record { short = λ l. rw q at s; fits = λ l. absurd (omega arith) }
 
-  given_all : ((i : ℕ) → Chain (uses t) i i → ⊥) → c ≡ length (definitions t)
-  given_all free = sym given_count ∙ (order_orders (uses t) (definitions t) (used_listed t) free (definitions_ascend t)).count
-
-  -- no row given out is on a circle
-  pub given_clear : Clear t marks
-  given_clear = record { none = λ k f q. clash (g.marked k f) (none_on_circle t k q) }
-
-module _ {t : List Row} {marks out out' : List ℕ} {c : ℕ} where
-  pub finish_short : {r : Result Ordered Fault} → length out < c → Says (wrong 18 c) (length out) out' r → Finishes t marks out c out' r
-  finish_short {r} h s = record {
-    says = λ g free.
-        let e = given_all g free in
-        rw (no_circle (length out) t free, ← e, lt-ltb (length out) c h) s;
+  pub leave_fits : c ≤ length out → Wiped c out out' → Leaves out c u out' (Ok (record { definitions = c; unnamed = u }))
+  leave_fits h z = record {
+    short = λ l. absurd (omega arith);
+    fits = λ l rows s.
+        let k : length rows ≡ c = s.many ∙ mul-one c in
+        record { answer = rw k; left = z.is ∙ rw k (rw mul-one at (clear_rest {w = 1} (omega arith) s (rw mul-one h))) };
   }
 
-  pub finish_fits : {u : ℕ} → c ≤ length out → CountsUndefined t u → Wiped c out out' → Finishes t marks out c out' (Ok (record { definitions = c; unnamed = u }))
-  finish_fits {u} h v z = record {
-    says = λ g free.
-        let e = given_all g free in
-        let k = given_count g in
-        rw (no_circle (length out) t free, ← e, le-ltb (length out) c h) record {
-          answer = rw (k, ← v.is);
-          left = z.is ∙ rw k (rw mul-one at (clear_rest {w = 1} (omega arith) g.stands (rw mul-one h)));
-        };
-  }
+pub ruleset leaving = (leave_short, leave_fits, rules)
 
-pub ruleset finishing = (finish_short, finish_fits, rules)
+-- ---- the order, where no row is on a circle
+
+given_count : (t : List Row) {out : List ℕ} {c : ℕ} → Rep 1 out c (order (uses t) (definitions t)) → length (order (uses t) (definitions t)) ≡ c
+given_count t {c = c} s = s.many ∙ mul-one c
+
+-- no row given out is on a circle
+pub given_clear : {t : List Row} {marks : List Bool} {out : List ℕ} {c : ℕ} → GivenOut t marks out c → Clear t marks
+given_clear {t} g = record { none = λ k f q. clash (g.marked k f) (none_on_circle t k q) }
+
+-- c definitions, which no circle holds back
+pub leaves_order : (t : List Row) {out out' : List ℕ} {c u : ℕ} {r : Result Ordered Fault} → ((i : ℕ) → Chain (uses t) i i → ⊥) → c ≡ length (definitions t) → u ≡ undefined t → (c ≤ length out → Rep 1 out c (order (uses t) (definitions t))) → Leaves out c u out' r → Says (types_ordered (length out) t) (length out) out' r
+leaves_order t {out} {out'} {c} {u} {r} free e v s f =
+    rw (no_circle (length out) t free, ← e, ← v)
+    (below (length out) c
+    (λ l. rw (lt-ltb (length out) c l) (f.short l))
+    (λ l. rw (le-ltb (length out) c l) (f.fits l (order (uses t) (definitions t)) (s l))))
+
+pub finish_leaves : {t : List Row} {out out' : List ℕ} {c u : ℕ} {r : Result Ordered Fault} → CountsUndefined t u → Leaves out c u out' r → Finishes t out c out' r
+finish_leaves {t} v f = record {
+  says = λ s free.
+      let o = order_orders (uses t) (definitions t) (used_listed t) free (definitions_ascend t) in
+      leaves_order t free (sym (given_count t s) ∙ o.count) v.is (λ l. s) f;
+}
+
+pub ruleset finishing = (finish_leaves, rules)
 
 -- ---- a circle, or none
 
-module _ {t : List Row} {marks out out' : List ℕ} {c m : ℕ} {r : Result Ordered Fault} (g : GivenOut t marks out c) (k : CountsDefinitions t m) where
-  pub conclude_circle : {a : Maybe ℕ} {p : ℕ} → CircleFound t a → a ≡ Some p → Says (wrong 28 p) (length out) out' r → OrdersSound t (length out) out' r
-  conclude_circle {p = p} f e s = record { says = rw ((at_circle (length out) t p).1 (f.some p e)) s }
+module _ {t : List Row} {marks : List Bool} {out out' : List ℕ} {c m : ℕ} {r : Result Ordered Fault} (g : GivenOut t marks out c) (k : CountsDefinitions t m) where
+  pub conclude_circle : {a : Maybe ℕ} {p : ℕ} {x : Fault} → CircleFound t a → a ≡ Some p → x ≡ fault 28 p → Says (wrong x.number x.place) (length out) out' r → OrdersSound t (length out) out' r
+  conclude_circle {p = p} f e q s = record { says = rw ((at_circle (length out) t p).1 (f.some p e)) (rw q at s) }
 
-  pub conclude_none : {a : Maybe ℕ} → CircleFound t a → a ≡ None → Finishes t marks out c out' r → OrdersSound t (length out) out' r
-  conclude_none f e h = record { says = h.says g (f.none e) }
+  pub conclude_none : {a : Maybe ℕ} → CircleFound t a → a ≡ None → Finishes t out c out' r → OrdersSound t (length out) out' r
+  conclude_none f e h = record { says = h.says g.stands (f.none e) }
 
-  pub conclude_free : m ≤ c → Finishes t marks out c out' r → OrdersSound t (length out) out' r
-  conclude_free h f = record { says = f.says g (λ i q. omega (arith, h, given_count g, k.is, (stops t).1 (i, q))) }
+  pub conclude_free : m ≤ c → Finishes t out c out' r → OrdersSound t (length out) out' r
+  conclude_free h f = record { says = f.says g.stands (λ i q. omega (arith, h, given_count t g.stands, k.is, (stops t).1 (i, q))) }
 
 pub ruleset concluding = (given_clear, conclude_circle, conclude_none, conclude_free, rules)
 
-pub as_long : {t : List Row} {room c : ℕ} {marks out out₁ : List ℕ} {r : Result Ordered Fault} → GivenOut t marks out₁ c → OrdersSound t (length out₁) out r → length out₁ ≡ room → OrdersSound t room out r
+pub as_long : {t : List Row} {room c : ℕ} {marks : List Bool} {out out₁ : List ℕ} {r : Result Ordered Fault} → GivenOut t marks out₁ c → OrdersSound t (length out₁) out r → length out₁ ≡ room → OrdersSound t room out r
 as_long g s e = rw e at s
 
-pub given_long : {t : List Row} {ws marks out : List ℕ} {n c : ℕ} → GivenOut t marks out c → Held ws n → n ≤ length marks
-given_long g h = omega (arith, g.long, h.few)
-
-pub ruleset sounds = (as_long, given_long, rules)
+pub ruleset sounds = (as_long, rules)
 
 -- ---- any table
 

@@ -304,14 +304,14 @@ next_is {d} {x} {ws} {work} {out} {n} {k} {r} {a} {s} {b} {c} {q} l g f h v y m 
 
 pub ruleset nexts = (next_never, placed_runs, next_is, row_held, rules)
 
-module _ {work out : List ℕ} {n count r : ℕ} where
-  pub place_never : {t : List Row} → IsPlaced t n work out count r false
+module _ {work out : List ℕ} {n r : ℕ} where
+  pub place_never : {t : List Row} → IsPlaced t n work out r false
   place_never = record { is = λ e. clash e refl }
 
-  pub place_other : {d x ws : List ℕ} {b q : Bool} → r < n → Defines d x ws r b → b ≡ false → IsPlaced (rows_shown d x ws n) n work out count r q
+  pub place_other : {d x ws : List ℕ} {b q : Bool} → r < n → Defines d x ws r b → b ≡ false → IsPlaced (rows_shown d x ws n) n work out r q
   place_other {d} {x} {ws} l f h = record { is = λ e m. clash m (defined_at d x ws n r l ∙ sym f.is ∙ h) }
 
-  pub place_here : {t : List Row} {k y : ℕ} → Got work (n + r) k → k < count → Got out k y → IsPlaced t n work out count r (eqb y r)
+  pub place_here : {t : List Row} {k y : ℕ} → Got work (n + r) k → k < length out → Got out k y → IsPlaced t n work out r (eqb y r)
   place_here {t} {k} {y} g l f = record {
     is = λ e m. record { below = omega (arith, g.is); is = rw (← g.is, ← f.is) (eqb-true y r e) };
   }
@@ -319,8 +319,8 @@ module _ {work out : List ℕ} {n count r : ℕ} where
 pub ruleset placing = (place_never, place_other, place_here, row_held, rules)
 
 -- each of n rows stands at its place, or some does not
-pub placed_all : (d x ws work out : List ℕ) (n count : ℕ) (r : Bool) → MatchBool r (AllWithin (λ k. IsPlaced (rows_shown d x ws n) n work out count k true) (range_with_len 0 n) 0 (length (range_with_len 0 n))) ((k : ℕ) × (k < length (range_with_len 0 n)) × HoldsAt (λ k. IsPlaced (rows_shown d x ws n) n work out count k false) (range_with_len 0 n) k) → ArePlaced (rows_shown d x ws n) n work out count r
-placed_all d x ws work out n count true h = record {
-  is = λ e r m. (each_below (λ k. IsPlaced (rows_shown d x ws n) n work out count k true) n h r (defined_below d x ws n r m)).is refl m;
+pub placed_all : (d x ws work out : List ℕ) (n : ℕ) (r : Bool) → MatchBool r (AllWithin (λ k. IsPlaced (rows_shown d x ws n) n work out k true) (range_with_len 0 n) 0 (length (range_with_len 0 n))) ((k : ℕ) × (k < length (range_with_len 0 n)) × HoldsAt (λ k. IsPlaced (rows_shown d x ws n) n work out k false) (range_with_len 0 n) k) → ArePlaced (rows_shown d x ws n) n work out r
+placed_all d x ws work out n true h = record {
+  is = λ e r m. (each_below (λ k. IsPlaced (rows_shown d x ws n) n work out k true) n h r (defined_below d x ws n r m)).is refl m;
 }
-placed_all d x ws work out n count false h = record { is = λ e. clash e refl }
+placed_all d x ws work out n false h = record { is = λ e. clash e refl }

@@ -1,24 +1,24 @@
 -- Laws of the answer by a certificate: the first row on a circle, or the order.
 -- Assumes nothing.
 use Prim.Native.Nat.{ℕ, ◌≤◌, ◌<◌}
-use mathlib.Core.Path.{◌≡◌, refl, sym}
-use mathlib.Core.List.{List}
+use mathlib.Core.Path.{◌≡◌, refl, sym, ap, ◌∙◌}
+use mathlib.Core.List.{List, [], ◌∷◌}
 use mathlib.Core.Bool.{Bool, true, false}
 use borrow.Author.Rules.{rules}
-use borrow.Author.Tests.{lt-ltb}
 use native.Mathlib.Omega.{arith}
-use lib.ListN.{length, get_or, take, length-take, replicate}
+use lib.ListN.{length, get_or, take, length-take}
 use lib.Seq.{get_or-take}
-use Rattle.tables.specs.Table.{Rep, Wiped}
+use Rattle.tables.specs.Table.{Rep}
 use Rattle.items.specs.Words.{rows_shown}
 use Rattle.items.specs.Content.{Row}
 use Rattle.order.specs.Relation.{order, Chain}
 use Rattle.order.specs.Types.{definitions, uses}
 use Rattle.order.specs.Ordering.{wrong, Says}
-use Rattle.std.specs.Prelude.{Result, Ok, Option, None, Some, is_some}
+use Rattle.std.specs.Prelude.{Result, Option, None, Some, is_some}
+use Rattle.faults.specs.Fault.{fault}
 use Rattle.faults.specs.declared.Fault.{Fault}
 use Rattle.order.specs.declared.Ordered.{Ordered}
-use Rattle.order.specs.Steps.{GivenOut, CountsUndefined, CountsDefinitions, OrdersSound}
+use Rattle.order.specs.Steps.{CountsDefinitions, Leaves, OrdersSound}
 use Rattle.order.specs.Certificate.{number, run_of, Late, Members, IsCircle, IsFirst, IsNoted, IsOrder, Certain, IsCertain}
 use Rattle.utf8.proofs.Sequences.{below}
 use Rattle.order.proofs.Lists.{clash}
@@ -26,9 +26,8 @@ use Rattle.order.proofs.Keeping.{run_some}
 use Rattle.order.proofs.Circles.{chain_listed}
 use Rattle.order.proofs.Tables.{definitions_ascend, used_listed}
 use Rattle.order.proofs.Waiting.{defined_below}
-use Rattle.order.proofs.Reaching.{blank_zeros}
-use Rattle.order.proofs.Theorems.{at_circle, no_circle}
-use Rattle.order.proofs.Answering.{finish_fits}
+use Rattle.order.proofs.Theorems.{at_circle}
+use Rattle.order.proofs.Answering.{leaves_order}
 use Rattle.order.proofs.Certifying.{circle_past, At, places_order}
 
 -- ---- the first row on a circle
@@ -51,6 +50,10 @@ pub ruleset firsts = (first_never, first-is, rules)
 
 -- ---- an order, or no room for it
 
+take_length : (l : List ℕ) → take (length l) l ≡ l
+take_length [] = refl
+take_length (x ∷ l) = ap (◌∷◌ x) (take_length l)
+
 pub certain_never : {t : List Row} {out : List ℕ} {count : ℕ} → IsCertain t out count None
 certain_never = record { is = λ u e. let z : ◌≡◌ {A = ℕ} 0 1 = cc in absurd (omega arith) }
 
@@ -63,8 +66,8 @@ module _ {d x ws work : List ℕ} {n u : ℕ} {r : Option ℕ} (m : Members d x 
   uncircled i f =
       omega (arith, past m h i f, defined_below d x ws n i (chain_listed (uses (rows_shown d x ws n)) (definitions (rows_shown d x ws n)) (used_listed (rows_shown d x ws n)) f))
 
-  module _ {out : List ℕ} {count : ℕ} {c : Bool} (o : IsOrder d x ws n work out count c) (e : c ≡ true) (l : count ≤ length out) where
-    certified : (k : ℕ) → k < count → At (uses (rows_shown d x ws n)) (definitions (rows_shown d x ws n)) (number n work) (λ k. run_of n work (get_or out k 0)) out k
+  module _ {out : List ℕ} {c : Bool} (o : IsOrder d x ws n work out c) (e : c ≡ true) where
+    certified : (k : ℕ) → k < length out → At (uses (rows_shown d x ws n)) (definitions (rows_shown d x ws n)) (number n work) (λ k. run_of n work (get_or out k 0)) out k
     certified k g =
         let p = (o.before e).is k g in
         record { listed = p.definition; numbered = p.numbered; run = p.run; ready = ready (get_or out k 0) p.noted }
@@ -75,19 +78,22 @@ module _ {d x ws work : List ℕ} {n u : ℕ} {r : Option ℕ} (m : Members d x 
             (λ l. m.noted u h (omega arith) r (q.within refl l) (q.member refl l) (run_some work n r l) i f)
             (λ l. omega arith)
 
-    order_taken : order (uses (rows_shown d x ws n)) (definitions (rows_shown d x ws n)) ≡ take count out
+    order_taken : order (uses (rows_shown d x ws n)) (definitions (rows_shown d x ws n)) ≡ out
     order_taken =
         places_order (uses (rows_shown d x ws n)) (definitions (rows_shown d x ws n)) (used_listed (rows_shown d x ws n))
-        (number n work) (λ k. run_of n work (get_or out k 0)) out count l
+        (number n work) (λ k. run_of n work (get_or out k 0)) out (length out) (omega arith)
         (λ i j a v. (m.falls u h i j v).less (defined_below d x ws n i a))
         certified
         (λ r a. let s = o.stands e r a in (s.below, s.is))
         (definitions_ascend (rows_shown d x ws n))
+        ∙ take_length out
 
+  -- where the first words lent are these rows
+  module _ {out : List ℕ} {count : ℕ} {c : Bool} (o : IsOrder d x ws n work (take count out) c) (e : c ≡ true) (l : count ≤ length out) where
     order_stands : Rep 1 out count (order (uses (rows_shown d x ws n)) (definitions (rows_shown d x ws n)))
     order_stands =
         let y : length (take count out) ≡ count = simp length-take (omega arith) in
-        rw order_taken record {
+        rw (order_taken o e) record {
           many = omega (arith, y);
           holds = λ k g q. sym (get_or-take count out k 0 (omega (arith, y)));
         }
@@ -96,7 +102,7 @@ module _ {d x ws work out : List ℕ} {n count u : ℕ} {r : Option ℕ} (m : Me
   pub certain_short : length out < count → IsCertain (rows_shown d x ws n) out count (Some u)
   certain_short l = certain record { free = uncircled m h; order = λ k. absurd (omega arith); undefined = m.count u h }
 
-  pub certain_order : {c : Bool} → count ≤ length out → IsOrder d x ws n work out count c → c ≡ true → IsCertain (rows_shown d x ws n) out count (Some u)
+  pub certain_order : {c : Bool} → count ≤ length out → IsOrder d x ws n work (take count out) c → c ≡ true → IsCertain (rows_shown d x ws n) out count (Some u)
   certain_order l o e = certain record { free = uncircled m h; order = order_stands m h o e; undefined = m.count u h }
 
 pub ruleset certainties = (certain_never, certain_short, certain_order, rules)
@@ -104,19 +110,15 @@ pub ruleset certainties = (certain_never, certain_short, certain_order, rules)
 -- ---- the answer
 
 module _ {t : List Row} {out out' : List ℕ} {c u : ℕ} {a : Option ℕ} (k : CountsDefinitions t c) (f : IsCertain t out c a) (e : a ≡ Some u) where
-  pub finish_none : {r : Result Ordered Fault} → length out < c → Says (wrong 18 c) (length out) out' r → OrdersSound t (length out) out' r
-  finish_none h s = record { says = rw (no_circle (length out) t (f.is u e).free, ← k.is, lt-ltb (length out) c h) s }
+  pub certain_leaves : {r : Result Ordered Fault} → Leaves out c u out' r → OrdersSound t (length out) out' r
+  certain_leaves h =
+      let w = f.is u e in
+      record { says = leaves_order t w.free k.is w.undefined w.order h }
 
-  pub finish_all : c ≤ length out → Wiped c out out' → OrdersSound t (length out) out' (Ok (record { definitions = c; unnamed = u }))
-  finish_all h z =
-      let v : CountsUndefined t u = record { is = (f.is u e).undefined } in
-      let g : GivenOut t (replicate 262144 0) out c = record { stands = (f.is u e).order h; marked = λ i q. absurd (q (blank_zeros.zeros i)); long = blank_zeros.long } in
-      record { says = (finish_fits h v z).says g (f.is u e).free }
+pub ruleset certain_finish = (certain_leaves, rules)
 
-pub ruleset certain_finish = (finish_none, finish_all, rules)
-
-pub circled_answer : {t : List Row} {out : List ℕ} {p room : ℕ} {b : Bool} {r : Result Ordered Fault} → IsFirst t p b → b ≡ true → Says (wrong 28 p) room out r → OrdersSound t room out r
-circled_answer {t} {p = p} {room = room} f e s = record { says = rw ((at_circle room t p).1 (f.is e)) s }
+pub circled_answer : {t : List Row} {out : List ℕ} {p room : ℕ} {b : Bool} {r : Result Ordered Fault} {x : Fault} → IsFirst t p b → b ≡ true → x ≡ fault 28 p → Says (wrong x.number x.place) room out r → OrdersSound t room out r
+circled_answer {t} {p = p} {room = room} f e q s = record { says = rw ((at_circle room t p).1 (f.is e)) (rw q at s) }
 
 pub kept_room : {t : List Row} {room room' : ℕ} {out : List ℕ} {r : Result Ordered Fault} → OrdersSound t room' out r → room' ≡ room → OrdersSound t room out r
 kept_room s e = rw e at s

@@ -9,7 +9,6 @@ use borrow.Author.Rules.{rules}
 use borrow.Author.Tests.{ne_eqb}
 use native.Mathlib.Nat.{add-zero, zero-add}
 use native.Mathlib.Omega.{arith}
-use lib.Dec.{eqb}
 use lib.ListN.{length, drop, get_or}
 use Rattle.std.specs.Prelude.{Option as Maybe, None, Some, MatchOption}
 use Rattle.std.specs.Bool.{MatchBool}
@@ -94,7 +93,7 @@ defined_below d x ws n i m = omega (arith, definitions_past 0 (rows_shown d x ws
 
 -- ---- the rows left
 
-module _ (t : List Row) (marks : List ℕ) where
+module _ (t : List Row) (marks : List Bool) where
   pub left_among : (k : ℕ) → among k (left_in t marks) ≡ if (among k (definitions t)) (unmarked marks k) false
   unfolding left_in
   left_among k = keep_among (unmarked marks) k (definitions t)
@@ -125,13 +124,13 @@ any_append (x ∷ a) b l = go (among x l) (any_append a b l)
     go true h = refl
     go false h = h
 
-referred_left : (t : List Row) (marks : List ℕ) (tp : Option (List ℕ)) (n : ℕ) (r : Maybe ℕ) (b : Bool) → Finds (target t false tp) n r → IsLeft marks r b → any_among (referred_by t tp) (left_in t marks) ≡ if b true (any_among (listed (target t true tp)) (left_in t marks))
+referred_left : (t : List Row) (marks : List Bool) (tp : Option (List ℕ)) (n : ℕ) (r : Maybe ℕ) (b : Bool) → Finds (target t false tp) n r → IsLeft marks r b → any_among (referred_by t tp) (left_in t marks) ≡ if b true (any_among (listed (target t true tp)) (left_in t marks))
 referred_left t marks tp n r b f l =
     ap (λ (js : List ℕ). any_among js (left_in t marks)) (referred_targets t tp)
     ∙ any_append (listed (target t false tp)) (listed (target t true tp)) (left_in t marks)
     ∙ ap (λ (c : Bool). if c true (any_among (listed (target t true tp)) (left_in t marks))) (found_left t marks false tp n r b f l)
 
-module _ {d x ws marks : List ℕ} {n m : ℕ} {r : Maybe ℕ} {b : Bool} (f : Target d x ws n false m r) (l : IsLeft marks r b) where
+module _ {d x ws : List ℕ} {marks : List Bool} {n m : ℕ} {r : Maybe ℕ} {b : Bool} (f : Target d x ws n false m r) (l : IsLeft marks r b) where
   pub member_whole : b ≡ true → MemberWaits d x ws n marks m true
   member_whole e = record { is = sym (referred_left (rows_shown d x ws n) marks (shown_at d x ws m).tp n r b f.finds l ∙ rw e) }
 
@@ -143,18 +142,18 @@ module _ {d x ws marks : List ℕ} {n m : ℕ} {r : Maybe ℕ} {b : Bool} (f : T
 pub row_held : {ws : List ℕ} {n i : ℕ} → Held ws n → i < n → i * 16 + 16 ≤ length ws
 row_held h l = omega (arith, h.held)
 
-module _ {marks : List ℕ} {r : Maybe ℕ} where
+module _ {marks : List Bool} {r : Maybe ℕ} where
   pub left_past : r ≡ None → IsLeft marks r false
   left_past e = record { some = λ k q. absurd (cc); none = λ q. refl }
 
-  pub left_here : {i : ℕ} → r ≡ Some i → IsLeft marks r (eqb (get_or marks i 0) 0)
+  pub left_here : {i : ℕ} → r ≡ Some i → IsLeft marks r (not (get_or marks i false))
   left_here {i} e = record { some = λ k q. let z : i ≡ k = cc in rw z; none = λ q. absurd (cc) }
 
 pub ruleset lefts = (left_past, left_here, place_within, rules)
 
 -- a row found is one of the rows marked
-pub target_within : {d x ws : List ℕ} {n k m : ℕ} {less : Bool} {r : Maybe ℕ} → Target d x ws n less m r → n ≤ k → Within r k
-target_within f h = record { is = λ i e. omega (arith, f.finds.within.is i e) }
+pub target_within : {d x ws : List ℕ} {n m : ℕ} {less : Bool} {r : Maybe ℕ} → Target d x ws n less m r → Held ws n → Within r 262144
+target_within f h = record { is = λ i e. omega (arith, f.finds.within.is i e, h.few) }
 
 pub ruleset members = (target_within, member_whole, member_less, row_held, rules)
 
@@ -171,7 +170,7 @@ waiting_step t i row rest left b e = go (member_in i row) e
     go false e = rw e
 
 -- a row that is a member and waits, or none
-module _ (d x ws marks : List ℕ) (n i : ℕ) where
+module _ (d x ws : List ℕ) (marks : List Bool) (n i : ℕ) where
   rest : ℕ → Bool
   rest k = any_among (targets_in (rows_shown d x ws n) i (drop k (rows_shown d x ws n))) (left_in (rows_shown d x ws n) marks)
 
@@ -228,18 +227,18 @@ uses_any_lem t i l =
     (λ e. let h = any_in (targets t i) l e in
     case (uses_any (uses t) i l) (λ p. p) (λ p. clash h.2 (uses_none (uses t) i l p h.0 (uses_targets t i h.0 ∙ h.1))))
 
-left_is : (d x ws : List ℕ) (n : ℕ) (marks : List ℕ) (i : ℕ) (b : Bool) → i < n → Defines d x ws i b → among i (left_in (rows_shown d x ws n) marks) ≡ if b (unmarked marks i) false
+left_is : (d x ws : List ℕ) (n : ℕ) (marks : List Bool) (i : ℕ) (b : Bool) → i < n → Defines d x ws i b → among i (left_in (rows_shown d x ws n) marks) ≡ if b (unmarked marks i) false
 left_is d x ws n marks i b l a = left_among (rows_shown d x ws n) marks i ∙ rw (defined_at d x ws n i l, ← a.is)
 
-module _ {d x ws marks : List ℕ} {n i : ℕ} {b : Bool} (l : i < n) (a : Defines d x ws i b) where
+module _ {d x ws : List ℕ} {marks : List Bool} {n i : ℕ} {b : Bool} (l : i < n) (a : Defines d x ws i b) where
   pub ready_other : {r : Bool} → b ≡ false → r ≡ b → IsReady d x ws n marks i r
   ready_other e q = record { is = q ∙ rw (left_is d x ws n marks i b l a, e) }
 
   module _ (e : b ≡ true) where
-    pub ready_given : {r : Bool} → r ≡ eqb (get_or marks i 0) 0 → r ≡ false → IsReady d x ws n marks i r
+    pub ready_given : {r : Bool} → r ≡ not (get_or marks i false) → r ≡ false → IsReady d x ws n marks i r
     ready_given q f = record { is = rw (f, left_is d x ws n marks i b l a, e, sym q ∙ f) }
 
-    pub ready_left : {r w : Bool} → r ≡ eqb (get_or marks i 0) 0 → r ≡ true → Waits d x ws n marks i w → IsReady d x ws n marks i (not w)
+    pub ready_left : {r w : Bool} → r ≡ not (get_or marks i false) → r ≡ true → Waits d x ws n marks i w → IsReady d x ws n marks i (not w)
     ready_left q f w = record {
       is = rw (left_is d x ws n marks i b l a, e, sym q ∙ f, uses_any_lem (rows_shown d x ws n) i (left_in (rows_shown d x ws n) marks), ← w.is);
     }
@@ -249,7 +248,7 @@ pub ruleset readiness = (ready_other, ready_given, ready_left, row_held, rules)
 -- ---- the first ready row
 
 -- no row before row k is left and ready
-passed_to : {d x ws marks : List ℕ} {n k : ℕ} → ((j : ℕ) → j < k → IsReady d x ws n marks j false) → (j : ℕ) → j < k → among j (left_in (rows_shown d x ws n) marks) ≡ true → ready (uses (rows_shown d x ws n)) (left_in (rows_shown d x ws n) marks) j ≡ false
+passed_to : {d x ws : List ℕ} {marks : List Bool} {n k : ℕ} → ((j : ℕ) → j < k → IsReady d x ws n marks j false) → (j : ℕ) → j < k → among j (left_in (rows_shown d x ws n) marks) ≡ true → ready (uses (rows_shown d x ws n)) (left_in (rows_shown d x ws n) marks) j ≡ false
 passed_to {d} {x} {ws} {marks} {n} f j l m = go (among j (left_in (rows_shown d x ws n) marks)) (ready (uses (rows_shown d x ws n)) (left_in (rows_shown d x ws n) marks) j) m (f j l).is
   where
     go : (c r : Bool) → c ≡ true → false ≡ if c r false → r ≡ false
@@ -264,7 +263,7 @@ passed_here left p k g e = go (among k left) refl (sym e)
     go true c f = record { listed = c; holds = f; least = λ j m q. below j k (λ o. clash q (g j o m)) (λ o. o) }
 
 -- the first of n rows that is left and ready, or none
-pub ready_first : (d x ws marks : List ℕ) (n : ℕ) (r : Maybe ℕ) → MatchOption r ((k : ℕ) → 0 ≤ k → k < n → IsReady d x ws n marks k false) (λ i. (0 ≤ i) × (i < n) × IsReady d x ws n marks i true × ((k : ℕ) → 0 ≤ k → k < i → IsReady d x ws n marks k false)) → NextReady (rows_shown d x ws n) n marks r
+pub ready_first : (d x ws : List ℕ) (marks : List Bool) (n : ℕ) (r : Maybe ℕ) → MatchOption r ((k : ℕ) → 0 ≤ k → k < n → IsReady d x ws n marks k false) (λ i. (0 ≤ i) × (i < n) × IsReady d x ws n marks i true × ((k : ℕ) → 0 ≤ k → k < i → IsReady d x ws n marks k false)) → NextReady (rows_shown d x ws n) n marks r
 ready_first d x ws marks n None h = record {
   some = λ i e. absurd (cc);
   within = λ i e. absurd (cc);

@@ -144,23 +144,23 @@ pub record IsNext (d x ws : List ℕ) (n : ℕ) (work out : List ℕ) (k : ℕ) 
 pub record PlacedBefore (d x ws : List ℕ) (n : ℕ) (work out : List ℕ) (k : ℕ) : Type 0 where
   pub is : (i : ℕ) → i < k → Placed d x ws n work out i
 
-pub record IsAscending (d x ws : List ℕ) (n : ℕ) (work out : List ℕ) (count : ℕ) (b : Bool) : Type 0 where
-  pub is : b ≡ true → PlacedBefore d x ws n work out count
+pub record IsAscending (d x ws : List ℕ) (n : ℕ) (work out : List ℕ) (b : Bool) : Type 0 where
+  pub is : b ≡ true → PlacedBefore d x ws n work out (length out)
 
 -- row r stands at the place of its number
-pub record Stands (n : ℕ) (work out : List ℕ) (count r : ℕ) : Type 0 where
-  pub below : number n work r < count
+pub record Stands (n : ℕ) (work out : List ℕ) (r : ℕ) : Type 0 where
+  pub below : number n work r < length out
   pub is : get_or out (number n work r) 0 ≡ r
 
-pub record IsPlaced (t : List Row) (n : ℕ) (work out : List ℕ) (count r : ℕ) (b : Bool) : Type 0 where
-  pub is : b ≡ true → among r (definitions t) ≡ true → Stands n work out count r
+pub record IsPlaced (t : List Row) (n : ℕ) (work out : List ℕ) (r : ℕ) (b : Bool) : Type 0 where
+  pub is : b ≡ true → among r (definitions t) ≡ true → Stands n work out r
 
-pub record ArePlaced (t : List Row) (n : ℕ) (work out : List ℕ) (count : ℕ) (b : Bool) : Type 0 where
-  pub is : b ≡ true → (r : ℕ) → among r (definitions t) ≡ true → Stands n work out count r
+pub record ArePlaced (t : List Row) (n : ℕ) (work out : List ℕ) (b : Bool) : Type 0 where
+  pub is : b ≡ true → (r : ℕ) → among r (definitions t) ≡ true → Stands n work out r
 
-pub record IsOrder (d x ws : List ℕ) (n : ℕ) (work out : List ℕ) (count : ℕ) (b : Bool) : Type 0 where
-  pub before : b ≡ true → PlacedBefore d x ws n work out count
-  pub stands : b ≡ true → (r : ℕ) → among r (definitions (rows_shown d x ws n)) ≡ true → Stands n work out count r
+pub record IsOrder (d x ws : List ℕ) (n : ℕ) (work out : List ℕ) (b : Bool) : Type 0 where
+  pub before : b ≡ true → PlacedBefore d x ws n work out (length out)
+  pub stands : b ≡ true → (r : ℕ) → among r (definitions (rows_shown d x ws n)) ≡ true → Stands n work out r
 
 -- no row is on a circle, with room for them the first words are the order, and u members bear names of no row
 pub record Certain (t : List Row) (out : List ℕ) (count u : ℕ) : Type 0 where

@@ -1,6 +1,6 @@
 -- What the functions that look names up and give rows out say.
 -- Assumes nothing.
-use Rattle.std.specs.Prelude.{ℕ, ◌+◌, ◌*◌, ◌-◌, ◌≤◌, ◌<◌, ◌≡◌, List, [], ◌∷◌, Bool, true, false, not, ◌&&◌, eqb, length, get_or, set, drop, replicate, Result, Option as Maybe, Some, None}
+use Rattle.std.specs.Prelude.{ℕ, ◌+◌, ◌*◌, ◌-◌, ◌≤◌, ◌<◌, ◌≡◌, List, [], ◌∷◌, Bool, true, false, not, ◌&&◌, length, get_or, set, drop, replicate, Result, Option as Maybe, Some, None}
 use Rattle.std.proofs.Math.Option.{Option, none, some}
 use Rattle.slices.specs.Bytes.{if, same}
 use Rattle.tables.specs.Table.{Rep}
@@ -10,9 +10,11 @@ use Rattle.items.specs.Content.{Row, present}
 use Rattle.order.specs.Relation.{order, ready, Chain, FirstOnCircle}
 use Rattle.order.specs.Types.{defines, definitions, first_named, member_in, uses, typed, defined, is_undefined, undefined}
 use Rattle.order.specs.Lookup.{of_array, element, referred_by, targets}
-use Rattle.order.specs.Ordering.{types_ordered, ordering, Says}
+use Rattle.order.specs.Ordering.{types_ordered, ordering, ordered, wrong, Says}
 use Rattle.faults.specs.declared.Fault.{Fault}
 use Rattle.order.specs.declared.Ordered.{Ordered}
+use Rattle.order.specs.declared.chains.Mark.{Mark}
+use Rattle.order.specs.declared.chains.Mark.TheVariants.{Unreached, Reached, Followed}
 
 -- n rows are held
 pub record Held (ws : List ℕ) (n : ℕ) : Type 0 where
@@ -94,15 +96,15 @@ pub record Target (d x ws : List ℕ) (n : ℕ) (less : Bool) (m : ℕ) (r : May
 
 -- ---- the rows left
 
--- those not marked
+-- those not given out
 abbrev pub keep : (ℕ → Bool) → List ℕ → List ℕ
 keep p [] = []
 keep p (i ∷ l) = let r = keep p l in if (p i) (i ∷ r) r
 
-abbrev pub unmarked : List ℕ → ℕ → Bool
-unmarked marks k = eqb (get_or marks k 0) 0
+abbrev pub unmarked : List Bool → ℕ → Bool
+unmarked marks k = not (get_or marks k false)
 
-unfoldable pub left_in : List Row → List ℕ → List ℕ
+unfoldable pub left_in : List Row → List Bool → List ℕ
 left_in t marks = keep (unmarked marks) (definitions t)
 
 -- some of the rows js are left
@@ -111,21 +113,21 @@ any_among [] left = false
 any_among (j ∷ js) left = let r = any_among js left in if (among j left) true r
 
 -- whether row i, if there is one, is left; whether member m, row k as a member of row i, or row i waits for a row left
-pub record IsLeft (marks : List ℕ) (i : Maybe ℕ) (r : Bool) : Type 0 where
+pub record IsLeft (marks : List Bool) (i : Maybe ℕ) (r : Bool) : Type 0 where
   pub some : (k : ℕ) → i ≡ Some k → r ≡ unmarked marks k
   pub none : i ≡ None → r ≡ false
 
-pub record MemberWaits (d x ws : List ℕ) (n : ℕ) (marks : List ℕ) (m : ℕ) (r : Bool) : Type 0 where
+pub record MemberWaits (d x ws : List ℕ) (n : ℕ) (marks : List Bool) (m : ℕ) (r : Bool) : Type 0 where
   pub is : r ≡ any_among (referred_by (rows_shown d x ws n) (shown_at d x ws m).tp) (left_in (rows_shown d x ws n) marks)
 
-pub record WaitsIn (d x ws : List ℕ) (n : ℕ) (marks : List ℕ) (i k : ℕ) (r : Bool) : Type 0 where
+pub record WaitsIn (d x ws : List ℕ) (n : ℕ) (marks : List Bool) (i k : ℕ) (r : Bool) : Type 0 where
   pub is : r ≡ if (member_in i (shown_at d x ws k)) (any_among (referred_by (rows_shown d x ws n) (shown_at d x ws k).tp) (left_in (rows_shown d x ws n) marks)) false
 
-pub record Waits (d x ws : List ℕ) (n : ℕ) (marks : List ℕ) (i : ℕ) (r : Bool) : Type 0 where
+pub record Waits (d x ws : List ℕ) (n : ℕ) (marks : List Bool) (i : ℕ) (r : Bool) : Type 0 where
   pub is : r ≡ any_among (targets (rows_shown d x ws n) i) (left_in (rows_shown d x ws n) marks)
 
 -- whether row i is left and ready
-pub record IsReady (d x ws : List ℕ) (n : ℕ) (marks : List ℕ) (i : ℕ) (r : Bool) : Type 0 where
+pub record IsReady (d x ws : List ℕ) (n : ℕ) (marks : List Bool) (i : ℕ) (r : Bool) : Type 0 where
   pub is :
       r
       ≡ if (among i (left_in (rows_shown d x ws n) marks)) (ready (uses (rows_shown d x ws n)) (left_in (rows_shown d x ws n) marks) i) false
@@ -137,25 +139,23 @@ pub record First (p : ℕ → Bool) (l : List ℕ) (i : ℕ) : Type 0 where
   pub least : (k : ℕ) → among k l ≡ true → p k ≡ true → i ≤ k
 
 -- r is the first of the rows left that is ready; or none is
-pub record NextReady (t : List Row) (n : ℕ) (marks : List ℕ) (r : Maybe ℕ) : Type 0 where
+pub record NextReady (t : List Row) (n : ℕ) (marks : List Bool) (r : Maybe ℕ) : Type 0 where
   pub some : (i : ℕ) → r ≡ Some i → First (ready (uses t) (left_in t marks)) (left_in t marks) i
   pub within : (i : ℕ) → r ≡ Some i → i < n
   pub none : r ≡ None → (k : ℕ) → among k (left_in t marks) ≡ true → ready (uses t) (left_in t marks) k ≡ false
 
--- no row is marked
-pub record Blank (marks : List ℕ) : Type 0 where
-  pub long : length marks ≡ 262144
-  pub zeros : (k : ℕ) → get_or marks k 0 ≡ 0
+-- no row is marked as given out
+pub record Blank (marks : List Bool) : Type 0 where
+  pub none : (k : ℕ) → get_or marks k false ≡ false
 
--- row i is marked
-pub record Marks (i : ℕ) (before after : List ℕ) : Type 0 where
-  pub is : after ≡ set before i 1
+-- row i is marked as given out
+pub record Marks (i : ℕ) (before after : List Bool) : Type 0 where
+  pub is : after ≡ set before i true
 
 -- all rows were given out that come to be ready: c of them, of which those that have room stand in the words lent; marks are theirs
-pub record GivenOut (t : List Row) (marks out : List ℕ) (c : ℕ) : Type 0 where
+pub record GivenOut (t : List Row) (marks : List Bool) (out : List ℕ) (c : ℕ) : Type 0 where
   pub stands : Rep 1 out c (order (uses t) (definitions t))
-  pub marked : (k : ℕ) → (get_or marks k 0 ≡ 0 → ⊥) → among k (order (uses t) (definitions t)) ≡ true
-  pub long : length marks ≡ 262144
+  pub marked : (k : ℕ) → get_or marks k false ≡ true → among k (order (uses t) (definitions t)) ≡ true
 
 -- ---- counts
 
@@ -178,47 +178,62 @@ pub record CountsDefinitions (t : List Row) (r : ℕ) : Type 0 where
 
 -- ---- circles
 
--- marks: 0; 1 for a row that is reached; 2 for one whose targets are reached too
-abbrev pub reached : ℕ → ℕ
-reached m = if (eqb m 0) 1 m
+-- no row is reached
+pub record Unmarked (marks : List Mark) : Type 0 where
+  pub none : (k : ℕ) → get_or marks k Unreached ≡ Unreached
 
--- how much is left to do
-abbrev pub todo : List ℕ → ℕ
+-- the mark of a row that is reached, if not before
+abbrev pub reached : Mark → Mark
+reached Unreached = Reached
+reached Reached = Reached
+reached Followed = Followed
+
+-- how much is left to do: of a row; of all
+abbrev pub steps_of : Mark → ℕ
+steps_of Unreached = 2
+steps_of Reached = 1
+steps_of Followed = 0
+
+abbrev pub todo : List Mark → ℕ
 todo [] = 0
-todo (m ∷ ms) = 2 - m + todo ms
+todo (m ∷ ms) = steps_of m + todo ms
 
 -- the rows js are reached
-pub record Marked (js before after : List ℕ) : Type 0 where
-  pub is : (k : ℕ) → get_or after k 0 ≡ if (among k js) (reached (get_or before k 0)) (get_or before k 0)
+pub record Marked (js : List ℕ) (before after : List Mark) : Type 0 where
+  pub is : (k : ℕ) → get_or after k Unreached ≡ if (among k js) (reached (get_or before k Unreached)) (get_or before k Unreached)
   pub less : todo after ≤ todo before
 
 -- row j, if there is one, is reached; the rows that member m refers to are; those that it refers to as a member of row i; those
 -- that row i uses
-pub record Reached (j : Maybe ℕ) (before after : List ℕ) : Type 0 where
+pub record RowReached (j : Maybe ℕ) (before after : List Mark) : Type 0 where
   pub some : (k : ℕ) → j ≡ Some k → Marked (k ∷ []) before after
   pub none : j ≡ None → Marked [] before after
 
-pub record MemberReached (d x ws : List ℕ) (n m : ℕ) (before after : List ℕ) : Type 0 where
+pub record MemberReached (d x ws : List ℕ) (n m : ℕ) (before after : List Mark) : Type 0 where
   pub is : Marked (referred_by (rows_shown d x ws n) (shown_at d x ws m).tp) before after
 
-pub record ReachedIn (d x ws : List ℕ) (n i m : ℕ) (before after : List ℕ) : Type 0 where
+pub record ReachedIn (d x ws : List ℕ) (n i m : ℕ) (before after : List Mark) : Type 0 where
   pub is : Marked (if (member_in i (shown_at d x ws m)) (referred_by (rows_shown d x ws n) (shown_at d x ws m).tp) []) before after
 
-pub record TargetsReached (t : List Row) (i : ℕ) (before after : List ℕ) : Type 0 where
+pub record TargetsReached (t : List Row) (i : ℕ) (before after : List Mark) : Type 0 where
   pub is : Marked (targets t i) before after
 
--- r is the first of n rows with mark 1, or none has it
-pub record NextReached (marks : List ℕ) (n : ℕ) (r : Maybe ℕ) : Type 0 where
-  pub some : (k : ℕ) → r ≡ Some k → get_or marks k 0 ≡ 1
-  pub within : (k : ℕ) → r ≡ Some k → k < n
-  pub none : r ≡ None → (j : ℕ) → j < n → get_or marks j 0 ≡ 1 → ⊥
+-- whether row k is reached and not followed
+pub record IsReached (marks : List Mark) (k : ℕ) (r : Bool) : Type 0 where
+  pub is : r ≡ true → get_or marks k Unreached ≡ Reached
+  pub exact : get_or marks k Unreached ≡ Reached → r ≡ true
 
--- a search from row p: a chain leads from it to each row with a mark, to the targets of p and to those of rows with mark 2
-pub record Searching (d x ws : List ℕ) (n p : ℕ) (t : List ℕ) : Type 0 where
-  pub sound : (j : ℕ) → (get_or t j 0 ≡ 0 → ⊥) → Chain (uses (rows_shown d x ws n)) p j
-  pub from : (j : ℕ) → uses (rows_shown d x ws n) p j ≡ true → get_or t j 0 ≡ 0 → ⊥
-  pub closed : (i : ℕ) → get_or t i 0 ≡ 2 → (j : ℕ) → uses (rows_shown d x ws n) i j ≡ true → get_or t j 0 ≡ 0 → ⊥
-  pub small : (i : ℕ) → get_or t i 0 ≤ 2
+-- r is the first of n rows that is reached and not followed, or none is
+pub record NextReached (marks : List Mark) (n : ℕ) (r : Maybe ℕ) : Type 0 where
+  pub some : (k : ℕ) → r ≡ Some k → get_or marks k Unreached ≡ Reached
+  pub within : (k : ℕ) → r ≡ Some k → k < n
+  pub none : r ≡ None → (j : ℕ) → j < n → get_or marks j Unreached ≡ Reached → ⊥
+
+-- a search from row p: a chain leads from it to each row that is reached; the rows that p uses are, and those that rows use that are followed
+pub record Searching (d x ws : List ℕ) (n p : ℕ) (t : List Mark) : Type 0 where
+  pub sound : (j : ℕ) → (get_or t j Unreached ≡ Unreached → ⊥) → Chain (uses (rows_shown d x ws n)) p j
+  pub from : (j : ℕ) → uses (rows_shown d x ws n) p j ≡ true → get_or t j Unreached ≡ Unreached → ⊥
+  pub closed : (i : ℕ) → get_or t i Unreached ≡ Followed → (j : ℕ) → uses (rows_shown d x ws n) i j ≡ true → get_or t j Unreached ≡ Unreached → ⊥
   pub long : length t ≡ 262144
 
 -- whether a chain leads from row p to itself
@@ -226,9 +241,9 @@ pub record OnCircle (t : List Row) (p : ℕ) (r : Bool) : Type 0 where
   pub is : r ≡ true → Chain (uses t) p p
   pub exact : Chain (uses t) p p → r ≡ true
 
--- no row with a mark is on a circle
-pub record Clear (t : List Row) (marks : List ℕ) : Type 0 where
-  pub none : (k : ℕ) → (get_or marks k 0 ≡ 0 → ⊥) → Chain (uses t) k k → ⊥
+-- no row that is marked as given out is on a circle
+pub record Clear (t : List Row) (marks : List Bool) : Type 0 where
+  pub none : (k : ℕ) → get_or marks k false ≡ true → Chain (uses t) k k → ⊥
 
 -- r is the first row on a circle, or there is none
 pub record CircleFound (t : List Row) (r : Maybe ℕ) : Type 0 where
@@ -237,9 +252,14 @@ pub record CircleFound (t : List Row) (r : Maybe ℕ) : Type 0 where
 
 -- ---- the answer
 
--- what is answered and left where c rows were given out, and no row is on a circle
-pub record Finishes (t : List Row) (marks out : List ℕ) (c : ℕ) (out' : List ℕ) (r : Result Ordered Fault) : Type 0 where
-  pub says : GivenOut t marks out c → ((i : ℕ) → Chain (uses t) i i → ⊥) → Says (types_ordered (length out) t) (length out) out' r
+-- what is answered and left for c rows given out and u members that bear names of no row: 18 where the rows have no room
+pub record Leaves (out : List ℕ) (c u : ℕ) (out' : List ℕ) (r : Result Ordered Fault) : Type 0 where
+  pub short : length out < c → Says (wrong 18 c) (length out) out' r
+  pub fits : c ≤ length out → (rows : List ℕ) → Rep 1 out c rows → Says (ordered rows u) (length out) out' r
+
+-- what is answered and left where the c rows of the order were given out, and no row is on a circle
+pub record Finishes (t : List Row) (out : List ℕ) (c : ℕ) (out' : List ℕ) (r : Result Ordered Fault) : Type 0 where
+  pub says : Rep 1 out c (order (uses t) (definitions t)) → ((i : ℕ) → Chain (uses t) i i → ⊥) → Says (types_ordered (length out) t) (length out) out' r
 
 -- what is answered and left for a table whose rows are sound
 pub record OrdersSound (t : List Row) (room : ℕ) (out : List ℕ) (r : Result Ordered Fault) : Type 0 where

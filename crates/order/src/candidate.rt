@@ -1,9 +1,14 @@
 // A candidate order of type definitions. Nothing is proved of it but that it is safe and ends: certificate.rt checks what it leaves.
 // An edge is 2 * member + which + 1; `which` is 0 for the member's tp type as it is, 1 for what stands before its `[]`; 0 is no edge, since a
 // word lent for work holds a number alone.
-// The words for work, by row: of a definition, work[r] is 1 once it is given out, work[n + r] the first edge that leads to it and then its
-// number, work[2n + r] the edges that it waits for and then the last of them; of a member, work[n + r] and work[2n + r] are the edges that
-// come after its own in the lists that these are in, and then work[n + r] is where the row's run begins.
+// The words for work, of a definition in row r:
+// - work[r]: 0; 1 once it is given out.
+// - work[n + r]: the first edge that leads to it; once it is given out, its number.
+// - work[2n + r]: how many edges it waits for; once it is ready, the last of them.
+// Of a member in row r:
+// - work[r]: the row that it is in.
+// - work[n + r]: the edge that comes after its first edge in the list that this is in; for the check, where a row's run begins.
+// - work[2n + r]: the edge that comes after its second edge in the list that this is in.
 ghost use Rattle.std.specs.Prelude.{◌≡◌, ◌+◌, ◌*◌, ◌≤◌, ◌<◌, length};
 ghost use Rattle.order.specs.Table.{over};
 ghost use Rattle.order.specs.Certificate.{Kept};
@@ -15,50 +20,66 @@ use super::words::Word;
 use super::{certificate, definitions, index, words};
 use document::kinds;
 
-// ---- rows that are ready: a bit each, and bits for words that are not 0
+// ---- rows that are ready
 
-// Marks row r.
-fn mark(ready: &mut [u64; 4161], r: usize) {
-    if r < 262144 {
-        let low = r / 64;
-        let high = low / 64;
-        ready[low] |= 1 << (r % 64);
-        ready[4096 + high] |= 1 << (low % 64);
-        ready[4160] |= 1 << high;
-    }
+// Rows that are ready: a bit each; a bit for each of those words that is not 0; and a bit for each of these.
+#[derive(Drop)]
+struct Ready {
+    rows: [u64; 4096],
+    words: [u64; 64],
+    top: u64,
 }
 
 // The number of zeros below the lowest bit, at most 63.
 fn lowest(x: u64) -> usize
     ensures { result < 64 }
 {
-    u64::trailing_zeros(x) as usize % 64
+    x.trailing_zeros() as usize % 64
 }
 
 // All but the lowest bit.
 fn dropped(x: u64) -> u64 {
-    x & std::num::wrapping_sub_u64(x, 1)
+    x & x.wrapping_sub(1)
 }
 
-// The first row that is marked, which then is not.
-fn take(ready: &mut [u64; 4161]) -> Option<usize> {
-    let top = ready[4160];
-    if top == 0 {
-        return None;
-    }
-    let high = lowest(top);
-    let middle = ready[4096 + high];
-    let low = high * 64 + lowest(middle);
-    let bits = ready[low];
-    let row = low * 64 + lowest(bits);
-    ready[low] = dropped(bits);
-    if dropped(bits) == 0 {
-        ready[4096 + high] = dropped(middle);
-        if dropped(middle) == 0 {
-            ready[4160] = dropped(top);
+impl Ready {
+    // No row.
+    fn new() -> Ready {
+        Ready {
+            rows: [0; 4096],
+            words: [0; 64],
+            top: 0,
         }
     }
-    Some(row)
+
+    // Marks row r.
+    fn mark(&mut self, r: usize) {
+        if r < 262144 {
+            let low = r / 64;
+            let high = low / 64;
+            self.rows[low] |= 1 << (r % 64);
+            self.words[high] |= 1 << (low % 64);
+            self.top |= 1 << high;
+        }
+    }
+
+    // The first row that is marked, which then is not.
+    fn take(&mut self) -> Option<usize> {
+        if self.top == 0 {
+            return None;
+        }
+        let high = lowest(self.top);
+        let low = high * 64 + lowest(self.words[high]);
+        let row = low * 64 + lowest(self.rows[low]);
+        self.rows[low] = dropped(self.rows[low]);
+        if self.rows[low] == 0 {
+            self.words[high] = dropped(self.words[high]);
+            if self.words[high] == 0 {
+                self.top = dropped(self.top);
+            }
+        }
+        Some(row)
+    }
 }
 
 // ---- edges
@@ -113,32 +134,32 @@ fn link_all(table: &Table, heads: &[u32], work: &mut [u32])
 // ---- giving out
 
 // Row r is not given out; marks it if it is a definition that waits for nothing.
-fn start_row(table: &Table, work: &mut [u32], ready: &mut [u64; 4161], r: usize)
+fn start_row(table: &Table, work: &mut [u32], ready: &mut Ready, r: usize)
     requires { r < table.now.n }
 {
     if definitions::is_definition(table, r) {
         words::put(work, r, 0);
         if words::get_at(work, table.n, Word::Third, r) == 0 {
-            mark(ready, r);
+            ready.mark(r);
         }
     } else if let Some(i) = words::parent(table, r) {
         words::put(work, r, i);
     }
 }
 
-// The same for all rows.
-fn start(table: &Table, work: &mut [u32], ready: &mut [u64; 4161]) {
+// Notes of each row that it is not given out, and marks the definitions that wait for nothing.
+fn start(table: &Table, work: &mut [u32], ready: &mut Ready) {
     for r in 0..table.n {
         start_row(table, work, ready, r);
     }
 }
 
 // What row u waits for with edge e is given out.
-fn release(work: &mut [u32], n: usize, ready: &mut [u64; 4161], u: usize, e: usize) {
+fn release(work: &mut [u32], n: usize, ready: &mut Ready, u: usize, e: usize) {
     let waits = words::get_at(work, n, Word::Third, u);
     if waits == 1 {
         words::put_at(work, n, Word::Third, u, e);
-        mark(ready, u);
+        ready.mark(u);
         return;
     }
     if 1 < waits {
@@ -146,29 +167,16 @@ fn release(work: &mut [u32], n: usize, ready: &mut [u64; 4161], u: usize, e: usi
     }
 }
 
-// The same for each edge of a list.
-fn release_all(table: &Table, work: &mut [u32], ready: &mut [u64; 4161], first: usize) {
-    let mut e = first;
-    for _ in 0..2 * table.n {
-        if e == 0 {
-            return;
-        }
+// What the rows wait for with the edges of a list is given out.
+fn release_all(table: &Table, work: &mut [u32], ready: &mut Ready, first: usize) {
+    words::for_each_edge(work, table.n, first, |work, e| {
         let u = words::get(work, words::member(e));
-        let next = words::after(work, table.n, e);
         release(work, table.n, ready, u, e);
-        e = next;
-    }
+    });
 }
 
 // Gives out row r as the k-th.
-fn give(
-    table: &Table,
-    work: &mut [u32],
-    ready: &mut [u64; 4161],
-    out: &mut [u32],
-    k: usize,
-    r: usize,
-) {
+fn give(table: &Table, work: &mut [u32], ready: &mut Ready, out: &mut [u32], k: usize, r: usize) {
     let first = words::get_at(work, table.n, Word::Second, r);
     words::put(work, r, 1);
     words::put_at(work, table.n, Word::Second, r, k);
@@ -177,9 +185,9 @@ fn give(
 }
 
 // Gives out rows while some are ready, always the first, and says how many.
-fn give_out(table: &Table, work: &mut [u32], ready: &mut [u64; 4161], out: &mut [u32]) -> usize {
+fn give_out(table: &Table, work: &mut [u32], ready: &mut Ready, out: &mut [u32]) -> usize {
     for k in 0..table.n {
-        match take(ready) {
+        match ready.take() {
             Some(r) if r < table.n => give(table, work, ready, out, k, r),
             _ => return k,
         }
@@ -202,11 +210,11 @@ fn note_run(work: &mut [u32], n: usize, out: &[u32], k: usize)
     words::put_at(work, n, Word::Second, words::member(e), from);
 }
 
-// The same for each place.
-fn note_runs(work: &mut [u32], n: usize, out: &[u32], count: usize)
+// Notes for each place where the run before it begins.
+fn note_runs(work: &mut [u32], n: usize, out: &[u32])
     requires { n ≤ 262144 }
 {
-    for k in 0..count {
+    for k in 0..out.len() {
         note_run(work, n, out, k);
     }
 }
@@ -217,13 +225,13 @@ fn note_runs(work: &mut [u32], n: usize, out: &[u32], count: usize)
 pub fn order(table: &Table, heads: &[u32], work: &mut [u32], out: &mut [u32]) -> usize
     requires { over Indexed table.now heads.now work.old }
 {
-    let mut ready: [u64; 4161] = [0; 4161];
+    let mut ready = Ready::new();
     tables::clear_words(work, table.n);
     link_all(table, heads, work);
     start(table, work, &mut ready);
     let count = give_out(table, work, &mut ready, out);
     if count <= out.len() {
-        note_runs(work, table.n, out, count);
+        note_runs(work, table.n, &out[..count]);
     }
     count
 }

@@ -34,7 +34,8 @@ fn edge_falls(n: usize, work: &[u32], p: usize, i: usize, e: usize, target: Opti
     below < own && (noted != e || run(work, n, i) <= below + 1)
 }
 
-// If both edges of row m, if it is a member, lead so: whether its tp type bears the name of no row.
+// Whether row m is a member whose tp type bears the name of no row; or none, if it is a member and an edge of it leads otherwise than
+// `edge_falls` asks for.
 #[tactic(auto, using(crate::proofs::Checking::row_falling))]
 fn row_falls(by_name: &Index, p: usize, m: usize) -> Option<bool>
     requires { m < by_name.now.table.now.n }
@@ -158,7 +159,7 @@ fn is_noted(table: &Table, work: &[u32], r: usize, from: usize) -> bool
     from == 0 || (m < table.n && definitions::is_member(table, r, m))
 }
 
-// Whether the row at place k is a definition, has that number, and could not be given out before a greater one.
+// Whether the row at place k is a definition, has the place's number, and could not be given out before a greater one.
 fn is_next(table: &Table, work: &[u32], out: &[u32], k: usize) -> bool
     requires { over PlacedBefore table.now work.now out.now k }
     ensures { over IsNext table.now work.now out.now k result }
@@ -171,12 +172,12 @@ fn is_next(table: &Table, work: &[u32], out: &[u32], k: usize) -> bool
     is_noted(table, work, r, from) && is_above(work, table.n, out, k, r, from)
 }
 
-// The same for all places.
-fn is_ascending(table: &Table, work: &[u32], out: &[u32], count: usize) -> bool
-    ensures { over IsAscending table.now work.now out.now count result }
+// Whether the row at each place is a definition, has the place's number, and could not be given out before a greater one.
+fn is_ascending(table: &Table, work: &[u32], out: &[u32]) -> bool
+    ensures { over IsAscending table.now work.now out.now result }
 {
     // `for` and not `all`: each place is judged where the places before it are in order.
-    for k in 0..count {
+    for k in 0..out.len() {
         if !is_next(table, work, out, k) {
             return false;
         }
@@ -185,24 +186,24 @@ fn is_ascending(table: &Table, work: &[u32], out: &[u32], count: usize) -> bool
 }
 
 // Whether row r stands at the place of its number, if it is a definition.
-fn is_placed(table: &Table, work: &[u32], out: &[u32], count: usize, r: usize) -> bool
+fn is_placed(table: &Table, work: &[u32], out: &[u32], r: usize) -> bool
     requires { r < table.now.n }
-    ensures { IsPlaced (shown_rows table.now) table.now.n work.now out.now count r result }
+    ensures { IsPlaced (shown_rows table.now) table.now.n work.now out.now r result }
 {
     let k = words::get(work, table.n + r);
-    !definitions::is_definition(table, r) || (k < count && words::get(out, k) == r)
+    !definitions::is_definition(table, r) || (k < out.len() && words::get(out, k) == r)
 }
 
-// The same for all rows.
-fn are_placed(table: &Table, work: &[u32], out: &[u32], count: usize) -> bool
-    ensures { ArePlaced (shown_rows table.now) table.now.n work.now out.now count result }
+// Whether each row that is a definition stands at the place of its number.
+fn are_placed(table: &Table, work: &[u32], out: &[u32]) -> bool
+    ensures { ArePlaced (shown_rows table.now) table.now.n work.now out.now result }
 {
-    (0..table.n).all(|r| is_placed(table, work, out, count, r))
+    (0..table.n).all(|r| is_placed(table, work, out, r))
 }
 
-// Whether the rows at the first places are the order.
-pub fn is_order(table: &Table, work: &[u32], out: &[u32], count: usize) -> bool
-    ensures { over IsOrder table.now work.now out.now count result }
+// Whether these rows are the order.
+pub fn is_order(table: &Table, work: &[u32], out: &[u32]) -> bool
+    ensures { over IsOrder table.now work.now out.now result }
 {
-    are_placed(table, work, out, count) && is_ascending(table, work, out, count)
+    are_placed(table, work, out) && is_ascending(table, work, out)
 }

@@ -1,9 +1,14 @@
 // Numbers for rows that are not given out because of circles, the first row on a circle, and the edges of one circle through it. Nothing is
 // proved of them but that this is safe and ends: certificate.rt checks what it leaves.
 // Rows that use each other get one number, and a row's number is greater than those of the other rows that it uses: strongly connected
-// components by Pearce's form of Tarjan's algorithm, over the lists of edges that lead to a row. work[r] is the row's index, and then its
-// component's number; work[2n + r] is twice the edge by which the search came to the row, and one more where the row leads back; and then the
-// next row of the stack, as that row plus one, 0 for none (a word holds a number alone). work[m] of that edge's member m is the row that it leads to.
+// components by Pearce's form of Tarjan's algorithm, over the lists of edges that lead to a row.
+// The words for work, of a definition in row r (a word holds a number alone, so rows are kept plus one where 0 is for none):
+// - work[r]: 0; while it is searched from, its index, or that of the row to which it leads back; then its component's number.
+// - work[n + r]: the first edge that leads to it; for the check, its component's number.
+// - work[2n + r]: while it is searched from, twice the edge by which the search came to it, and one more where it leads back;
+//   then the next row of the stack plus one; for the check, its edge on the circle, 0 for none.
+// Of a member m, work[m] is for the search the row plus one that it came from by the member's edge, and for the circle the next row of the
+// stack plus one.
 ghost use Rattle.std.specs.Prelude.{◌≡◌, ◌+◌, ◌*◌, ◌≤◌, ◌<◌, length};
 
 use super::table::Table;
@@ -144,7 +149,7 @@ fn search_row(table: &Table, work: &mut [u32], w: Walk, r: usize) -> Walk
     search(table, work, w, r)
 }
 
-// The same for all rows.
+// Searches from each row that is a definition and is not numbered.
 fn search_all(table: &Table, work: &mut [u32]) {
     let mut w = Walk {
         row: 0,
@@ -160,7 +165,7 @@ fn search_all(table: &Table, work: &mut [u32]) {
 
 // ---- the first row on a circle
 
-// Whether a row of row r's own component uses it.
+// Whether a row of row r's own component uses it. Not by `for_each_edge`: it ends early, and only looks at the words.
 fn is_used(table: &Table, work: &[u32], r: usize) -> bool {
     let own = words::get(work, r);
     let mut e = words::get_at(work, table.n, Word::Second, r);
@@ -190,7 +195,7 @@ fn is_on_circle(table: &Table, work: &[u32], r: usize) -> bool
     is_left(table, work, r) && is_used(table, work, r)
 }
 
-// The first such row.
+// The first row that is on a circle.
 fn first_on_circle(table: &Table, work: &[u32]) -> Option<usize> {
     (0..table.n).find(|&r| is_on_circle(table, work, r))
 }
@@ -207,19 +212,15 @@ fn reach(work: &mut [u32], n: usize, own: usize, u: usize, e: usize, top: usize)
     words::more(u)
 }
 
-// The same for each edge that leads to row x.
+// Comes to each row of the component from which an edge leads to row x, and says what the top of the stack is.
 fn reach_all(table: &Table, work: &mut [u32], own: usize, x: usize, stack: usize) -> usize {
     let mut top = stack;
-    let mut e = words::get_at(work, table.n, Word::Second, x);
-    for _ in 0..2 * table.n {
-        if e == 0 {
-            return top;
-        }
+    let first = words::get_at(work, table.n, Word::Second, x);
+    words::for_each_edge(work, table.n, first, |work, e| {
         if let Some(u) = words::parent(table, words::member(e)) {
             top = reach(work, table.n, own, u, e, top);
         }
-        e = words::after(work, table.n, e);
-    }
+    });
     top
 }
 

@@ -49,7 +49,7 @@ fn is_undefined(table: &Table, m: usize) -> bool
     bears_none(table, m, whole, less)
 }
 
-// The number of such members.
+// The number of members whose tp type bears the name of no row.
 pub fn count_undefined(table: &Table) -> usize
     ensures { CountsUndefined (shown_rows table.now) result }
 {

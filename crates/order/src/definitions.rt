@@ -55,7 +55,7 @@ fn is_array(tp: &[u8], end: usize) -> bool
     slices::starts_at(tp, end, b"[]")
 }
 
-// What stands before that.
+// A type less its last two bytes.
 fn element<'a>(tp: &'a [u8], end: usize) -> &'a [u8]
     requires { LastTwo tp.now end }
     ensures { ElementIs tp.now result.now }
@@ -95,7 +95,8 @@ pub fn name_sought<'a>(table: &Table<'a>, less: bool, m: usize) -> Option<&'a [u
     }
 }
 
-// The row that the tp type of row m names, as it is or less the `[]` at its end.
+// The row that the tp type of row m names, as it is or less the `[]` at its end. Beside index's function of this name: each is two lines
+// over its own search for a name.
 #[tactic(auto, using(crate::proofs::Finding::targets))]
 pub fn find_target(table: &Table, less: bool, m: usize) -> Option<usize>
     requires { m * 16 + 16 ≤ length table.now.rows.now }

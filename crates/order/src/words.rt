@@ -1,5 +1,6 @@
 // Words lent for work, read and written with no demand on places, and edges in them (candidate.rt says what an edge is).
-// They are lent, since the library has no heap.
+// They are lent, since the library has no heap. The words and n are no struct: certificate.rt and index.rt, whose contracts speak of a slice,
+// are given the same words.
 ghost use Rattle.std.specs.Prelude.{◌≡◌, ◌≤◌, ◌<◌, length};
 ghost use Rattle.order.specs.Table.{over};
 ghost use Rattle.order.specs.Certificate.{Got, Kept, IsParent, MemberOf, LessOf};
@@ -52,7 +53,7 @@ pub enum Word {
     Third,
 }
 
-// The place of such a word of row r of n rows.
+// The place of the second or third word of row r, of n rows.
 fn place(n: usize, word: Word, r: usize) -> usize
     ensures { n ≤ result }
 {
@@ -65,14 +66,14 @@ fn place(n: usize, word: Word, r: usize) -> usize
     }
 }
 
-// That word.
+// The second or third word of row r, of n rows.
 pub fn get_at(work: &[u32], n: usize, word: Word, r: usize) -> usize
     ensures { result ≤ 4294967295 }
 {
     get(work, place(n, word, r))
 }
 
-// Puts v there.
+// Puts v at the second or third word of row r, of n rows, if it fits.
 pub fn put_at(work: &mut [u32], n: usize, word: Word, r: usize, v: usize)
     ensures { Kept n work.old work.new }
 {
@@ -116,7 +117,7 @@ fn link_of(e: usize) -> Word {
     Word::Second
 }
 
-// That edge.
+// The edge that comes after edge e in its list.
 pub fn after(work: &[u32], n: usize, e: usize) -> usize
     ensures { result ≤ 4294967295 }
 {
@@ -128,4 +129,25 @@ pub fn put_after(work: &mut [u32], n: usize, e: usize, v: usize)
     ensures { Kept n work.old work.new }
 {
     put_at(work, n, link_of(e), member(e), v);
+}
+
+// Calls f for each edge of a list, from its first on, with no demand on how the list goes on: 2n edges at most.
+pub fn for_each_edge<F: FnMut(&mut [u32], usize)>(
+    work: &mut [u32],
+    n: usize,
+    first: usize,
+    mut f: F,
+)
+    requires few { n ≤ 262144 }
+    requires callable { F.IsAlwaysCallable f }
+{
+    let mut e = first;
+    for _ in 0..2 * n {
+        if e == 0 {
+            return;
+        }
+        let next = after(work, n, e);
+        f(work, e);
+        e = next;
+    }
 }

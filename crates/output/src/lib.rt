@@ -8,8 +8,8 @@ use std::io::{Result, Write};
 pub mod failure;
 pub mod input;
 
-// An array of one item over and over. The clause tells the length and not the items: by those the proof about a program with a large array
-// comes to look at each, and runs out of the checker's stack.
+// An array of one item over and over, for the programs' large arrays. The clause tells the length alone: if it told the items as well, a proof
+// about such a program would look at each of them, and the checker would run out of stack.
 pub fn filled<T: Copy, const N: usize>(item: T) -> [T; N]
     ensures { N ≡ length result }
 {

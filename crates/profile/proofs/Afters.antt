@@ -15,34 +15,63 @@ use Rattle.slices.specs.Bytes.{bytes, starts}
 use Rattle.slices.proofs.Runs.{starts_fits}
 use Rattle.scan.specs.Ignorable.{Scans, seek}
 use Rattle.std.proofs.Common.{Result, Ok, Err}
+use Rattle.std.specs.Prelude.{Option, Some, None}
+use Rattle.std.specs.Result.{MatchResult, IsErrAnd}
+use Rattle.std.proofs.lemmas.Result.{err_from_is_err_and}
 use Rattle.faults.specs.Fault.{fault}
 use Rattle.faults.specs.declared.Fault.{Fault}
 use Rattle.scan.proofs.Seek.{seek_past}
+use Rattle.profile.specs.Places.{found}
 use Rattle.profile.specs.Profile.{comment_fault}
-use Rattle.profile.specs.After.{space, space_first, instruction, comment, misc, further, after_from, after_fault, Tells}
+use Rattle.profile.specs.After.{space, space_first, ended, instruction, commented, comment, misc, further, after_from, after_fault, Closes, Tells}
+use Rattle.profile.proofs.Places.{found_there, found_none, some_found, none_found}
 
-module _ (s : List ℕ) (at : ℕ) {x : Result ℕ Fault} (c : Scans (seek 29 (bytes "?>") (at + 2)) s (at + 2) x) where
-  pub instruction_open : {f g : Fault} → x ≡ Err f → g ≡ fault 29 at → Tells instruction s at (Err g)
-  unfolding instruction
-  instruction_open e i = record { is = rw (i, drop-drop 2 at s, ← c.is, e); onward = tt }
+-- F of two faults says that the second is 29 at the place
+pub closed_told : {key s : List ℕ} {at from : ℕ} {x r : Result ℕ Fault} {F : Fault → Fault → Type 0} → at < from → from ≤ length s → Scans (seek 29 key from) s from x
+    → MatchResult x (λ p. r ≡ Ok p) (λ f. IsErrAnd r (F f)) → ((f g : Fault) → F f g → g ≡ fault 29 at) → Closes key s at from r
+closed_told {key} {s} {at} {from} {x} {r} {F} h i c m t = go x refl m
+  where
+    go : (y : Result ℕ Fault) → x ≡ y → MatchResult y (λ p. r ≡ Ok p) (λ f. IsErrAnd r (F f)) → Closes key s at from r
+    go (Ok p) e a =
+        let d : Scans (seek 29 key from) s from (Ok p) = rw e at c in
+        rw a record { is = rw (← d.is); onward = (omega (arith, d.onward.0, h), d.onward.1) }
+    go (Err f) e a =
+        let b = err_from_is_err_and r a in
+        let z : b.0 ≡ fault 29 at = t f b.0 b.2 in
+        rw (b.1, z) record { is = rw (← c.is, e); onward = omega arith }
 
-  pub instruction_closed : {p : ℕ} → x ≡ Ok p → Tells instruction s at (Ok p)
-  unfolding instruction
-  instruction_closed {p} e =
-      let d : Scans (seek 29 (bytes "?>") (at + 2)) s (at + 2) (Ok p) = rw e at c in
-      record { is = rw (drop-drop 2 at s, ← d.is); onward = (omega (arith, d.onward.0), d.onward.1) }
+pub instruction_told : {s : List ℕ} {at : ℕ} {r : Result ℕ Fault} → Closes (bytes "?>") s at (at + 2) r → Tells instruction s at r
+unfolding instruction
+instruction_told {s} {at} c = record { is = rw (drop-drop 2 at s, ← c.is); onward = c.onward }
 
-module _ (s : List ℕ) (at : ℕ) {x : Result ℕ Fault} (c : Scans (seek 29 (bytes "-->") (at + 4)) s (at + 4) x) where
-  pub comment_open : {f g : Fault} → x ≡ Err f → g ≡ fault 29 at → Tells comment s at (Err g)
+-- what ends was closed, and what does not has the fault of the comment
+ended_ok : (at : ℕ) {p : ℕ} (y : Result ℕ Fault) → Ok p ≡ ended at y → y ≡ Ok p
+ended_ok at {p} (Ok q) e = sym e
+ended_ok at {p} (Err f) e = let z : ◌≡◌ {A = Result ℕ Fault} (Ok p) (Err (fault 29 at)) = e in absurd cc
+
+ended_err : (l : List ℕ) (at : ℕ) {f : Fault} (y : Result ℕ Fault) → Err f ≡ ended at y → Err f ≡ commented l at y
+ended_err l at {f} (Ok q) e = let z : ◌≡◌ {A = Result ℕ Fault} (Err f) (Ok q) = e in absurd cc
+ended_err l at {f} (Err g) e = e
+
+module _ (s : List ℕ) (at : ℕ) {x : Result ℕ Fault} (c : Closes (bytes "-->") s at (at + 4) x) where
+  pub comment_open : {f : Fault} → x ≡ Err f → Tells comment s at (Err f)
   unfolding comment
-  comment_open e i = record { is = rw (i, drop-drop 4 at s, ← c.is, e); onward = tt }
+  comment_open {f} e =
+      let d : Closes (bytes "-->") s at (at + 4) (Err f) = rw e at c in
+      record { is = rw (drop-drop 4 at s) (ended_err (drop at s) at (seek 29 (bytes "-->") (at + 4) (drop (at + 4) s) (at + 4)) d.is); onward = d.onward }
 
   module _ {p : ℕ} (e : x ≡ Ok p) where
+    closed : Closes (bytes "-->") s at (at + 4) (Ok p)
+    closed = rw e at c
+
+    sought : seek 29 (bytes "-->") (at + 4) (drop (at + 4) s) (at + 4) ≡ Ok p
+    sought = ended_ok at (seek 29 (bytes "-->") (at + 4) (drop (at + 4) s) (at + 4)) closed.is
+
     pub comment_far : at + 7 ≤ p
-    comment_far = let z = seek_past 29 (bytes "-->") (at + 4) (drop (at + 4) s) (at + 4) p (sym c.is ∙ e) in omega arith
+    comment_far = let z = seek_past 29 (bytes "-->") (at + 4) (drop (at + 4) s) (at + 4) p sought in omega arith
 
     pub comment_end : p ≤ length s
-    comment_end = let d : Scans (seek 29 (bytes "-->") (at + 4)) s (at + 4) (Ok p) = rw e at c in d.onward.1
+    comment_end = closed.onward.1
 
     -- what the code asks on its way
     pub comment_three : 3 ≤ p
@@ -57,19 +86,32 @@ module _ (s : List ℕ) (at : ℕ) {x : Result ℕ Fault} (c : Scans (seek 29 (b
     long : length (take (p - 3 - (at + 4)) (drop (at + 4) s)) ≡ p - 3 - (at + 4)
     long = length-take-le (p - 3 - (at + 4)) (drop (at + 4) s) (rw (length-drop (at + 4) s) (omega (arith, comment_end)))
 
-    module _ {f : ℕ} (g : f ≡ comment_fault (take (p - 3 - (at + 4)) (drop (at + 4) s))) where
-      pub comment_breach : {b : Fault} → f < p - 3 - (at + 4) → b ≡ fault 29 (at + 4 + f) → Tells comment s at (Err b)
-      unfolding comment
-      comment_breach l i = record { is = rw (i, drop-drop 4 at s, ← c.is, e, drop-drop 4 at s, ← g, long, lt-ltb f (p - 3 - (at + 4)) l); onward = tt }
+    abbrev inner : List ℕ
+    inner = take (p - 3 - (at + 4)) (drop (at + 4) s)
 
-      pub comment_closed : p - 3 - (at + 4) ≤ f → Tells comment s at (Ok p)
+    module _ {r : Option ℕ} (g : r ≡ found (length inner) (comment_fault inner)) where
+      pub comment_inside : {f : ℕ} → r ≡ Some f → at + 4 + f < length s
+      comment_inside q =
+          let d = some_found g q in
+          omega (arith, d.0, d.1, long, comment_end, comment_far)
+
+      pub comment_breach : {b : Fault} {f : ℕ} → r ≡ Some f → b ≡ fault 29 (at + 4 + f) → Tells comment s at (Err b)
       unfolding comment
-      comment_closed l = record {
-        is = rw (drop-drop 4 at s, ← c.is, e, drop-drop 4 at s, ← g, long, le-ltb f (p - 3 - (at + 4)) l);
-        onward = (omega (arith, comment_far), comment_end);
+      comment_breach {f = f} q i =
+          let d = some_found g q in
+          record {
+            is = rw (i, d.0, drop-drop 4 at s, sought, drop-drop 4 at s, lt-ltb (comment_fault inner) (length inner) d.1);
+            onward = rw i (comment_inside q);
+          }
+
+      pub comment_closed : r ≡ None → Tells comment s at (Ok p)
+      unfolding comment
+      comment_closed q = record {
+        is = rw (drop-drop 4 at s, sought, drop-drop 4 at s, le-ltb (comment_fault inner) (length inner) (none_found g q));
+        onward = closed.onward;
       }
 
-pub ruleset closes = (instruction_open, instruction_closed, comment_open, comment_three, comment_start, comment_close, comment_breach, comment_closed, rules)
+pub ruleset closes = (instruction_told, comment_open, comment_three, comment_start, comment_close, comment_inside, comment_breach, comment_closed, rules)
 
 -- what stands at a place
 module _ (s : List ℕ) (at : ℕ) (h : at < length s) {t : Bool} (a : t ≡ starts (bytes "<!--") (drop at s)) where
@@ -98,7 +140,7 @@ module _ (s : List ℕ) (at : ℕ) (h : at < length s) {t : Bool} (a : t ≡ sta
 
       pub misc_other : {b : Fault} → v ≡ false → b ≡ fault 29 at → Tells misc s at (Err b)
       unfolding misc
-      misc_other g i = record { is = rw (i, ← a, e, ← b, f, first, g); onward = tt }
+      misc_other g i = record { is = rw (i, ← a, e, ← b, f, first, g); onward = rw i h }
 
 pub ruleset miscs = (comment_fits, misc_comment, instruction_fits, misc_instruction, misc_space, misc_other, rules)
 
@@ -119,9 +161,10 @@ pub after_begins : {s : List ℕ} {from : ℕ} → from ≤ length s → Reading
 after_begins h = record { left = refl; inside = h }
 
 module _ {s : List ℕ} {from at : ℕ} (g : Reading s from at) where
-  pub after_ends : length s ≤ at → at ≡ after_fault (drop from s) from
-  unfolding after_fault
-  after_ends h = sym (g.left ∙ rw (drop_of_length-le s h))
+  pub after_ends : length s ≤ at → None ≡ found (length s) (after_fault (drop from s) from)
+  after_ends h =
+      let z : after_fault (drop from s) from ≡ at = unfold after_fault in g.left ∙ rw (drop_of_length-le s h) in
+      sym (rw z (found_none (length s) at h))
 
   module _ (h : at < length s) {m : Result ℕ Fault} (c : Tells misc s at m) where
     step : after_fault (drop from s) from ≡ further m (λ p. after_from (p - suc at) (drop (suc at) s) (suc at))
@@ -131,8 +174,11 @@ module _ {s : List ℕ} {from at : ℕ} (g : Reading s from at) where
         d : m ≡ misc (get_or s at 0 ∷ drop (suc at) s) at
         d = rw (drop-cons s at 0 h) at c.is
 
-    pub after_stops : {f : Fault} → m ≡ Err f → f.place ≡ after_fault (drop from s) from
-    after_stops e = sym (step ∙ rw e)
+    pub after_stops : {f : Fault} → m ≡ Err f → Some f.place ≡ found (length s) (after_fault (drop from s) from)
+    after_stops {f} e =
+        let z : after_fault (drop from s) from ≡ f.place = step ∙ rw e in
+        let d : Tells misc s at (Err f) = rw e at c in
+        sym (rw z (found_there (length s) f.place d.onward))
 
     module _ {p : ℕ} (e : m ≡ Ok p) where
       on : Tells misc s at (Ok p)

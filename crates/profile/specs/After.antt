@@ -57,10 +57,15 @@ after_from (suc k) (b ∷ l) at = after_from k l (suc at)
 unfoldable pub after_fault : List ℕ → ℕ → ℕ
 after_fault l at = after_from 0 l at
 
--- an answer that is no fault is a place further on, within the document
+-- a fault is at a place of the document; an answer that is no fault is a place further on, within the document
 abbrev pub Past : List ℕ → ℕ → Result ℕ Fault → Type 0
-Past s at (Err f) = Unit {0}
+Past s at (Err f) = f.place < length s
 Past s at (Ok p) = (at < p) × (p ≤ length s)
+
+-- where what stands at a place ends, by the first key from another place on, or the fault
+pub record Closes (key s : List ℕ) (at from : ℕ) (r : Result ℕ Fault) : Type 0 where
+  pub is : r ≡ ended at (seek 29 key from (drop from s) from)
+  pub onward : Past s at r
 
 pub record Tells (f : List ℕ → ℕ → Result ℕ Fault) (s : List ℕ) (at : ℕ) (r : Result ℕ Fault) : Type 0 where
   pub is : r ≡ f (drop at s) at

@@ -2,13 +2,12 @@
 #![tactic(auto)]
 
 ghost use Rattle.std.specs.Prelude.{◌≡◌, ◌+◌, ◌≤◌, ◌<◌, length, drop};
-ghost use Rattle.faults.specs.Fault.{fault};
 ghost use Rattle.utf8.specs.WellFormed.{ill_formed};
-ghost use Rattle.profile.specs.Places.{first_place};
+ghost use Rattle.profile.specs.Places.{first_place, found};
 ghost use Rattle.profile.specs.Names.{name_start_char, name_more, name_char};
 ghost use Rattle.profile.specs.Profile.{char_fault, name_fault, hyphens, comment_fault, raw, value_fault};
 ghost use Rattle.profile.specs.Steps.{no_char, Doubts, Clear, Free, Reads};
-ghost use Rattle.profile.specs.After.{space, instruction, comment, misc, after_fault, Tells};
+ghost use Rattle.profile.specs.After.{space, instruction, comment, misc, after_fault, Closes, Tells};
 
 use faults::Fault;
 
@@ -68,42 +67,37 @@ fn blocks(s: &[u8], from: usize) -> usize
     slices::blocks(s, from, 32, |at| !doubtful(s, at))
 }
 
-// Past whole blocks in which `doubt` is false of each byte, and then to the first byte of which it is true, or the length.
+// Past whole blocks in which `doubt` is false of each byte, and then to the first byte of which it is true, or the length, where the scan ends.
+// Not `slices::run_end`: it wants a test that tells a class of bytes, and `doubt` says only what holds where it is false.
 fn next_doubt(s: &[u8], from: usize) -> usize
     requires { from ≤ length s.now }
     ensures { Free no_char s.now from result }
 {
     let start = blocks(s, from);
-    // Not `run_end`: it wants a test that tells a class of bytes, and `doubt` promises only what holds where it is false.
-    for at in start..s.len() {
-        if doubt(s[at]) {
-            return at;
-        }
-    }
-    s.len()
+    (start..s.len()).find(|&at| doubt(s[at])).unwrap_or(s.len())
 }
 
-// The place of the first byte at which a character begins that is no Char, or the length, as the definition answers.
+// The place of the first byte at which a character begins that is no Char.
 #[tactic(auto, using(crate::proofs::Going::goings))]
-fn first_no_char(s: &[u8]) -> usize
-    ensures { result ≡ first_place no_char s.now }
+fn first_no_char(s: &[u8]) -> Option<usize>
+    ensures { result ≡ found (length s.now) (first_place no_char s.now) }
 {
     let mut at = next_doubt(s, 0);
-    // The next place is what the call found, so no range has it.
+    // The next place is what the call found, so no range gives it.
     while at < s.len() {
         if no_char(s, at) {
-            return at;
+            return Some(at);
         }
         at = next_doubt(s, at + 1);
     }
-    at
+    None
 }
 
-// The place of the first character of a text that is no Char, or the length, as the definition answers.
+// The place of the first character of a text that is no Char.
 #[tactic(auto, using(crate::proofs::NoChars::chars))]
-pub fn char_fault(s: &[u8]) -> usize
+pub fn char_fault(s: &[u8]) -> Option<usize>
     requires { ill_formed s.now ≡ length s.now }
-    ensures { result ≡ char_fault s.now }
+    ensures { result ≡ found (length s.now) (char_fault s.now) }
 {
     first_no_char(s)
 }
@@ -117,20 +111,20 @@ fn is_hyphens(s: &[u8], at: usize) -> bool
     s[at] == b'-' && (s.len() - at == 1 || s[at + 1] == b'-')
 }
 
-// The place of the first hyphen of a comment's inside that stands before another, or at the end; or the length, as the definition answers.
+// The place of the first hyphen of a comment's inside that stands before another, or at the end.
 #[tactic(auto, using(crate::proofs::Marks::comments))]
-pub fn comment_fault(s: &[u8]) -> usize
-    ensures { result ≡ comment_fault s.now }
+pub fn comment_fault(s: &[u8]) -> Option<usize>
+    ensures { result ≡ found (length s.now) (comment_fault s.now) }
 {
     let mut at = slices::find(s, 0, b'-');
-    // The next place is what the call found, so no range has it.
+    // The next place is what the call found, so no range gives it.
     while at < s.len() {
         if is_hyphens(s, at) {
-            return at;
+            return Some(at);
         }
         at = slices::find(s, at + 1, b'-');
     }
-    at
+    None
 }
 
 // Whether `<` or `&#X` stands at a place.
@@ -142,11 +136,11 @@ fn is_raw(s: &[u8], at: usize) -> bool
     s[at] == b'<' || slices::starts_at(s, at, b"&#X")
 }
 
-// The place of the first `<` or `&#X` of a value, or the length, as the definition answers.
-pub fn value_fault(s: &[u8]) -> usize
-    ensures { result ≡ value_fault s.now }
+// The place of the first `<` or `&#X` of a value.
+pub fn value_fault(s: &[u8]) -> Option<usize>
+    ensures { result ≡ found (length s.now) (value_fault s.now) }
 {
-    (0..s.len()).find(|&at| is_raw(s, at)).unwrap_or(s.len())
+    (0..s.len()).find(|&at| is_raw(s, at))
 }
 
 // Whether a name may begin with a character.
@@ -224,29 +218,29 @@ fn character_at(s: &[u8], at: usize) -> Character
     }
 }
 
-// The place of the first character of a name that may not stand there, or the length, as the definition answers.
+// The place of the first character of a name that may not stand there.
 #[tactic(auto, using(crate::proofs::Naming::naming))]
-pub fn name_fault(s: &[u8]) -> usize
+pub fn name_fault(s: &[u8]) -> Option<usize>
     requires { ill_formed s.now ≡ length s.now }
-    ensures { result ≡ name_fault s.now }
+    ensures { result ≡ found (length s.now) (name_fault s.now) }
 {
     if s.len() == 0 {
-        return 0;
+        return None;
     }
     let first = character_at(s, 0);
     if !name_start(first.code) {
-        return 0;
+        return Some(0);
     }
     let mut at = first.size;
-    // The next place is what the call found, so no range has it.
+    // The next place is what the call found, so no range gives it.
     while at < s.len() {
         let next = character_at(s, at);
         if !name_char(next.code) {
-            return at;
+            return Some(at);
         }
         at += next.size;
     }
-    at
+    None
 }
 
 // Whether a byte is white space, [3] S.
@@ -256,11 +250,15 @@ fn is_space(b: u8) -> bool
     matches!(b, b' ' | b'\t' | b'\r' | b'\n')
 }
 
-// The fault of what may not follow the root.
-fn breach(place: usize) -> Fault
-    ensures { result ≡ fault 29 place }
+// The end of what stands at a place, by the first key from another place on; where there is none, the fault is at the place.
+fn end_of(s: &[u8], at: usize, from: usize, key: &[u8]) -> Result<usize, Fault>
+    requires ordered { at < from }
+    requires in_bounds { from ≤ length s.now }
+    requires nonempty { 0 < length key.now }
+    requires short { length key.now < 256 }
+    ensures { Closes key.now s.now at from result }
 {
-    Fault { number: 29, place }
+    scan::until(s, from, key, 29).map_err(|_| Fault::new(29, at))
 }
 
 // The end of the instruction at a place, or the fault.
@@ -269,10 +267,7 @@ fn instruction_at(s: &[u8], at: usize) -> Result<usize, Fault>
     requires { at + 2 ≤ length s.now }
     ensures { Tells instruction s.now at result }
 {
-    match scan::until(s, at + 2, b"?>", 29) {
-        Ok(end) => Ok(end),
-        Err(_) => Err(breach(at)),
-    }
+    end_of(s, at, at + 2, b"?>")
 }
 
 // The end of the comment at a place, or the fault.
@@ -282,16 +277,10 @@ fn comment_at(s: &[u8], at: usize) -> Result<usize, Fault>
     ensures { Tells comment s.now at result }
 {
     let inner = at + 4;
-    match scan::until(s, inner, b"-->", 29) {
-        Err(_) => Err(breach(at)),
-        Ok(end) => {
-            let close = end - 3;
-            let fault = comment_fault(&s[inner..close]);
-            if fault < close - inner {
-                return Err(breach(inner + fault));
-            }
-            Ok(end)
-        }
+    let end = end_of(s, at, inner, b"-->")?;
+    match comment_fault(&s[inner..end - 3]) {
+        Some(p) => Err(Fault::new(29, inner + p)),
+        None => Ok(end),
     }
 }
 
@@ -310,23 +299,22 @@ fn misc_at(s: &[u8], at: usize) -> Result<usize, Fault>
     if is_space(s[at]) {
         return Ok(at + 1);
     }
-    Err(breach(at))
+    Err(Fault::new(29, at))
 }
 
-// The place of the first breach from a place on, where nothing but comments, instructions and white space
-// may stand; or the length, as the definition answers.
+// The place of the first breach from a place on, where nothing but comments, instructions and white space may stand.
 #[tactic(auto, using(crate::proofs::Afters::afters))]
-pub fn after_fault(s: &[u8], from: usize) -> usize
+pub fn after_fault(s: &[u8], from: usize) -> Option<usize>
     requires { from ≤ length s.now }
-    ensures { result ≡ after_fault (drop from s.now) from }
+    ensures { result ≡ found (length s.now) (after_fault (drop from s.now) from) }
 {
     let mut at = from;
-    // The next place is what the call found, so no range has it.
+    // The next place is what the call found, so no range gives it.
     while at < s.len() {
         match misc_at(s, at) {
             Ok(end) => at = end,
-            Err(fault) => return fault.place,
+            Err(fault) => return Some(fault.place),
         }
     }
-    at
+    None
 }

@@ -31,7 +31,8 @@ use Rattle.document.specs.declared.Fill.{Fill}
 use Rattle.document.proofs.Runs.{run_refused}
 use Rattle.document.proofs.Loops.{moved_stands}
 use Rattle.document.proofs.Openings.{tag_named}
-use Rattle.reader.specs.Nodes.{frames_of, Walking, Opens, Started}
+use Rattle.reader.specs.Nodes.{frames_of, no_level, Walking, Opens, Started}
+use Rattle.reader.specs.declared.Level.{Level}
 use Rattle.reader.specs.declared.Walk.{Walk}
 use Rattle.std.specs.declared.ops.ControlFlow.TheVariants.{Continue}
 use Rattle.reader.proofs.Frames.{frames_length, frames_closed, frames_push}
@@ -65,7 +66,7 @@ node_name n e =
     go false false false false false false true q e = absurd (omega arith)
     go false false false false false false false q e = absurd (local_not_one (local_name n) e)
 
-module _ {doc opened : List ℕ} {c : StartTag} {s : Walk} (begun : Started doc opened c s) where
+module _ {doc : List ℕ} {opened : List Level} {c : StartTag} {s : Walk} (begun : Started doc opened c s) where
   g : Walking doc opened s
   g = begun.walks
 
@@ -93,22 +94,18 @@ module _ {doc opened : List ℕ} {c : StartTag} {s : Walk} (begun : Started doc 
   pub level_inside : (s.depth ≡ 1024 → ⊥) → s.depth < length opened
   level_inside n = omega (arith, g.few, g.long)
 
-  pub level_below : (s.depth ≡ 1024 → ⊥) → s.depth < 1024
-  level_below n = omega (arith, g.few)
-
-  -- the place of the name goes 1,024 words further on
-  pub name_inside : (s.depth ≡ 1024 → ⊥) → s.depth + 1024 < length opened
-  name_inside n = omega (arith, g.few, g.long)
-
   pub row_below : s.fill.rows < 2 ^ 32
   row_below = omega (arith, g.bounds.few, g.bounds.inside, g.bounds.sound.small)
 
   pub name_below : c.at < 2 ^ 32
   name_below = omega (arith, g.bounds.sound.small, fits.inside, fits.within)
 
-  -- the levels with one more
-  abbrev levels : List ℕ
-  levels = set (set opened s.depth s.fill.rows) (s.depth + 1024) c.at
+  -- one more level, and the levels with it
+  abbrev level : Level
+  level = record { row = s.fill.rows; name = c.at }
+
+  abbrev levels : List Level
+  levels = set opened s.depth level
 
   module _ (i : ℕ) {rows rows' text text' : List ℕ} {a : Result Fill Refusal} (o : Opening doc kinds.node c (i + 1) (moved s.fill c.end) rows rows' text text' a) where
     pub open_fault : {q : Refusal} → a ≡ Err q → Opens doc c i s opened opened rows rows' text text' (Err q)
@@ -149,7 +146,7 @@ module _ {doc opened : List ℕ} {c : StartTag} {s : Walk} (begun : Started doc 
             few = g.few;
             long = g.long;
             named = g.named;
-            owners = λ j b. grown (get_or opened j 0) (g.owners j b);
+            owners = λ j b. grown (get_or opened j no_level).row (g.owners j b);
           },
         );
         leads = λ root t v w z k y.
@@ -176,9 +173,9 @@ module _ {doc opened : List ℕ} {c : StartTag} {s : Walk} (begun : Started doc 
           more_at root t v z k m row =
               let b : leb 1024 (length (frames_of doc root opened s.depth)) ≡ false = lt-leb 1024 (length (frames_of doc root opened s.depth)) (omega (arith, frames_length doc root opened s.depth, g.few)) in
               let q : tag_name t ≡ name_at doc c.at 4 = tag_named z ∙ ap (name_at doc c.at) (begun.four k) in
-              rw (at-end, sym z.closes ∙ x, b, frames_push doc root opened s.depth s.fill.rows c.at g.deep (omega (arith, g.few)) g.long, m, q)
+              rw (at-end, sym z.closes ∙ x, b, frames_push doc root opened s.depth level g.deep (level_inside n), m, q)
 
-          pub open_more : {opened' : List ℕ} → c.kind ≡ kinds.node → opened' ≡ set (set opened s.depth s.fill.rows) (s.depth + 1024) c.at → Opens doc c i s opened opened' rows rows' text text' (Ok (Continue (record { depth = s.depth + 1; fill = h })))
+          pub open_more : {opened' : List Level} → c.kind ≡ kinds.node → opened' ≡ set opened s.depth (record { row = s.fill.rows; name = c.at }) → Opens doc c i s opened opened' rows rows' text text' (Ok (Continue (record { depth = s.depth + 1; fill = h })))
           open_more k q = rw q record {
             onward = (
               omega (arith, at-end, l, fits.inside),
@@ -186,7 +183,7 @@ module _ {doc opened : List ℕ} {c : StartTag} {s : Walk} (begun : Started doc 
                 bounds = done.onward.2;
                 deep = omega arith;
                 few = omega (arith, g.few);
-                long = length-set (set opened s.depth s.fill.rows) (s.depth + 1024) c.at ∙ length-set opened s.depth s.fill.rows ∙ g.long;
+                long = length-set opened s.depth level ∙ g.long;
                 named = λ j p b. named j p b (dec_lt j s.depth);
                 owners = λ j b. owner j b (dec_lt j s.depth);
               },
@@ -196,20 +193,14 @@ module _ {doc opened : List ℕ} {c : StartTag} {s : Walk} (begun : Started doc 
                 (with_row j.0 v, j.2, ap (runs doc c.end) j.1 ∙ more_at root t v z k y.many j.0);
           }
             where
-              owner : (j : ℕ) → j < s.depth + 1 → Dec (j < s.depth) → get_or levels j 0 < h.rows
-              owner j b (yes y) =
-                  rw (get_or-set_other (set opened s.depth s.fill.rows) (s.depth + 1024) j c.at 0 (λ e. omega (arith, g.few)), get_or-set_other opened s.depth j s.fill.rows 0 (λ e. omega arith))
-                  (grown (get_or opened j 0) (g.owners j y))
-              owner j b (no y) =
-                  let q : j ≡ s.depth = omega arith in
-                  rw (q, get_or-set_other (set opened s.depth s.fill.rows) (s.depth + 1024) s.depth c.at 0 (λ e. omega arith), get_or-set_same opened s.depth s.fill.rows 0 (level_inside n)) (omega (arith, done.onward.1))
+              owner : (j : ℕ) → j < s.depth + 1 → Dec (j < s.depth) → (get_or levels j no_level).row < h.rows
+              owner j b (yes y) = rw (get_or-set_other opened s.depth j level no_level (λ e. omega arith)) (grown (get_or opened j no_level).row (g.owners j y))
+              owner j b (no y) = let q : j ≡ s.depth = omega arith in rw (q, get_or-set_same opened s.depth level no_level (level_inside n)) (omega (arith, done.onward.1))
 
-              named : (j : ℕ) → 0 < j → j < s.depth + 1 → Dec (j < s.depth) → get_or levels (j + 1024) 0 + 4 ≤ length doc
-              named j p b (yes y) =
-                  rw (get_or-set_other (set opened s.depth s.fill.rows) (s.depth + 1024) (j + 1024) c.at 0 (λ e. omega arith), get_or-set_other opened s.depth (j + 1024) s.fill.rows 0 (λ e. omega (arith, g.few)))
-                  (g.named j p y)
+              named : (j : ℕ) → 0 < j → j < s.depth + 1 → Dec (j < s.depth) → (get_or levels j no_level).name + 4 ≤ length doc
+              named j p b (yes y) = rw (get_or-set_other opened s.depth j level no_level (λ e. omega arith)) (g.named j p y)
               named j p b (no y) =
                   let q : j ≡ s.depth = omega arith in
-                  rw (q, get_or-set_same (set opened s.depth s.fill.rows) (s.depth + 1024) c.at 0 (rw length-set (name_inside n))) (omega (arith, fits.inside, fits.within, begun.four k))
+                  rw (q, get_or-set_same opened s.depth level no_level (level_inside n)) (omega (arith, fits.inside, fits.within, begun.four k))
 
-pub ruleset node_opens = (node_ready, row_small, parent_small, level_inside, level_below, name_inside, row_below, name_below, open_fault, open_closes, open_deep, open_more, rules)
+pub ruleset node_opens = (node_ready, row_small, parent_small, level_inside, row_below, name_below, open_fault, open_closes, open_deep, open_more, rules)

@@ -29,11 +29,12 @@ use Rattle.document.proofs.Runs.{run_more, run_last, run_refused, run_accepted}
 use Rattle.document.proofs.Openings.{tag_named}
 use Rattle.reader.specs.Nodes.{frames_of, Walking, Turns, Walks, Levels, RootOpen, EndsNodes, ReadsRoot, ReadsWhole}
 use Rattle.reader.specs.declared.Walk.{Walk}
+use Rattle.reader.specs.declared.Level.{Level}
 use Rattle.std.specs.declared.ops.ControlFlow.{ControlFlow}
 use Rattle.std.specs.declared.ops.ControlFlow.TheVariants.{Break, Continue}
 
 -- a walk that began with s₀ came to s
-pub record Sofar (doc : List ℕ) (root : Name) (opened₀ : List ℕ) (s₀ : Walk) (b₀ : Lent) (opened : List ℕ) (s : Walk) (b : Lent) : Type 0 where
+pub record Sofar (doc : List ℕ) (root : Name) (opened₀ : List Level) (s₀ : Walk) (b₀ : Lent) (opened : List Level) (s : Walk) (b : Lent) : Type 0 where
   pub walks : Walking doc opened s
   pub leads :
       (v : Tables Shown) →
@@ -42,10 +43,10 @@ pub record Sofar (doc : List ℕ) (root : Name) (opened₀ : List ℕ) (s₀ : W
       × Stands u b s.fill
       × (runs doc s₀.fill.at (reading (frames_of doc root opened₀ s₀.depth) v) ≡ runs doc s.fill.at (reading (frames_of doc root opened s.depth) u))
 
-pub walk_begins : {doc : List ℕ} {root : Name} {opened : List ℕ} {s : Walk} {b : Lent} → Walking doc opened s → Sofar doc root opened s b opened s b
+pub walk_begins : {doc : List ℕ} {root : Name} {opened : List Level} {s : Walk} {b : Lent} → Walking doc opened s → Sofar doc root opened s b opened s b
 walk_begins g = record { walks = g; leads = λ v y. (v, y, refl) }
 
-module _ {doc : List ℕ} {root : Name} {opened₀ opened opened' : List ℕ} {s₀ s : Walk} {b₀ b b' : Lent} (g : Sofar doc root opened₀ s₀ b₀ opened s b) {k : Result (ControlFlow Fill Walk) Refusal} (h : Turns doc root opened opened' s b b' k) where
+module _ {doc : List ℕ} {root : Name} {opened₀ opened opened' : List Level} {s₀ s : Walk} {b₀ b b' : Lent} (g : Sofar doc root opened₀ s₀ b₀ opened s b) {k : Result (ControlFlow Fill Walk) Refusal} (h : Turns doc root opened opened' s b b' k) where
   pub walk_fault : {x : Refusal} → k ≡ Err x → Walks doc root opened₀ s₀ b₀ b' (Err x)
   walk_fault e = record { leads = λ v y. let x = g.leads v y in x.2 ∙ (rw e at h).leads x.0 x.1 }
 
@@ -127,7 +128,7 @@ module _ {doc : List ℕ} {c : StartTag} {rows rows' text text' : List ℕ} {a :
         inside t z row = rw (sym z.closes ∙ x, tag_named z)
 
 -- the first of the open nodes
-module _ {doc opened : List ℕ} {c : StartTag} {g : Fill} {rows text : List ℕ} (o : RootOpen doc c g rows text) (q : Levels opened) where
+module _ {doc : List ℕ} {opened : List Level} {c : StartTag} {g : Fill} {rows text : List ℕ} (o : RootOpen doc c g rows text) (q : Levels opened) where
   pub levels_walk : Walking doc opened (record { depth = 1; fill = g })
   levels_walk = record {
     bounds = o.bounds;

@@ -7,8 +7,6 @@ use mathlib.Core.Bool.{true}
 use borrow.Author.Rules.{rules}
 use borrow.Author.Tests.{eq-eqb, ne_eqb}
 use native.Mathlib.Omega.{arith}
-use mir.Syntax.{w64}
-use mir.Val.{Fits}
 use lib.ListN.{length, take, get_or}
 use Rattle.std.specs.Prelude.{Result, Ok, Err}
 use Rattle.document.specs.Kinds as kinds
@@ -26,8 +24,9 @@ use Rattle.document.specs.declared.Closing.{Closing}
 use Rattle.document.proofs.Readers.{keeping}
 use Rattle.document.proofs.Runs.{run_accepted}
 use Rattle.document.proofs.Loops.{moved_stands, moved_owner}
-use Rattle.reader.specs.Nodes.{frames_of, Walking, Turns, LeadsFrom, Opens, Started, Begun, Looks, NextIn, name_in, Shuts, IsShut, ChildIn, IsChildIn}
+use Rattle.reader.specs.Nodes.{frames_of, no_level, Walking, Turns, LeadsFrom, Opens, Started, Begun, Looks, NextIn, name_in, Shuts, IsShut, ChildIn, IsChildIn}
 use Rattle.reader.specs.declared.Walk.{Walk}
+use Rattle.reader.specs.declared.Level.{Level}
 use Rattle.std.specs.declared.ops.ControlFlow.{ControlFlow}
 use Rattle.std.specs.declared.ops.ControlFlow.TheVariants.{Break, Continue}
 use Rattle.reader.proofs.Frames.{frames_top, frames_parent, frames_closed}
@@ -43,8 +42,8 @@ next_nested {s = s} d x = record { onward = x.onward; leads = λ f fs u e. x.lea
 pub inner_inside : {doc : List ℕ} {at len inner : ℕ} {s : Walk} → Looks doc at len inner s → (s.depth ≡ 1 → ⊥) → inner + 4 ≤ length doc
 inner_inside p d = p.nested (omega (arith, p.deep))
 
-module _ {doc opened : List ℕ} {s : Walk} (g : Walking doc opened s) where
-  pub looks : (at len inner : ℕ) → at + len ≤ length doc → inner ≡ get_or opened (s.depth - 1 + 1024) 0 → Looks doc at len inner s
+module _ {doc : List ℕ} {opened : List Level} {s : Walk} (g : Walking doc opened s) where
+  pub looks : (at len inner : ℕ) → at + len ≤ length doc → inner ≡ (get_or opened (s.depth - 1) no_level).name → Looks doc at len inner s
   looks at len inner h e = record {
     deep = g.deep;
     from = g.bounds.inside;
@@ -56,10 +55,7 @@ module _ {doc opened : List ℕ} {s : Walk} (g : Walking doc opened s) where
   pub last_level : 1 ≤ s.depth
   last_level = omega (arith, g.deep)
 
-  pub level_wide : Fits w64 (s.depth - 1 + 1024)
-  level_wide = omega (arith, g.few)
-
-  pub level_inside : s.depth - 1 + 1024 < length opened
+  pub level_inside : s.depth - 1 < length opened
   level_inside = omega (arith, g.few, g.deep, g.long)
 
 pub ruleset nexts = (next_root, next_nested, inner_inside, rules)
@@ -87,13 +83,13 @@ child_ready r y = rw y r
 
 pub ruleset child_ins = (child_fault, child_on, child_ready, moved_owner, keeping, rules)
 
-prefixed : (doc : List ℕ) (root : Name) (opened : List ℕ) (b : Lent) {x x' : State Shown} (k : Result (ControlFlow Fill Walk) Refusal) → x ≡ x' → LeadsFrom doc root opened x' b k → LeadsFrom doc root opened x b k
+prefixed : (doc : List ℕ) (root : Name) (opened : List Level) (b : Lent) {x x' : State Shown} (k : Result (ControlFlow Fill Walk) Refusal) → x ≡ x' → LeadsFrom doc root opened x' b k → LeadsFrom doc root opened x b k
 prefixed doc root opened b (Err y) h l = h ∙ l
 prefixed doc root opened b (Ok (Break f)) h l = (l.0, l.1, h ∙ l.2)
 prefixed doc root opened b (Ok (Continue s')) h l = (l.0, l.1, h ∙ l.2)
 
-module _ {doc : List ℕ} {root : Name} {opened : List ℕ} {inner : ℕ} {s : Walk} (g : Walking doc opened s) {r : Result Next Refusal} (x : NextIn doc root inner s r) (p : inner ≡ get_or opened (s.depth - 1 + 1024) 0) where
-  frames : frames_of doc root opened s.depth ≡ element kinds.node (name_in doc root inner s) (get_or opened (s.depth - 1) 0) ∷ frames_of doc root opened (s.depth - 1)
+module _ {doc : List ℕ} {root : Name} {opened : List Level} {inner : ℕ} {s : Walk} (g : Walking doc opened s) {r : Result Next Refusal} (x : NextIn doc root inner s r) (p : inner ≡ (get_or opened (s.depth - 1) no_level).name) where
+  frames : frames_of doc root opened s.depth ≡ element kinds.node (name_in doc root inner s) (get_or opened (s.depth - 1) no_level).row ∷ frames_of doc root opened (s.depth - 1)
   frames = rw p (frames_top doc root opened s.depth g.deep)
 
   pub turn_fault : {q : Refusal} {b : Lent} → r ≡ Err q → Turns doc root opened opened s b b (Err q)
@@ -101,7 +97,7 @@ module _ {doc : List ℕ} {root : Name} {opened : List ℕ} {inner : ℕ} {s : W
     onward = tt;
     leads = λ v y.
         let z : NextIn doc root inner s (Err q) = rw e at x in
-        rw frames (z.leads (element kinds.node (name_in doc root inner s) (get_or opened (s.depth - 1) 0)) (frames_of doc root opened (s.depth - 1)) v refl);
+        rw frames (z.leads (element kinds.node (name_in doc root inner s) (get_or opened (s.depth - 1) no_level).row) (frames_of doc root opened (s.depth - 1)) v refl);
   }
 
   -- the closing tag
@@ -120,7 +116,7 @@ module _ {doc : List ℕ} {root : Name} {opened : List ℕ} {inner : ℕ} {s : W
       }
 
       shuts : (v : Tables Shown) → runs doc s.fill.at (reading (frames_of doc root opened s.depth) v) ≡ runs doc y.end (closed (frames_of doc root opened (s.depth - 1)) v)
-      shuts v = rw frames (z.leads (element kinds.node (name_in doc root inner s) (get_or opened (s.depth - 1) 0)) (frames_of doc root opened (s.depth - 1)) v refl)
+      shuts v = rw frames (z.leads (element kinds.node (name_in doc root inner s) (get_or opened (s.depth - 1) no_level).row) (frames_of doc root opened (s.depth - 1)) v refl)
 
       last : (v : Tables Shown) → s.depth ≡ 1 → runs doc y.end (closed (frames_of doc root opened (s.depth - 1)) v) ≡ accepted v
       last v e = rw e (run_accepted whole doc y.end v)
@@ -169,18 +165,18 @@ module _ {doc : List ℕ} {root : Name} {opened : List ℕ} {inner : ℕ} {s : W
           four = λ k. sym z.1.named.len ∙ ap length (node_name z.0.name (sym z.1.kind ∙ k));
         }
 
-    pub turn_begun : {opened' : List ℕ} {b b' : Lent} {k : Result (ControlFlow Fill Walk) Refusal} → Begun doc c s opened opened' b b' k → Turns doc root opened opened' s b b' k
+    pub turn_begun : {opened' : List Level} {b b' : Lent} {k : Result (ControlFlow Fill Walk) Refusal} → Begun doc c s opened opened' b b' k → Turns doc root opened opened' s b b' k
     turn_begun {opened'} {b} {b'} {k} h = record {
       onward = h.onward;
       leads = λ v y.
-          let z = start.leads (element kinds.node (name_in doc root inner s) (get_or opened (s.depth - 1) 0)) (frames_of doc root opened (s.depth - 1)) v refl in
+          let z = start.leads (element kinds.node (name_in doc root inner s) (get_or opened (s.depth - 1) no_level).row) (frames_of doc root opened (s.depth - 1)) v refl in
           prefixed doc root opened' b' k (rw frames z.2) (h.leads root z.0 v z.1 y);
     }
 
-pub ruleset turns = (looks, last_level, level_wide, level_inside, turn_fault, turn_close, turn_started, turn_begun, keeping, rules)
+pub ruleset turns = (looks, last_level, level_inside, turn_fault, turn_close, turn_started, turn_begun, keeping, rules)
 
 -- the element of a start tag
-module _ {doc opened : List ℕ} {c : StartTag} {s : Walk} (begun : Started doc opened c s) where
+module _ {doc : List ℕ} {opened : List Level} {c : StartTag} {s : Walk} (begun : Started doc opened c s) where
   walks : Walking doc opened s
   walks = begun.walks
 
@@ -196,13 +192,13 @@ module _ {doc opened : List ℕ} {c : StartTag} {s : Walk} (begun : Started doc 
   pub begun_level : s.depth - 1 < length opened
   begun_level = omega (arith, walks.deep, walks.few, walks.long)
 
-  pub begun_owner : (i : ℕ) → i ≡ get_or opened (s.depth - 1) 0 → i < s.fill.rows
+  pub begun_owner : (i : ℕ) → i ≡ (get_or opened (s.depth - 1) no_level).row → i < s.fill.rows
   begun_owner i e = rw e (walks.owners (s.depth - 1) (omega (arith, walks.deep)))
 
   pub begun_deep : 0 < s.depth
   begun_deep = walks.deep
 
-  pub begun_open : {i : ℕ} {opened' rows rows' w text text' : List ℕ} {k : Result (ControlFlow Fill Walk) Refusal} → c.kind ≡ kinds.node → i ≡ get_or opened (s.depth - 1) 0 → Opens doc c i s opened opened' rows rows' text text' k → Begun doc c s opened opened' (lent rows w text) (lent rows' w text') k
+  pub begun_open : {i : ℕ} {opened' : List Level} {rows rows' w text text' : List ℕ} {k : Result (ControlFlow Fill Walk) Refusal} → c.kind ≡ kinds.node → i ≡ (get_or opened (s.depth - 1) no_level).row → Opens doc c i s opened opened' rows rows' text text' k → Begun doc c s opened opened' (lent rows w text) (lent rows' w text') k
   unfolding may_hold
   begun_open {i} {opened'} {rows} {rows'} {w} {text} {text'} {k} n q o = record {
     onward = o.onward;
@@ -211,17 +207,17 @@ module _ {doc opened : List ℕ} {c : StartTag} {s : Walk} (begun : Started doc 
         (o.leads root t v w z (frames_parent doc root opened s.depth walks.deep ∙ ap suc (sym q)) y);
   }
     where
-      one : (root : Name) (t : Tag) (v : Tables Shown) → kind_of t.name ≡ kinds.node → runs doc c.end (child whole doc kinds.node (get_or opened (s.depth - 1) 0) t (frames_of doc root opened s.depth) v) ≡ runs doc c.end (begins whole doc kinds.node t (frames_of doc root opened s.depth) v)
+      one : (root : Name) (t : Tag) (v : Tables Shown) → kind_of t.name ≡ kinds.node → runs doc c.end (child whole doc kinds.node (get_or opened (s.depth - 1) no_level).row t (frames_of doc root opened s.depth) v) ≡ runs doc c.end (begins whole doc kinds.node t (frames_of doc root opened s.depth) v)
       one root t v j = rw j
 
-  pub begun_child : {i : ℕ} {b b' : Lent} {k : Result (ControlFlow Fill Walk) Refusal} → i ≡ get_or opened (s.depth - 1) 0 → ChildIn doc c i s b b' k → Begun doc c s opened opened b b' k
+  pub begun_child : {i : ℕ} {b b' : Lent} {k : Result (ControlFlow Fill Walk) Refusal} → i ≡ (get_or opened (s.depth - 1) no_level).row → ChildIn doc c i s b b' k → Begun doc c s opened opened b b' k
   begun_child {i} {b} {b'} {k} q h = go k h.is
     where
-      frames : (root : Name) → frames_of doc root opened s.depth ≡ element kinds.node (name_in doc root (get_or opened (s.depth - 1 + 1024) 0) s) (get_or opened (s.depth - 1) 0) ∷ frames_of doc root opened (s.depth - 1)
+      frames : (root : Name) → frames_of doc root opened s.depth ≡ element kinds.node (name_in doc root (get_or opened (s.depth - 1) no_level).name s) (get_or opened (s.depth - 1) no_level).row ∷ frames_of doc root opened (s.depth - 1)
       frames root = frames_top doc root opened s.depth walks.deep
 
-      ends : (root : Name) {a : Result Fill Refusal} → Child doc kinds.in_node true c i (moved s.fill c.end) b b' a → (v : Tables Shown) (t : Tag) → TagIs doc c t → Stands v b s.fill → Ends doc (runs doc c.end (child whole doc kinds.node (get_or opened (s.depth - 1) 0) t (frames_of doc root opened s.depth) v)) (frames_of doc root opened s.depth) i (take i v.rows) b' a
-      ends root m v t z y = rw (← q, frames root) (rw (← q) (m.ends 1 (name_in doc root (get_or opened (s.depth - 1 + 1024) 0) s) t (frames_of doc root opened (s.depth - 1)) v refl refl z (moved_stands c.end y)))
+      ends : (root : Name) {a : Result Fill Refusal} → Child doc kinds.in_node true c i (moved s.fill c.end) b b' a → (v : Tables Shown) (t : Tag) → TagIs doc c t → Stands v b s.fill → Ends doc (runs doc c.end (child whole doc kinds.node (get_or opened (s.depth - 1) no_level).row t (frames_of doc root opened s.depth) v)) (frames_of doc root opened s.depth) i (take i v.rows) b' a
+      ends root m v t z y = rw (← q, frames root) (rw (← q) (m.ends 1 (name_in doc root (get_or opened (s.depth - 1) no_level).name s) t (frames_of doc root opened (s.depth - 1)) v refl refl z (moved_stands c.end y)))
 
       grown : (x n : ℕ) → s.fill.rows ≤ n → x < s.fill.rows → x < n
       grown x n h l = omega arith
@@ -243,7 +239,7 @@ module _ {doc opened : List ℕ} {c : StartTag} {s : Walk} (begun : Started doc 
                 few = omega (arith, d', walks.few);
                 long = walks.long;
                 named = λ j p b. walks.named j p (omega (arith, d'));
-                owners = λ j b. grown (get_or opened j 0) s'.fill.rows m.0.onward.1 (walks.owners j (omega (arith, d')));
+                owners = λ j b. grown (get_or opened j no_level).row s'.fill.rows m.0.onward.1 (walks.owners j (omega (arith, d')));
               },
             );
             leads = λ root t v z y.

@@ -13,44 +13,47 @@ use Rattle.document.specs.declared.Fill.{Fill}
 use Rattle.document.specs.declared.Next.{Next}
 use Rattle.document.specs.declared.Refusal.{Refusal}
 use Rattle.reader.specs.declared.Walk.{Walk}
+use Rattle.reader.specs.declared.Level.{Level}
 use Rattle.std.specs.declared.ops.ControlFlow.{ControlFlow}
 use Rattle.std.specs.declared.ops.ControlFlow.TheVariants.{Break, Continue}
 
--- the frames of the open nodes: the root, whose name is given, and nodes in it; the first 1,024 words are their rows, the root's
--- first, and the next the places of their names, each `node`
-abbrev pub frames_of : List ℕ → Name → List ℕ → ℕ → List Frame
+abbrev pub no_level : Level
+no_level = record { row = 0; name = 0 }
+
+-- the frames of the open nodes, the innermost first; the levels have the root first, and each name but the root's is `node`
+abbrev pub frames_of : List ℕ → Name → List Level → ℕ → List Frame
 frames_of doc root opened zero = []
-frames_of doc root opened (suc zero) = element kinds.node root (get_or opened 0 0) ∷ []
+frames_of doc root opened (suc zero) = element kinds.node root (get_or opened 0 no_level).row ∷ []
 frames_of doc root opened (suc (suc d)) =
-    element kinds.node (name_at doc (get_or opened (suc d + 1024) 0) 4) (get_or opened (suc d) 0) ∷ frames_of doc root opened (suc d)
+    element kinds.node (name_at doc (get_or opened (suc d) no_level).name 4) (get_or opened (suc d) no_level).row ∷ frames_of doc root opened (suc d)
 
 -- a walk through the open nodes is within bounds
-pub record Walking (doc opened : List ℕ) (s : Walk) : Type 0 where
+pub record Walking (doc : List ℕ) (opened : List Level) (s : Walk) : Type 0 where
   pub bounds : Bounded doc s.fill
   pub deep : 0 < s.depth
   pub few : s.depth ≤ 1024
-  pub long : length opened ≡ 2048
-  pub named : (j : ℕ) → 0 < j → j < s.depth → get_or opened (j + 1024) 0 + 4 ≤ length doc
-  pub owners : (j : ℕ) → j < s.depth → get_or opened j 0 < s.fill.rows
+  pub long : length opened ≡ 1024
+  pub named : (j : ℕ) → 0 < j → j < s.depth → (get_or opened j no_level).name + 4 ≤ length doc
+  pub owners : (j : ℕ) → j < s.depth → (get_or opened j no_level).row < s.fill.rows
 
-abbrev pub OnwardTurn : List ℕ → List ℕ → Walk → Result (ControlFlow Fill Walk) Refusal → Type 0
+abbrev pub OnwardTurn : List ℕ → List Level → Walk → Result (ControlFlow Fill Walk) Refusal → Type 0
 OnwardTurn doc opened s (Err x) = Unit {0}
 OnwardTurn doc opened s (Ok (Break g)) = Bounded doc g
 OnwardTurn doc opened s (Ok (Continue s')) = (s.fill.at < s'.fill.at) × Walking doc opened s'
 
 -- where a run in the open nodes comes to
-abbrev pub LeadsFrom : List ℕ → Name → List ℕ → State Shown → Lent → Result (ControlFlow Fill Walk) Refusal → Type 0
+abbrev pub LeadsFrom : List ℕ → Name → List Level → State Shown → Lent → Result (ControlFlow Fill Walk) Refusal → Type 0
 LeadsFrom doc root opened x b (Err y) = x ≡ refused y
 LeadsFrom doc root opened x b (Ok (Break g)) = (u : Tables Shown) × Stands u b g × (x ≡ accepted u)
 LeadsFrom doc root opened x b (Ok (Continue s)) = (u : Tables Shown) × Stands u b s.fill × (x ≡ runs doc s.fill.at (reading (frames_of doc root opened s.depth) u))
 
 -- what one token more says
-pub record Turns (doc : List ℕ) (root : Name) (opened opened' : List ℕ) (s : Walk) (b b' : Lent) (r : Result (ControlFlow Fill Walk) Refusal) : Type 0 where
+pub record Turns (doc : List ℕ) (root : Name) (opened opened' : List Level) (s : Walk) (b b' : Lent) (r : Result (ControlFlow Fill Walk) Refusal) : Type 0 where
   pub onward : OnwardTurn doc opened' s r
   pub leads : (v : Tables Shown) → Stands v b s.fill → LeadsFrom doc root opened' (runs doc s.fill.at (reading (frames_of doc root opened s.depth) v)) b' r
 
 -- what a node in a node says, where row i is the innermost open node's
-pub record Opens (doc : List ℕ) (c : StartTag) (i : ℕ) (s : Walk) (opened opened' rows rows' text text' : List ℕ) (r : Result (ControlFlow Fill Walk) Refusal) : Type 0 where
+pub record Opens (doc : List ℕ) (c : StartTag) (i : ℕ) (s : Walk) (opened opened' : List Level) (rows rows' text text' : List ℕ) (r : Result (ControlFlow Fill Walk) Refusal) : Type 0 where
   pub onward : OnwardTurn doc opened' s r
   pub leads :
       (root : Name) (t : Tag) (v : Tables Shown) (w : List ℕ) →
@@ -96,27 +99,27 @@ pub record ChildIn (doc : List ℕ) (c : StartTag) (i : ℕ) (s : Walk) (b b' : 
   pub is : IsChildIn doc c i s b b' r
 
 -- a start tag in the innermost open node
-pub record Started (doc opened : List ℕ) (c : StartTag) (s : Walk) : Type 0 where
+pub record Started (doc : List ℕ) (opened : List Level) (c : StartTag) (s : Walk) : Type 0 where
   pub walks : Walking doc opened s
   pub further : s.fill.at < c.at
   pub fits : TagFits doc c
   pub four : c.kind ≡ kinds.node → c.len ≡ 4
 
 -- what the element of that tag says
-pub record Begun (doc : List ℕ) (c : StartTag) (s : Walk) (opened opened' : List ℕ) (b b' : Lent) (r : Result (ControlFlow Fill Walk) Refusal) : Type 0 where
+pub record Begun (doc : List ℕ) (c : StartTag) (s : Walk) (opened opened' : List Level) (b b' : Lent) (r : Result (ControlFlow Fill Walk) Refusal) : Type 0 where
   pub onward : OnwardTurn doc opened' s r
   pub leads :
       (root : Name) (t : Tag) (v : Tables Shown) →
       TagIs doc c t →
       Stands v b s.fill →
-      LeadsFrom doc root opened' (runs doc c.end (child whole doc kinds.node (get_or opened (s.depth - 1) 0) t (frames_of doc root opened s.depth) v)) b' r
+      LeadsFrom doc root opened' (runs doc c.end (child whole doc kinds.node (get_or opened (s.depth - 1) no_level).row t (frames_of doc root opened s.depth) v)) b' r
 
 -- what walking the open nodes to the root's end says
 abbrev pub EndsNodes : State Shown → Lent → Result Fill Refusal → Type 0
 EndsNodes x b (Err y) = x ≡ refused y
 EndsNodes x b (Ok g) = (u : Tables Shown) × Stands u b g × (x ≡ accepted u)
 
-pub record Walks (doc : List ℕ) (root : Name) (opened : List ℕ) (s : Walk) (b b' : Lent) (r : Result Fill Refusal) : Type 0 where
+pub record Walks (doc : List ℕ) (root : Name) (opened : List Level) (s : Walk) (b b' : Lent) (r : Result Fill Refusal) : Type 0 where
   pub leads : (v : Tables Shown) → Stands v b s.fill → EndsNodes (runs doc s.fill.at (reading (frames_of doc root opened s.depth) v)) b' r
 
 -- what reading a whole document says, apart from its limit and its UTF-8
@@ -127,10 +130,10 @@ pub record ReadsWhole (doc : List ℕ) (b : Lent) (r : Result Fill Refusal) : Ty
 pub record ReadsRoot (doc : List ℕ) (c : StartTag) (b : Lent) (r : Result Fill Refusal) : Type 0 where
   pub ends : (t : Tag) → TagIs doc c t → EndsNodes (runs doc c.end (begins whole doc kinds.node t [] (record { rows = []; warnings = [] }))) b r
 
--- room for the rows and the names of the open nodes: the root's row is 0
-pub record Levels (opened : List ℕ) : Type 0 where
-  pub long : length opened ≡ 2048
-  pub root : get_or opened 0 0 ≡ 0
+-- room for the open nodes: the root's row is 0
+pub record Levels (opened : List Level) : Type 0 where
+  pub long : length opened ≡ 1024
+  pub root : (get_or opened 0 no_level).row ≡ 0
 
 -- the root's row has been put, and it is open
 pub record RootOpen (doc : List ℕ) (c : StartTag) (g : Fill) (rows text : List ℕ) : Type 0 where

@@ -22,6 +22,13 @@ pub struct Walk {
     pub fill: Fill,
 }
 
+// An open node: its row, and in `name` the place of its name.
+#[derive(Clone, Copy)]
+pub struct Level {
+    pub row: u32,
+    pub name: u32,
+}
+
 // A child of a node with row i that is no node itself.
 #[tactic(auto, using(crate::proofs::NodeChildren::node_children))]
 fn node_child(r: &mut Reader, c: &StartTag, i: usize, f: Fill) -> Result<Fill, Refusal>
@@ -45,16 +52,16 @@ fn node_child(r: &mut Reader, c: &StartTag, i: usize, f: Fill) -> Result<Fill, R
 }
 
 // Keeps the row of an open node, and the place of its name.
-fn keep_level(opened: &mut [u32], depth: usize, row: usize, at: usize)
-    requires long { depth + 1024 < length opened.old }
-    requires deep { depth < 1024 }
+fn keep_level(opened: &mut [Level], depth: usize, row: usize, at: usize)
+    requires inside { depth < length opened.old }
     requires row_small { row < 2 ^ 32 }
     requires at_small { at < 2 ^ 32 }
-    ensures { opened.new ≡ set (set opened.old depth row) (depth + 1024) «at» }
+    ensures { opened.new ≡ set opened.old depth (record { row = row; name = at }) }
 {
-    opened[depth] = row as u32;
-    let level = depth + 1024;
-    opened[level] = at as u32;
+    opened[depth] = Level {
+        row: row as u32,
+        name: at as u32,
+    };
 }
 
 // A node in a node: its row, and where it is open one more level, with the place of its name.
@@ -63,7 +70,7 @@ fn open_node(
     doc: &[u8],
     rows: &mut [u32],
     text: &mut [u8],
-    opened: &mut [u32],
+    opened: &mut [Level],
     c: &StartTag,
     i: usize,
     s: Walk,
@@ -92,7 +99,8 @@ fn open_node(
     }))
 }
 
-// What comes next in the innermost open node; the root's name stands at a place, and `node` at another where it is not the root.
+// What comes next in the innermost open node. `at`, `len`: the root's name. `inner`: where the name of the innermost node stands, if that is
+// not the root.
 #[tactic(auto, using(crate::proofs::Turning::nexts))]
 fn next_in(
     doc: &[u8],
@@ -158,7 +166,7 @@ fn read_child(
 #[tactic(auto, using(crate::proofs::Turning::starteds))]
 fn start_in(
     r: &mut Reader,
-    opened: &mut [u32],
+    opened: &mut [Level],
     c: &StartTag,
     s: Walk,
 ) -> Result<ControlFlow<Fill, Walk>, Refusal>
@@ -169,7 +177,7 @@ fn start_in(
         (lent_to r.new) result }
 {
     let last = s.depth - 1;
-    let i = opened[last] as usize;
+    let i = opened[last].row as usize;
     if c.kind == kinds::NODE {
         return open_node(r.doc, &mut *r.rows, &mut *r.text, opened, c, i, s);
     }
@@ -180,7 +188,7 @@ fn start_in(
 #[tactic(auto, using(crate::proofs::Turning::turns))]
 fn turn_at(
     r: &mut Reader,
-    opened: &mut [u32],
+    opened: &mut [Level],
     at: usize,
     len: usize,
     s: Walk,
@@ -193,8 +201,7 @@ fn turn_at(
         (lent_to r.new) result }
 {
     let last = s.depth - 1;
-    let level = last + 1024;
-    let inner = opened[level] as usize;
+    let inner = opened[last].name as usize;
     match next_in(r.doc, r.classes, at, len, inner, s)? {
         Next::Close(closing) => Ok(close_node(s, closing.end)),
         Next::Start(c) => start_in(r, opened, &c, s),
@@ -205,7 +212,7 @@ fn turn_at(
 #[tactic(auto, using(crate::proofs::Rooted::walking))]
 fn nodes(
     r: &mut Reader,
-    opened: &mut [u32],
+    opened: &mut [Level],
     at: usize,
     len: usize,
     s: Walk,
@@ -227,11 +234,11 @@ fn nodes(
     }
 }
 
-// Room for the rows of the open nodes, and for the places of their names.
-fn levels() -> [u32; 2048]
+// Room for the open nodes.
+fn levels() -> [Level; 1024]
     ensures { Levels result }
 {
-    [0u32; 2048]
+    [Level { row: 0, name: 0 }; 1024]
 }
 
 // The children of the root, whose row is put.
@@ -374,7 +381,7 @@ pub fn parse_with_warnings(
     read_sound(document, rows, warnings, text)
 }
 
-// The same for a document within the limit that is UTF-8.
+// Reads a document that is UTF-8 and within the limit: its rows, warnings and text, or why it is refused.
 #[tactic(auto, using(crate::proofs::Entries::entry))]
 fn read_sound(doc: &[u8], rows: &mut [u32], warnings: &mut [u32], text: &mut [u8]) -> Verdict
     requires { Sound doc.now }

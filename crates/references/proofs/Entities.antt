@@ -14,7 +14,7 @@ use lib.Seq.{drop-cons}
 use Rattle.std.proofs.Common.{Ok, Err}
 use Rattle.std.proofs.lemmas.Slice.Eq.{text_from_reads}
 use Rattle.slices.specs.Bytes.{if, bytes, all, empty, same}
-use Rattle.slices.proofs.Runs.{same_equal}
+use Rattle.slices.proofs.Runs.{same_equal, Differs, differing}
 use Rattle.references.specs.Characters.{xml_char}
 use Rattle.references.specs.Unescape.{Reference, character, fault, decimal_digit, hex_digit, number, of_code, of_digits, of_number, char_reference, reference}
 use Rattle.references.specs.Digits.{digit_in, Base}
@@ -41,27 +41,6 @@ module _ (s : List ℕ) where
 
     pub code_decimal : (get_or s 1 0 ≡ 120 → ⊥) → (get_or s 1 0 ≡ 88 → ⊥) → x ≡ of_digits 10 (digit_in 10) (drop 1 s) → x ≡ of_number (drop 1 s)
     code_decimal e g f = f ∙ rw (drop-cons s 1 0 h, ne_eqb (get_or s 1 0) 120 e, ne_eqb (get_or s 1 0) 88 g)
-
--- a text is not some bytes, since its length is another or a byte is
-pub record Differs (s t : List ℕ) : Type 0 where
-  pub is : same s t ≡ false
-
-differs : (s t : List ℕ) → (s ≡ t → ⊥) → Differs s t
-differs s t n = go (same s t) refl (same_equal s t)
-  where
-    go : (r : Bool) → same s t ≡ r → (r ≡ true → s ≡ t) → Differs s t
-    go true e f = absurd (n (f refl))
-    go false e f = record { is = e }
-
-module _ (s t : List ℕ) where
-  pub differs_short : length s < length t → Differs s t
-  differs_short h = differs s t (λ e. omega (arith, ap length e))
-
-  pub differs_long : length t < length s → Differs s t
-  differs_long h = differs s t (λ e. omega (arith, ap length e))
-
-  pub differs_at : (i : ℕ) → (get_or s i 0 ≡ get_or t i 0 → ⊥) → Differs s t
-  differs_at i h = differs s t (λ e. h (ap (λ (l : List ℕ). get_or l i 0) e))
 
 -- a `#` begins no name of an entity
 pub names_number : (s : List ℕ) {x : Reference} → 0 < length s → get_or s 0 0 ≡ 35 → x ≡ of_number (drop 1 s) → x ≡ reference s
@@ -105,7 +84,7 @@ pub names_none : {s : List ℕ} → Unnumbered s → Differs s (bytes "amp") →
 unfolding reference
 names_none u a b c d e = u.is ∙ rw (a.is, b.is, c.is, d.is, e.is)
 
-pub ruleset entities = (names_number, names_amp, names_lt, names_gt, names_quot, names_apos, names_none, unnumbered_empty, unnumbered_first, differs_short, differs_long, differs_at, text_from_reads, rules)
+pub ruleset entities = (names_number, names_amp, names_lt, names_gt, names_quot, names_apos, names_none, unnumbered_empty, unnumbered_first, differing, text_from_reads, rules)
 
 -- ---- a reference to a character has two bytes at least, and the character a code
 

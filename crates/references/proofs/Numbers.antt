@@ -5,20 +5,23 @@ use mathlib.Core.Path.{◌≡◌, refl, sym, ◌∙◌}
 use mathlib.Core.List.{List, [], ◌∷◌}
 use mathlib.Core.Bool.{Bool, true, false, ◌&&◌, ◌||◌, or-false}
 use borrow.Author.Rules.{rules}
-use borrow.Author.Tests.{lt-ltb, le-ltb, le-leb, lt-leb, ne_eqb, ltb-true, ltb-false}
+use borrow.Author.Tests.{le-leb, lt-leb, ne_eqb}
 use native.Mathlib.Nat.{mul-le-mul, mul-one}
 use native.Mathlib.Numerals.{add-one}
 use native.Mathlib.Omega.{arith}
 use mir.Syntax.{w32}
 use mir.Val.{Fits}
-use lib.Dec.{eqb, leb, ltb}
-use lib.ListN.{length, drop, get_or, drop_of_length-le}
-use lib.Seq.{drop-cons}
+use lib.Dec.{eqb, leb}
+use lib.ListN.{length, take, drop, get_or, length-drop, drop_of_length-le}
+use lib.Seq.{drop-cons, take_all}
 use Rattle.std.proofs.Common.{Ok, Err}
+use Rattle.std.specs.Prelude.{min}
+use Rattle.std.proofs.Math.Nat.{min-eq_left, min-eq_right, min-le_right}
 use Rattle.slices.specs.Bytes.{if, all}
+use Rattle.utf8.proofs.Sequences.{below}
 use Rattle.references.specs.Characters.{xml_char}
 use Rattle.references.specs.Unescape.{decimal_digit, hex_digit, digit_value, number, fault, of_code, of_digits}
-use Rattle.references.specs.Digits.{digit_in, bounded, Base}
+use Rattle.references.specs.Digits.{digit_in, Base}
 use Rattle.references.specs.Outcome.{reference_of}
 
 -- ---- characters
@@ -100,9 +103,9 @@ module _ (b : ℕ) where
       go true e = e
       go false e = rw e
 
-  module _ (base : ℕ) (h : digit_in base b ≡ true) where
+  module _ (h : hex_digit b ≡ true) where
     no_digit : false ≡ hex_digit b → ⊥
-    no_digit e = never (hex_digit b) (sym e) (any_hex base h)
+    no_digit e = never (hex_digit b) (sym e) h
 
     pub value_least : 48 ≤ b
     value_least =
@@ -151,19 +154,6 @@ module _ (n base d : ℕ) where
   pub sum_fits : n ≤ 0x110000 → Base base → d < 256 → Fits w32 (n * base + d)
   sum_fits h b l = record { fits = omega (arith, product_small h b) }
 
-pub bounded_over : (m : ℕ) → 0x110000 < m → 0x110000 ≡ bounded m
-bounded_over m h = rw (lt-ltb 0x110000 m h)
-
-pub bounded_under : (m : ℕ) → m ≤ 0x110000 → m ≡ bounded m
-bounded_under m h = rw (le-ltb 0x110000 m h)
-
-bounded_small : (m : ℕ) → bounded m ≤ 0x110000
-bounded_small m = go (ltb 0x110000 m) refl
-  where
-    go : (t : Bool) → ltb 0x110000 m ≡ t → if t 0x110000 m ≤ 0x110000
-    go true e = omega arith
-    go false e = ltb-false 0x110000 m e
-
 number_grows : (base n : ℕ) (l : List ℕ) → 1 ≤ base → n ≤ number base n l
 number_grows base n [] h = omega arith
 number_grows base n (b ∷ l) h =
@@ -175,49 +165,53 @@ no_code : (base n : ℕ) (l : List ℕ) → 1 ≤ base → 0x110000 ≤ n → of
 no_code base n l h g = rw (no_char (number base n l) (omega (arith, number_grows base n l h)))
 
 -- it may stay at 0x110000
-bounded_code : (base m : ℕ) (l : List ℕ) → 1 ≤ base → of_code (number base m l) ≡ of_code (number base (bounded m) l)
-bounded_code base m l h = go (ltb 0x110000 m) refl
-  where
-    go : (t : Bool) → ltb 0x110000 m ≡ t → of_code (number base m l) ≡ of_code (number base (if t 0x110000 m) l)
-    go true e = no_code base m l h (omega (arith, ltb-true 0x110000 m e)) ∙ sym (no_code base 0x110000 l h (omega arith))
-    go false e = refl
+min_code : (base m : ℕ) (l : List ℕ) → 1 ≤ base → of_code (number base m l) ≡ of_code (number base (min m 0x110000) l)
+min_code base m l h =
+    below m 0x110000 (λ k. rw (min-eq_left {n = m} {m = 0x110000} (omega (arith, k))))
+    (λ k. rw (min-eq_right {m = m} k) (no_code base m l h k ∙ sym (no_code base 0x110000 l h (omega arith))))
 
--- digits that began at from and stand at at, with a number so far: what is left of them is what was asked
-pub record Numbering (base : ℕ) (s : List ℕ) (from at n : ℕ) : Type 0 where
-  pub left : of_digits base (digit_in base) (drop from s) ≡ if (all (digit_in base) (drop at s)) (of_code (number base n (drop at s))) (fault 11)
+-- what is asked of digits is what is left of them after the first i, with a number so far
+pub record Numbering (base : ℕ) (asked ds : List ℕ) (i n : ℕ) : Type 0 where
+  pub left : of_digits base (digit_in base) asked ≡ if (all (digit_in base) (drop i ds)) (of_code (number base n (drop i ds))) (fault 11)
   pub small : n ≤ 0x110000
   pub of_base : Base base
 
-pub number_none : (base : ℕ) (s : List ℕ) (from : ℕ) → length s ≤ from → reference_of (Err 11) ≡ of_digits base (digit_in base) (drop from s)
-number_none base s from h = rw (drop_of_length-le s h)
+module _ (base : ℕ) (s : List ℕ) (from : ℕ) where
+  pub number_none : length s ≤ from → reference_of (Err 11) ≡ of_digits base (digit_in base) (drop from s)
+  number_none h = rw (drop_of_length-le s h)
 
-pub number_begins : {base : ℕ} {s : List ℕ} {from : ℕ} → Base base → from < length s → Numbering base s from from 0
-number_begins {base} {s} {from} b h = record { left = rw (drop-cons s from 0 h); small = omega arith; of_base = b }
+  -- the rest of the bytes, as the code lends it
+  pub number_begins : Base base → from < length s → Numbering base (drop from s) (take (length s - from) (drop from s)) 0 0
+  number_begins b h = record {
+    left = rw (take_all (length s - from) (drop from s) (omega (arith, length-drop from s)), drop-cons s from 0 h);
+    small = omega arith;
+    of_base = b;
+  }
 
-module _ {base : ℕ} {s : List ℕ} {from at n : ℕ} (g : Numbering base s from at n) where
-  pub number_ends : length s ≤ at → {t : Bool} → t ≡ xml_char n → t ≡ true → reference_of (Ok n) ≡ of_digits base (digit_in base) (drop from s)
-  number_ends h e f = sym (g.left ∙ rw (drop_of_length-le s h, sym e ∙ f))
+module _ {base : ℕ} {asked ds : List ℕ} {i n : ℕ} (g : Numbering base asked ds i n) where
+  pub number_ends : length ds ≤ i → {t : Bool} → t ≡ xml_char n → t ≡ true → reference_of (Ok n) ≡ of_digits base (digit_in base) asked
+  number_ends h e f = sym (g.left ∙ rw (drop_of_length-le ds h, sym e ∙ f))
 
-  pub number_fails : length s ≤ at → {t : Bool} → t ≡ xml_char n → t ≡ false → reference_of (Err 11) ≡ of_digits base (digit_in base) (drop from s)
-  number_fails h e f = sym (g.left ∙ rw (drop_of_length-le s h, sym e ∙ f))
+  pub number_fails : length ds ≤ i → {t : Bool} → t ≡ xml_char n → t ≡ false → reference_of (Err 11) ≡ of_digits base (digit_in base) asked
+  number_fails h e f = sym (g.left ∙ rw (drop_of_length-le ds h, sym e ∙ f))
 
-  module _ (h : at < length s) {t : Bool} (e : t ≡ digit_in base (get_or s at 0)) where
-    pub number_stops : t ≡ false → reference_of (Err 11) ≡ of_digits base (digit_in base) (drop from s)
-    number_stops f = sym (g.left ∙ rw (drop-cons s at 0 h, sym e ∙ f))
+  module _ (h : i < length ds) {t : Bool} (e : t ≡ digit_in base (get_or ds i 0)) where
+    pub number_stops : t ≡ false → reference_of (Err 11) ≡ of_digits base (digit_in base) asked
+    number_stops f = sym (g.left ∙ rw (drop-cons ds i 0 h, sym e ∙ f))
 
-    pub number_digit : t ≡ true → digit_in base (get_or s at 0) ≡ true
-    number_digit f = sym e ∙ f
+    pub number_digit : t ≡ true → hex_digit (get_or ds i 0) ≡ true
+    number_digit f = any_hex (get_or ds i 0) base (sym e ∙ f)
 
-    pub number_small : {d : ℕ} → t ≡ true → d ≡ digit_value (get_or s at 0) → d < 256
-    number_small f = value_small (get_or s at 0) base (sym e ∙ f)
+    pub number_small : {d : ℕ} → t ≡ true → d ≡ digit_value (get_or ds i 0) → d < 256
+    number_small f = value_small (get_or ds i 0) (number_digit f)
 
-    pub number_more : {d r : ℕ} → t ≡ true → d ≡ digit_value (get_or s at 0) → r ≡ bounded (n * base + d) → Numbering base s from (at + 1) r
+    pub number_more : {d r : ℕ} → t ≡ true → d ≡ digit_value (get_or ds i 0) → r ≡ min (n * base + d) 0x110000 → Numbering base asked ds (i + 1) r
     number_more {d} {r} f v q = record {
       left =
           g.left
-          ∙ rw (drop-cons s at 0 h, sym e ∙ f, add-one, q, v, bounded_code base (n * base + digit_value (get_or s at 0)) (drop (suc at) s) g.of_base.least);
-      small = rw q (bounded_small (n * base + d));
+          ∙ rw (drop-cons ds i 0 h, sym e ∙ f, add-one, q, v, min_code base (n * base + digit_value (get_or ds i 0)) (drop (suc i) ds) g.of_base.least);
+      small = rw q (min-le_right (n * base + d) 0x110000);
       of_base = g.of_base;
     }
 
-pub ruleset numbers = (number_none, number_begins, number_ends, number_fails, number_stops, number_digit, number_small, number_more, product_fits, sum_fits, bounded_over, bounded_under, rules)
+pub ruleset numbers = (number_none, number_begins, number_ends, number_fails, number_stops, number_digit, number_small, number_more, product_fits, sum_fits, rules)

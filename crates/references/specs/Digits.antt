@@ -1,15 +1,12 @@
--- Digits by their base, and the number that they write so far, which stays at 0x110000 from there on: no character has it.
+-- Digits by their base.
 -- Assumes nothing.
-use Rattle.std.specs.Prelude.{ℕ, ◌≤◌, Bool, eqb, ltb}
+use Rattle.std.specs.Prelude.{ℕ, ◌≤◌, Bool, eqb}
 use Rattle.slices.specs.Bytes.{if}
 use Rattle.references.specs.Unescape.{decimal_digit, hex_digit}
 
 -- of base 16, or of 10
 abbrev pub digit_in : ℕ → ℕ → Bool
 digit_in base b = if (eqb base 16) (hex_digit b) (decimal_digit b)
-
-abbrev pub bounded : ℕ → ℕ
-bounded n = if (ltb 0x110000 n) 0x110000 n
 
 -- a base that is no 0 and no more than 16
 pub record Base (base : ℕ) : Type 0 where

@@ -1,8 +1,8 @@
 // The digits of a character reference, and the character that they write.
-ghost use Rattle.std.specs.Prelude.{◌≡◌, true, ◌+◌, ◌*◌, ◌≤◌, ◌<◌, drop};
+ghost use Rattle.std.specs.Prelude.{◌≡◌, true, ◌+◌, ◌*◌, ◌≤◌, ◌<◌, drop, min};
 ghost use Rattle.references.specs.Characters.{xml_char};
 ghost use Rattle.references.specs.Unescape.{decimal_digit, hex_digit, digit_value, of_digits};
-ghost use Rattle.references.specs.Digits.{digit_in, bounded, Base};
+ghost use Rattle.references.specs.Digits.{digit_in, Base};
 ghost use Rattle.references.specs.Outcome.{reference_of};
 
 // Whether XML allows a character.
@@ -16,13 +16,13 @@ fn is_xml_char(c: u32) -> bool
 fn is_decimal(b: u8) -> bool
     ensures { result ≡ decimal_digit b }
 {
-    matches!(b, b'0'..=b'9')
+    b.is_ascii_digit()
 }
 
 fn is_hex(b: u8) -> bool
     ensures { result ≡ hex_digit b }
 {
-    matches!(b, b'0'..=b'9' | b'A'..=b'F' | b'a'..=b'f')
+    b.is_ascii_hexdigit()
 }
 
 // Whether a byte is a digit: of base 16, or of 10.
@@ -35,9 +35,9 @@ fn is_digit(base: u32, b: u8) -> bool
     is_decimal(b)
 }
 
-// The value of a digit. Three ranges, each with its own offset: the letters of either case go on from 10.
-fn digit_value(base: u32, b: u8) -> u32
-    requires { digit_in base b ≡ true }
+// The value of a digit of base 16; those of 10 are among them. Three ranges, each with its own offset: the letters of either case go on from 10.
+fn digit_value(b: u8) -> u32
+    requires { hex_digit b ≡ true }
     ensures { result ≡ digit_value b }
 {
     if b <= 57 {
@@ -49,18 +49,14 @@ fn digit_value(base: u32, b: u8) -> u32
     (b - 87) as u32
 }
 
-// What a number and a digit after it write, or 0x110000 where that is more, as the definition answers.
+// What a number and a digit after it write, or 0x110000 where that is more: no character has that number.
 fn extended(n: u32, base: u32, d: u32) -> u32
     requires bounded { n ≤ 0x110000 }
     requires base { Base base }
     requires byte { d < 256 }
-    ensures { result ≡ bounded (n * base + d) }
+    ensures { result ≡ min (n * base + d) 0x110000 }
 {
-    let m = n * base + d;
-    if 0x110000 < m {
-        return 0x110000;
-    }
-    m
+    (n * base + d).min(0x110000)
 }
 
 // The code of the character that the digits from a place on write, with any number of zeros before them, or a fault's number.
@@ -74,12 +70,11 @@ pub fn of_digits(s: &[u8], from: usize, base: u32) -> Result<u32, u32>
         return Err(11);
     }
     let mut n = 0u32;
-    for at in from..s.len() {
-        let b = s[at];
+    for &b in &s[from..] {
         if !is_digit(base, b) {
             return Err(11);
         }
-        n = extended(n, base, digit_value(base, b));
+        n = extended(n, base, digit_value(b));
     }
     if is_xml_char(n) { Ok(n) } else { Err(11) }
 }

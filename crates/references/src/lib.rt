@@ -2,6 +2,7 @@
 #![tactic(auto)]
 
 ghost use Rattle.std.specs.Prelude.{◌≡◌, ◌+◌, ◌*◌, ◌<◌, ◌^◌, length, drop, get_or, Ok};
+ghost use Rattle.faults.specs.Fault.{fault};
 ghost use Rattle.answers.specs.Text.{answer_of, left_of};
 ghost use Rattle.answers.specs.Puts.{Puts};
 ghost use Rattle.references.specs.Escape.{escaped, escape};
@@ -11,6 +12,7 @@ ghost use Rattle.references.specs.Entries.{escaping, unescaping};
 ghost use Rattle.references.specs.Admission.{Admits, Reads};
 
 use answers::{TextAnswer, put};
+use faults::Fault;
 use scan::ClassTable;
 
 mod digits;
@@ -43,6 +45,14 @@ pub struct ValueFault {
     pub place: ValuePlace,
 }
 
+impl From<ValueFault> for Fault {
+    ghost from_gives = { λ f r. r ≡ fault f.number f.place.0 };
+
+    fn from(fault: ValueFault) -> Fault {
+        Fault::new(fault.number, fault.place.0)
+    }
+}
+
 // A place in a value as one in the document, where the value begins at an offset.
 pub fn in_document(value_offset: usize, at: ValuePlace) -> DocumentPlace
     requires { value_offset + at.0 < 2 ^ 63 }
@@ -51,7 +61,7 @@ pub fn in_document(value_offset: usize, at: ValuePlace) -> DocumentPlace
     DocumentPlace(value_offset + at.0)
 }
 
-// After `&#`: a character's code, or a fault's number, as of all that follow; the caller alone knows the place.
+// After `&#`: a character's code, or a fault's number; only the caller knows the place.
 fn of_number(entity: &[u8]) -> Result<u32, u32>
     requires { 0 < length entity.now }
     ensures { reference_of result ≡ of_number (drop 1 entity.now) }
@@ -145,7 +155,7 @@ pub fn check(value: &[u8]) -> Result<(), ValueFault>
     ensures { Checks value.now result }
 {
     let mut at = slices::find(value, 0, b'&');
-    // The next place is what the call found, so no range has it.
+    // The next place is what the call found, so no range gives it.
     while at < value.len() {
         match reference_at(value, at) {
             Ok(piece) => at = slices::find(value, piece.next, b'&'),
@@ -161,7 +171,7 @@ pub fn check(value: &[u8]) -> Result<(), ValueFault>
 }
 
 // Puts the shown bytes of a value at a count, up to its first fault.
-// The text and its count go apart, here and below: the count runs on past the room.
+// The text and its count are passed apart, here and below: the count runs on past the room.
 #[tactic(auto, using(crate::proofs::Values::shown))]
 pub fn put_shown(value: &[u8], out: &mut [u8], n: usize) -> usize
     requires { n + length value.now < 2 ^ 62 }
@@ -169,19 +179,16 @@ pub fn put_shown(value: &[u8], out: &mut [u8], n: usize) -> usize
 {
     let mut at = 0;
     let mut m = n;
-    // The next place is what the call found, so no range has it.
+    // The next place is what the call found, so no range gives it.
     while at < value.len() {
         match piece_at(value, at) {
-            Ok(piece) => match piece.shown {
-                Shown::Byte(b) => {
-                    m = tables::put_byte(out, m, b);
-                    at = piece.next;
-                }
-                Shown::Char(c) => {
-                    m = put::put_char(out, m, c);
-                    at = piece.next;
-                }
-            },
+            Ok(piece) => {
+                m = match piece.shown {
+                    Shown::Byte(b) => tables::put_byte(out, m, b),
+                    Shown::Char(c) => put::put_char(out, m, c),
+                };
+                at = piece.next;
+            }
             Err(_) => return m,
         }
     }
@@ -259,11 +266,11 @@ pub fn escape(value: &[u8], out: &mut [u8]) -> TextAnswer
         (escaping value.now (length out.old)) }
 {
     match admit(value) {
-        Err(fault) => answers::refuse(out, fault.number, fault.place.0),
+        Err(fault) => answers::refuse(out, Fault::from(fault)),
         Ok(()) => {
             let classes = scan::classes();
             let n = put_escaped(value, &classes, out, 0);
-            answers::finish(out, n, 21, n)
+            answers::finish(out, n, Fault::new(21, n))
         }
     }
 }
@@ -275,10 +282,10 @@ pub fn unescape(value: &[u8], out: &mut [u8]) -> TextAnswer
         (unescaping value.now (length out.old)) }
 {
     match admit_shown(value) {
-        Err(fault) => answers::refuse(out, fault.number, fault.place.0),
+        Err(fault) => answers::refuse(out, Fault::from(fault)),
         Ok(()) => {
             let n = put_shown(value, out, 0);
-            answers::finish(out, n, 18, value.len())
+            answers::finish(out, n, Fault::new(18, value.len()))
         }
     }
 }

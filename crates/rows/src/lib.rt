@@ -1,5 +1,5 @@
 // Rows and warnings in the tables that a caller lends.
-// No function takes a whole `Reader`: the parts that it is not given it leaves alone, with no clause to say so.
+// A function takes the parts of a `Reader` that it needs and not all of it: then no clause has to say that the other parts stay as they are.
 #![tactic(auto)]
 
 ghost use Rattle.std.specs.Prelude.{◌≡◌, ◌*◌, ◌<◌, ◌≤◌};
@@ -32,7 +32,7 @@ impl Head {
     }
 }
 
-// The triple of a value, and how many bytes of text there are after it.
+// The triple of a value, and how many bytes of text there are after it. No `Triple` in it: its three words go into the row one by one.
 #[derive(Clone, Copy)]
 pub struct Placed {
     pub source: u32,

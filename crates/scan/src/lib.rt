@@ -2,7 +2,6 @@
 #![tactic(auto)]
 
 ghost use Rattle.std.specs.Prelude.{◌≡◌, suc, pred, ◌+◌, ◌^◌, ◌≤◌, ◌<◌, eqb, length, drop, get_or};
-ghost use Rattle.faults.specs.Fault.{fault};
 ghost use Rattle.slices.specs.Bytes.{if};
 ghost use Rattle.slices.specs.Run.{Run};
 ghost use Rattle.scan.specs.Classes.{white, nc_name_byte};
@@ -61,7 +60,7 @@ fn prefixed(s: &[u8], classes: &ClassTable, first: usize) -> Name
 {
     let mut last = first;
     let mut end = nc_name_end(s, classes, first + 1);
-    // The next place is what the call found, so no range has it.
+    // The next place is what the call found, so no range gives it.
     while end < s.len() && s[end] == b':' {
         last = end;
         end = nc_name_end(s, classes, last + 1);
@@ -95,17 +94,14 @@ pub fn until(s: &[u8], from: usize, key: &[u8], number: u32) -> Result<usize, Fa
 {
     let first = key[0];
     let mut at = slices::find(s, from, first);
-    // The next place is what the call found, so no range has it.
+    // The next place is what the call found, so no range gives it.
     while at < s.len() {
         if slices::starts_at(s, at, key) {
             return Ok(at + key.len());
         }
         at = slices::find(s, at + 1, first);
     }
-    Err(Fault {
-        number,
-        place: from,
-    })
+    Err(Fault::new(number, from))
 }
 
 pub fn is_quote(b: u8) -> bool
@@ -133,13 +129,6 @@ fn is_end(depth: usize, b: u8) -> bool
     depth == 0 && b == b'>'
 }
 
-// The fault of a declaration, or of a quote in it, that never ends.
-fn unended(place: usize) -> Fault
-    ensures { result ≡ fault 25 place }
-{
-    Fault { number: 25, place }
-}
-
 // From past `<!` to past the `>` outside of quotes and brackets.
 #[tactic(auto, using(crate::proofs::Declarations::declares))]
 fn declaration(s: &[u8], from: usize) -> Result<usize, Fault>
@@ -148,14 +137,14 @@ fn declaration(s: &[u8], from: usize) -> Result<usize, Fault>
 {
     let mut at = from;
     let mut depth = 0;
-    // A quote moves the place by what the call found, so no range has it.
+    // A quote moves the place by what the call found, so no range gives it.
     while at < s.len() {
         let b = s[at];
         if is_quote(b) {
             let inner = at + 1;
             let close = slices::find(s, inner, b);
             if s.len() <= close {
-                return Err(unended(inner));
+                return Err(Fault::new(25, inner));
             }
             at = close + 1;
         } else {
@@ -166,7 +155,7 @@ fn declaration(s: &[u8], from: usize) -> Result<usize, Fault>
             at += 1;
         }
     }
-    Err(unended(at))
+    Err(Fault::new(25, at))
 }
 
 // What begins with `<!` at a place: comment first, then CDATA section, then declaration.
@@ -209,7 +198,7 @@ pub fn ignorable(s: &[u8], from: usize) -> Result<usize, Fault>
     ensures { Scans ignorable s.now from result }
 {
     let mut at = slices::find_near(s, from, b'<');
-    // The next place is what the call found, so no range has it.
+    // The next place is what the call found, so no range gives it.
     while at < s.len() {
         match markup_at(s, at)? {
             Markup::Tag => return Ok(at),

@@ -6,12 +6,13 @@ ghost use Rattle.sheets.specs.Counts.{Adds};
 ghost use Rattle.sheets.specs.Files.{document_outcome, file_outcome, AddsFile, AddsName, Sums, PrintsList};
 
 use output::failure::Failure;
+use sheets::Counts;
 use std::io::{Error, ErrorKind, Read, Result};
 use std::rt::Files;
 use std::{fs, str};
 
 // Reads a file's bytes, and adds what came of them.
-fn add_document(counts: &mut [u32; 128], document: &[u8])
+fn add_document(counts: &mut Counts, document: &[u8])
     ensures { Adds (document_outcome document.now) counts.old counts.new }
 {
     let mut rows: [u32; 16384] = output::filled(0);
@@ -19,16 +20,16 @@ fn add_document(counts: &mut [u32; 128], document: &[u8])
     let mut text: [u8; 65536] = output::filled(0);
     let mut decoded: [u8; 65536] = output::filled(0);
     let reading = reader::read(document, &mut rows, &mut warnings, &mut text, &mut decoded);
-    sheets::add(counts, reading.verdict, &rows, &warnings);
+    counts.add(reading.verdict, &rows, &warnings);
 }
 
 // Adds a file that was read; one of more bytes than the program takes is over-long.
 #[tactic(auto, using(sheets::proofs::Filing::filing), unfolding(sheets::specs::Files::file_outcome))]
-fn add_read(counts: &mut [u32; 128], document: &[u8])
+fn add_read(counts: &mut Counts, document: &[u8])
     ensures { Adds (file_outcome false document.now) counts.old counts.new }
 {
     if 65536 < document.len() {
-        sheets::add_refused(counts, 2);
+        counts.add_refused(2);
     } else {
         add_document(counts, document);
     }
@@ -44,12 +45,12 @@ fn read<F: Read + Drop>(file: Result<F>, document: &mut [u8]) -> Result<usize>
 
 // Adds what came of a file. The buffer has room for one byte more than the program takes.
 #[tactic(auto, using(sheets::proofs::Filing::filing))]
-fn add_file<F: Read + Drop>(counts: &mut [u32; 128], file: Result<F>)
+fn add_file<F: Read + Drop>(counts: &mut Counts, file: Result<F>)
     ensures { AddsFile counts.old counts.new }
 {
     let mut document: [u8; 65537] = output::filled(0);
     match read(file, &mut document) {
-        Err(_) => sheets::add_unreadable(counts),
+        Err(_) => counts.add_unreadable(),
         Ok(end) => add_read(counts, &document[..end]),
     }
 }
@@ -61,18 +62,18 @@ fn open<R: Files>(rt: &R, name: &[u8]) -> Result<R::File> {
 }
 
 // Adds the file of a name.
-fn add_name<R: Files>(rt: &R, counts: &mut [u32; 128], name: &[u8])
+fn add_name<R: Files>(rt: &R, counts: &mut Counts, name: &[u8])
     ensures { AddsName name.now counts.old counts.new }
 {
     if sheets::file_names::is_openable(name) {
         add_file(counts, open(rt, name));
     } else {
-        sheets::add_unreadable(counts);
+        counts.add_unreadable();
     }
 }
 
 // Adds the files of the first 512 names, and answers whether there are more.
-fn add_names<R: Files>(rt: &R, counts: &mut [u32; 128], list: &[u8]) -> bool
+fn add_names<R: Files>(rt: &R, counts: &mut Counts, list: &[u8]) -> bool
     ensures { Sums list.now counts.old counts.new result }
 {
     let mut rest = list;
@@ -90,13 +91,12 @@ fn add_names<R: Files>(rt: &R, counts: &mut [u32; 128], list: &[u8]) -> bool
 }
 
 // Puts the sheet of the files named in a list.
-#[tactic(auto, using(sheets::proofs::Filing::printing))]
 fn put_sheet<R: Files>(rt: &R, out: &mut [u8], list: &[u8]) -> usize
     requires room { 8192 ≤ length out.old }
     requires short { length list.now ≤ 262144 }
     ensures { PrintsList list.now out.new result }
 {
-    let mut counts = [0u32; 128];
+    let mut counts = Counts::new();
     let more = add_names(rt, &mut counts, list);
     sheets::lines::put_sheet(out, &counts, more)
 }

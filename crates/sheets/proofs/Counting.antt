@@ -33,27 +33,22 @@ occurs_other k x h = rw (ne_eqb x k h)
 
 -- ---- one word
 
-module _ {base word : ℕ} {c : List ℕ} (b : base ≤ 96) (l : length c ≡ 128) where
-  pub count_one : {v : ℕ} → word < 32 → v ≡ (get_or c (base + word) 0 + 1) % 2 ^ 32 → Counted base (word ∷ []) c (set c (base + word) v)
-  count_one {v} h e = record {
-    same = length-set c (base + word) v;
-    here = λ k m s. go k s (eqb word k) refl;
-    below = λ p q. get_or-set_other c (base + word) p v 0 (omega arith);
-    above = λ p q. get_or-set_other c (base + word) p v 0 (omega arith);
-  }
+module _ {word : ℕ} {c : List ℕ} (l : length c ≡ 32) where
+  pub count_one : {v : ℕ} → word < 32 → v ≡ (get_or c word 0 + 1) % 2 ^ 32 → Counted (word ∷ []) c (set c word v)
+  count_one {v} h e = record { here = λ k m s. go k s (eqb word k) refl }
     where
       Holds : ℕ → Type 0
-      Holds k = get_or c (base + k) 0 + occurs k (word ∷ []) < 2 ^ 32 → get_or (set c (base + word) v) (base + k) 0 ≡ get_or c (base + k) 0 + occurs k (word ∷ [])
+      Holds k = get_or c k 0 + occurs k (word ∷ []) < 2 ^ 32 → get_or (set c word v) k 0 ≡ get_or c k 0 + occurs k (word ∷ [])
 
       it : Holds word
-      it s = get_or-set_same c (base + word) v 0 (omega arith) ∙ omega (arith, e, s, occurs_it word)
+      it s = get_or-set_same c word v 0 (omega arith) ∙ omega (arith, e, s, occurs_it word)
 
-      go : (k : ℕ) → get_or c (base + k) 0 + occurs k (word ∷ []) < 2 ^ 32 → (t : Bool) → eqb word k ≡ t → get_or (set c (base + word) v) (base + k) 0 ≡ get_or c (base + k) 0 + occurs k (word ∷ [])
+      go : (k : ℕ) → get_or c k 0 + occurs k (word ∷ []) < 2 ^ 32 → (t : Bool) → eqb word k ≡ t → get_or (set c word v) k 0 ≡ get_or c k 0 + occurs k (word ∷ [])
       go k s true q = subst Holds (eqb-true word k q) it s
       go k s false q =
           let n : word ≡ k → ⊥ = eqb-false word k q in
-          let d : base + k ≡ base + word → ⊥ = λ z. n (omega (arith, z)) in
-          get_or-set_other c (base + word) (base + k) v 0 d ∙ rw (occurs_other k word n) (sym (add-zero (get_or c (base + k) 0)))
+          let d : k ≡ word → ⊥ = λ z. n (sym z) in
+          get_or-set_other c word k v 0 d ∙ rw (occurs_other k word n) (sym (add-zero (get_or c k 0)))
 
 -- ---- records
 
@@ -82,26 +77,22 @@ length_firsts w (suc n) [] = omega arith
 length_firsts w (suc n) (x ∷ words) = let i = length_firsts w n (drop (w - 1) words) in omega (arith, i, length-drop (w - 1) words)
 
 -- a loop that counts, with so many records of the rest left
-pub record Counting (base w n : ℕ) (words c₀ c : List ℕ) (left size : ℕ) (rest : List ℕ) : Type 0 where
-  pub long : length c ≡ 128
-  pub same : length c ≡ length c₀
+pub record Counting (w n : ℕ) (words c₀ c : List ℕ) (left size : ℕ) (rest : List ℕ) : Type 0 where
+  pub long : length c ≡ 32
   pub by : size ≡ w
-  pub here : (k : ℕ) → k < 32 → get_or c₀ (base + k) 0 + occurs k (firsts w n words) < 2 ^ 32 → get_or c (base + k) 0 + occurs k (firsts w left rest) ≡ get_or c₀ (base + k) 0 + occurs k (firsts w n words)
-  pub below : (p : ℕ) → p < base → get_or c p 0 ≡ get_or c₀ p 0
-  pub above : (p : ℕ) → base + 32 ≤ p → get_or c p 0 ≡ get_or c₀ p 0
+  pub here : (k : ℕ) → k < 32 → get_or c₀ k 0 + occurs k (firsts w n words) < 2 ^ 32 → get_or c k 0 + occurs k (firsts w left rest) ≡ get_or c₀ k 0 + occurs k (firsts w n words)
 
-pub counting_begins : {base w n left size : ℕ} {words c rest : List ℕ} → length c ≡ 128 → left ≡ n → size ≡ w → rest ≡ words → Counting base w n words c c left size rest
-counting_begins l e s r = record { long = l; same = refl; by = s; here = λ k h b. rw (e, r); below = λ p h. refl; above = λ p h. refl }
+pub counting_begins : {w n left size : ℕ} {words c rest : List ℕ} → length c ≡ 32 → left ≡ n → size ≡ w → rest ≡ words → Counting w n words c c left size rest
+counting_begins l e s r = record { long = l; by = s; here = λ k h b. rw (e, r) }
 
-module _ {base w n left size : ℕ} {words c₀ c rest : List ℕ} (g : Counting base w n words c₀ c left size rest) where
-  pub counting_more : (row : List ℕ) {c' rest' : List ℕ} {left' size' : ℕ} → 0 < w → left' + 1 ≡ left → size' ≡ size → rest ≡ row ++ rest' → length row ≡ min size (length rest) → 0 < length rest → Counted base (get_or row 0 0 ∷ []) c c' → Counting base w n words c₀ c' left' size' rest'
-  counting_more row {c'} {rest'} {left'} {size'} p o z e l h a =
+module _ {w n left size : ℕ} {words c₀ c rest : List ℕ} (g : Counting w n words c₀ c left size rest) where
+  pub counting_more : (row : List ℕ) {c' rest' : List ℕ} {left' size' : ℕ} → 0 < w → left' + 1 ≡ left → size' ≡ size → rest ≡ row ++ rest' → length row ≡ min size (length rest) → 0 < length rest → length c' ≡ length c → Counted (get_or row 0 0 ∷ []) c c' → Counting w n words c₀ c' left' size' rest'
+  counting_more row {c'} {rest'} {left'} {size'} p o z e l h q a =
       let m : length row ≡ min w (length rest) = rw g.by at l in
       let v : suc left' ≡ left = omega arith in
       let f : firsts w left rest ≡ get_or row 0 0 ∷ firsts w left' rest' = rw (← v) (firsts_more w left' rest row rest' p e m h) in
       record {
-        long = a.same ∙ g.long;
-        same = a.same ∙ g.same;
+        long = q ∙ g.long;
         by = z ∙ g.by;
         here = λ k b s.
             let u : occurs k (firsts w left rest) ≡ occurs k (get_or row 0 0 ∷ []) + occurs k (firsts w left' rest') =
@@ -110,18 +101,11 @@ module _ {base w n left size : ℕ} {words c₀ c rest : List ℕ} (g : Counting
             let i = g.here k b s in
             let j = a.here k b (omega (arith, u, i, s)) in
             omega (arith, u, i, j);
-        below = λ j b. a.below j b ∙ g.below j b;
-        above = λ j b. a.above j b ∙ g.above j b;
       }
 
   -- nothing is left: no record, or no word
-  pub counting_ends : (0 < left → length rest ≡ 0) → Counted base (firsts w n words) c₀ c
-  counting_ends h = record {
-    same = g.same;
-    here = λ k m s. omega (arith, nothing left rest h k, g.here k m s);
-    below = g.below;
-    above = g.above;
-  }
+  pub counting_ends : (0 < left → length rest ≡ 0) → Counted (firsts w n words) c₀ c
+  counting_ends h = record { here = λ k m s. omega (arith, nothing left rest h k, g.here k m s) }
     where
       nothing : (a : ℕ) (r : List ℕ) → (0 < a → length r ≡ 0) → (k : ℕ) → occurs k (firsts w a r) ≡ 0
       nothing zero r b k = refl

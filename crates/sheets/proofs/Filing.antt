@@ -1,15 +1,15 @@
 -- Files and names added, a list of them, and what is printed.
 -- Assumes nothing.
-use Rattle.std.proofs.Common.{◌≡◌, ℕ, suc, ◌+◌, ◌-◌, ◌<◌, ◌≤◌, Bool, true, false, ltb, List, [], ◌∷◌, ◌++◌, length, take, drop, replicate, Option, Some, None, sym, refl, ap, ◌∙◌, subst, append_assoc, append-nil, arith, length-append, length-take-le, take_all, take_at, rules, le-ltb, lt-ltb}
-use lib.ListN.{get_or-replicate}
+use Rattle.std.proofs.Common.{◌≡◌, ℕ, suc, ◌+◌, ◌-◌, ◌<◌, ◌≤◌, Bool, true, false, ltb, List, [], ◌∷◌, ◌++◌, length, take, drop, Option, Some, None, sym, refl, ap, ◌∙◌, subst, append_assoc, append-nil, arith, length-append, length-take-le, take_all, take_at, rules, le-ltb, lt-ltb}
 use Rattle.document.specs.Whole.{Room, verdict_of, rows_left_lem, room_of}
 use Rattle.document.specs.Verdict.{Verdict}
 use Rattle.files.specs.Files.{read_file, Reads}
 use Rattle.files.specs.declared.Reading.{Reading}
+use Rattle.sheets.specs.declared.Counts.{Counts}
 use Rattle.sheets.specs.Sheet.{Outcome, unreadable, refused, Sheet, blank, added, summed, sheet_of}
 use Rattle.sheets.specs.Answer.{outcome_of}
 use Rattle.sheets.specs.Names.{names_of, looked, more, openable}
-use Rattle.sheets.specs.Lines.{lines_of, more_line, long_line}
+use Rattle.sheets.specs.Lines.{lines_of, more_line}
 use Rattle.sheets.specs.Counts.{Stands, Adds}
 use Rattle.sheets.specs.Printed.{Prints}
 use Rattle.sheets.specs.Files.{program_room, program_decoded, document_outcome, file_outcome, name_outcome, Came, AddsFile, AddsName, Sums, PrintsList}
@@ -32,7 +32,7 @@ room_is rows warnings text a b c =
     ∙ ap (λ (n : ℕ). roomed 16384 n (length text)) (sym b)
     ∙ ap (λ (n : ℕ). roomed 16384 16384 n) (sym c)
 
-pub document_adds : {raw rows warnings text decoded c c' : List ℕ} {room : Room} {k : ℕ} {r : Reading} → Reads raw room k rows warnings text decoded r → room ≡ program_room → 65536 ≡ k → Adds (outcome_of r.verdict rows warnings) c c' → Adds (document_outcome raw) c c'
+pub document_adds : {raw rows warnings text decoded : List ℕ} {c c' : Counts} {room : Room} {k : ℕ} {r : Reading} → Reads raw room k rows warnings text decoded r → room ≡ program_room → 65536 ≡ k → Adds (outcome_of r.verdict rows warnings) c c' → Adds (document_outcome raw) c c'
 document_adds {raw} {rows} {warnings} {text} {decoded} {c} {c'} {room} {k} {r} s e f t =
     let q : Reads raw program_room k rows warnings text decoded r = subst (λ (x : Room). Reads raw x k rows warnings text decoded r) e s in
     let p : Reads raw program_room program_decoded rows warnings text decoded r = subst (λ (n : ℕ). Reads raw program_room n rows warnings text decoded r) (sym f) q in
@@ -40,12 +40,12 @@ document_adds {raw} {rows} {warnings} {text} {decoded} {c} {c'} {room} {k} {r} s
 
 -- ---- a file
 
-module _ {failed : Bool} (bs : List ℕ) {c c' : List ℕ} where
+module _ {failed : Bool} (bs : List ℕ) {c c' : Counts} where
   pub file_failed : failed ≡ true → Adds unreadable c c' → Adds (file_outcome failed bs) c c'
   unfolding file_outcome
   file_failed e a = rw e a
 
-module _ {failed : Bool} (end : ℕ) (d : List ℕ) {c c' : List ℕ} (e : failed ≡ false) (h : end ≤ length d) where
+module _ {failed : Bool} (end : ℕ) (d : List ℕ) {c c' : Counts} (e : failed ≡ false) (h : end ≤ length d) where
   pub file_long : 65536 < end → Adds (refused 2) c c' → Adds (file_outcome failed (take end d)) c c'
   unfolding file_outcome
   file_long l a = rw (e, length-take-le end d h, lt-ltb 65536 end l) a
@@ -54,20 +54,20 @@ module _ {failed : Bool} (end : ℕ) (d : List ℕ) {c c' : List ℕ} (e : faile
   unfolding file_outcome
   file_read l a = rw (e, length-take-le end d h, le-ltb 65536 end l) a
 
-pub file_none : {c c' : List ℕ} → Adds unreadable c c' → AddsFile c c'
+pub file_none : {c c' : Counts} → Adds unreadable c c' → AddsFile c c'
 unfolding file_outcome
 file_none a = record { failed = true; bytes = []; adds = a }
 
-pub file_some : (failed : Bool) (bs : List ℕ) {c c' : List ℕ} → Adds (file_outcome failed bs) c c' → AddsFile c c'
+pub file_some : (failed : Bool) (bs : List ℕ) {c c' : Counts} → Adds (file_outcome failed bs) c c' → AddsFile c c'
 file_some failed bs a = record { failed = failed; bytes = bs; adds = a }
 
 -- ---- a name
 
-pub name_shut : (n : List ℕ) {r : Bool} {c c' : List ℕ} → r ≡ openable n → r ≡ false → Adds unreadable c c' → AddsName n c c'
+pub name_shut : (n : List ℕ) {r : Bool} {c c' : Counts} → r ≡ openable n → r ≡ false → Adds unreadable c c' → AddsName n c c'
 unfolding name_outcome
 name_shut n p e a = record { failed = true; bytes = []; adds = rw (← p, e) a }
 
-pub name_opened : (n : List ℕ) {r : Bool} {c c' : List ℕ} → r ≡ openable n → r ≡ true → AddsFile c c' → AddsName n c c'
+pub name_opened : (n : List ℕ) {r : Bool} {c c' : Counts} → r ≡ openable n → r ≡ true → AddsFile c c' → AddsName n c c'
 unfolding name_outcome
 name_opened n p e a = record { failed = a.failed; bytes = a.bytes; adds = rw (← p, e) a.adds }
 
@@ -92,17 +92,15 @@ came_many (n ∷ ns) [] k = absurd k
 came_many (n ∷ ns) (o ∷ os) k = ap suc (came_many ns os k.1)
 
 -- so many names were added, and those of the rest are left
-pub record Going (s before c after : List ℕ) (names : ℕ) : Type 0 where
-  pub long : length c ≡ 128
+pub record Going (s : List ℕ) (before c : Counts) (after : List ℕ) (names : ℕ) : Type 0 where
   pub few : names ≤ 512
   pub front : List (List ℕ)
   pub many : length front ≡ names
   pub rest : names_of s ≡ front ++ names_of after
   pub stands : Stands 0 blank before → (os : List Outcome) × Came front os × Stands names (sheet_of os) c
 
-pub going_begins : {s c : List ℕ} → length c ≡ 128 → Going s c c s 0
-going_begins l = record {
-  long = l;
+pub going_begins : {s : List ℕ} {c : Counts} → Going s c c s 0
+going_begins = record {
   few = omega arith;
   front = [];
   many = refl;
@@ -110,16 +108,15 @@ going_begins l = record {
   stands = λ t. ([], tt, t);
 }
 
-module _ {s before c left : List ℕ} {names : ℕ} (g : Going s before c left names) where
+module _ {s left : List ℕ} {before c : Counts} {names : ℕ} (g : Going s before c left names) where
   -- the names that were added, the next and the rest
   going_rest : {m : List ℕ} (after : List ℕ) → names_of left ≡ m ∷ names_of after → names_of s ≡ g.front ++ (m ∷ names_of after)
   going_rest after e = g.rest ∙ ap (λ (l : List (List ℕ)). g.front ++ l) e
 
-  pub going_more : {m : List ℕ} (after : List ℕ) {c' : List ℕ} → names_of left ≡ m ∷ names_of after → (names ≡ 512 → ⊥) → length c' ≡ length c → AddsName m c c' → Going s before c' after (names + 1)
-  going_more {m} after {c'} e h l w =
+  pub going_more : {m : List ℕ} (after : List ℕ) {c' : Counts} → names_of left ≡ m ∷ names_of after → (names ≡ 512 → ⊥) → AddsName m c c' → Going s before c' after (names + 1)
+  going_more {m} after {c'} e h w =
       let o : Outcome = name_outcome m w.failed w.bytes in
       record {
-        long = l ∙ g.long;
         few = omega (arith, g.few);
         front = g.front ++ (m ∷ []);
         many = length-append g.front (m ∷ []) ∙ omega (arith, g.many);
@@ -162,34 +159,11 @@ module _ {s before c left : List ℕ} {names : ℕ} (g : Going s before c left n
 
 -- ---- what is printed
 
-pub blank_stands : Stands 0 blank (replicate 128 0)
-blank_stands = record {
-  bounded = record {
-    accepted = omega arith;
-    refused = omega arith;
-    unreadable = omega arith;
-    numbers = λ k. omega arith;
-    kinds = λ k. omega arith;
-    reasons = λ k. omega arith;
-  };
-  accepted = refl;
-  refused = refl;
-  unreadable = refl;
-  numbers = λ k h. get_or-replicate 128 (32 + k) 0 0 (omega arith);
-  kinds = λ k h. get_or-replicate 128 (64 + k) 0 0 (omega arith);
-  reasons = λ k h. get_or-replicate 128 (96 + k) 0 0 (omega arith);
-}
-
-pub list_printed : {s c out : List ℕ} {t : Bool} {r : ℕ} → length s ≤ 262144 → Sums s (replicate 128 0) c t → Prints c t out r → PrintsList s out r
-list_printed {s} h a p =
-    let u = a.stands blank_stands in
+pub list_printed : {s out : List ℕ} {before c : Counts} {t : Bool} {r : ℕ} → length s ≤ 262144 → Sums s before c t → Stands 0 blank before → Prints c t out r → PrintsList s out r
+list_printed {s} h a b p =
+    let u = a.stands b in
     record {
       outcomes = u.0;
       came = λ k. u.1;
       are = rw (le-ltb 262144 (length s) h) (p.are (length u.0) (sheet_of u.0) u.2 ∙ ap (λ (b : Bool). lines_of (sheet_of u.0) ++ more_line b) a.told);
     }
-
-pub long_printed : {s out : List ℕ} {r : ℕ} → 262144 < length s → take r out ≡ long_line → PrintsList s out r
-long_printed {s} h e = record { outcomes = []; came = λ k. absurd (omega arith); are = rw (lt-ltb 262144 (length s) h) e }
-
-pub ruleset printing = (list_printed, long_printed, rules)

@@ -3,15 +3,17 @@
 use Rattle.std.proofs.Common.{◌≡◌, ℕ, zero, suc, ◌+◌, ◌-◌, ◌*◌, ◌/◌, ◌%◌, ◌^◌, ◌<◌, ◌≤◌, Bool, true, false, List, [], ◌∷◌, ◌++◌, length, get_or, take, sym, refl, ap, ◌∙◌, append_assoc, append-nil, add-zero, pow-suc, mul-one, add-one, arith, length-take-le, get_or-take, ext_get_or, rules, le-ltb, lt-ltb, eq-eqb, ne_eqb}
 use native.Mathlib.Nat.{one-le-pow, pow-le-pow_right}
 use native.Mathlib.Decide.{dec_lt}
+use Rattle.std.specs.Prelude.{slice_index}
 use Rattle.io.specs.Digits.{hex_digit_ascii, last_digits, IsDigitCount}
 use Rattle.tables.specs.Table.{Rep, Put}
 use Rattle.tables.proofs.Tables.{whole_one, empty_stands}
 use Rattle.answers.specs.Puts.{Puts}
 use Rattle.answers.proofs.Putting.{puts_none, puts_one, puts_then}
+use Rattle.sheets.specs.declared.Counts.{Counts}
 use Rattle.sheets.specs.Sheet.{Sheet}
 use Rattle.sheets.specs.Lines.{digits_of, decimal, spaced, count_line, count_lines, lines_by, files_line, lines_of, more_line, long_line}
 use Rattle.sheets.specs.Counts.{Stands}
-use Rattle.sheets.specs.Printed.{PutsFew, files_of, counts_from, all_lines_lem, Prints}
+use Rattle.sheets.specs.Printed.{PutsFew, files_of, all_lines_lem, Prints}
 
 -- ---- decimal digits
 
@@ -78,7 +80,7 @@ module _ (letter k v : ℕ) {n : ℕ} {t : List ℕ} where
     few = omega (arith, p.counts, q.few, s.few, u.counts);
   }
 
-pub files_put : (c : List ℕ) {t t₁ t₂ t₃ t₄ : List ℕ} {a b d r : ℕ} → PutsFew 10 (decimal (get_or c 0 0)) 0 t t₁ a → PutsFew 11 (spaced (get_or c 1 0)) a t₁ t₂ b → PutsFew 11 (spaced (get_or c 2 0)) b t₂ t₃ d → Put 1 (10 ∷ []) d t₃ t₄ r → PutsFew 33 (files_of c) 0 t t₄ r
+pub files_put : (c : Counts) {t t₁ t₂ t₃ t₄ : List ℕ} {a b d r : ℕ} → PutsFew 10 (decimal c.accepted) 0 t t₁ a → PutsFew 11 (spaced c.refused) a t₁ t₂ b → PutsFew 11 (spaced c.unreadable) b t₂ t₃ d → Put 1 (10 ∷ []) d t₃ t₄ r → PutsFew 33 (files_of c) 0 t t₄ r
 files_put c p q s u = record {
   puts = puts_then p.puts (puts_then q.puts (puts_then s.puts (puts_one u)));
   few = omega (arith, p.few, q.few, s.few, u.counts);
@@ -107,27 +109,27 @@ lines_same letter f g k (suc m) h =
     ap (λ (v : ℕ). count_line letter k v ++ count_lines letter f (suc k) m) (h k (omega arith))
     ∙ ap (λ (l : List ℕ). count_line letter k (g k) ++ l) (lines_same letter f g (suc k) m (λ j b. h j (omega arith)))
 
-pub record Lining (letter : ℕ) (c : List ℕ) (base n : ℕ) (t₀ t : List ℕ) (k m : ℕ) : Type 0 where
-  pub puts : Puts (count_lines letter (counts_from c base) 0 k) n t₀ t m
+pub record Lining (letter : ℕ) (c : List ℕ) (n : ℕ) (t₀ t : List ℕ) (k m : ℕ) : Type 0 where
+  pub puts : Puts (count_lines letter (slice_index c) 0 k) n t₀ t m
   pub few : m ≤ n + k * 24
   pub inside : k ≤ 32
   pub same : length t ≡ length t₀
 
-pub lining_begins : {letter base n : ℕ} {c t : List ℕ} → Lining letter c base n t t 0 n
+pub lining_begins : {letter n : ℕ} {c t : List ℕ} → Lining letter c n t t 0 n
 lining_begins = record { puts = puts_none; few = omega arith; inside = omega arith; same = refl }
 
-module _ {letter base n k m : ℕ} {c t₀ t : List ℕ} (g : Lining letter c base n t₀ t k m) where
-  pub lining_more : {r : ℕ} {t' : List ℕ} → k < 32 → PutsFew 24 (count_line letter k (get_or c (base + k) 0)) m t t' r → length t' ≡ length t → Lining letter c base n t₀ t' (k + 1) r
+module _ {letter n k m : ℕ} {c t₀ t : List ℕ} (g : Lining letter c n t₀ t k m) where
+  pub lining_more : {r : ℕ} {t' : List ℕ} → k < 32 → PutsFew 24 (count_line letter k (get_or c k 0)) m t t' r → length t' ≡ length t → Lining letter c n t₀ t' (k + 1) r
   lining_more h p l =
       let z : 0 + k ≡ k = omega arith in
       record {
-        puts = rw (add-one, lines_snoc letter (counts_from c base) 0 k, z) (puts_then g.puts p.puts);
+        puts = rw (add-one, lines_snoc letter (slice_index c) 0 k, z) (puts_then g.puts p.puts);
         few = omega (arith, g.few, p.few);
         inside = omega arith;
         same = l ∙ g.same;
       }
 
-  pub lining_ends : 32 ≤ k → PutsFew 768 (lines_by letter (counts_from c base)) n t₀ t m
+  pub lining_ends : 32 ≤ k → PutsFew 768 (lines_by letter (slice_index c)) n t₀ t m
   unfolding lines_by
   lining_ends h =
       let e : k ≡ 32 = omega (arith, g.inside) in
@@ -137,9 +139,9 @@ pub ruleset lining = (lining_begins, lining_more, lining_ends, rules)
 
 -- ---- the whole sheet
 
-lines_by_lem : (letter base : ℕ) (c : List ℕ) (f : ℕ → ℕ) → ((j : ℕ) → j < 32 → get_or c (base + j) 0 ≡ f j) → lines_by letter (counts_from c base) ≡ lines_by letter f
+lines_by_lem : (letter : ℕ) (f g : ℕ → ℕ) → ((j : ℕ) → j < 32 → f j ≡ g j) → lines_by letter f ≡ lines_by letter g
 unfolding lines_by
-lines_by_lem letter base c f h = lines_same letter (counts_from c base) f 0 32 (λ j b. h j (omega arith))
+lines_by_lem letter f g h = lines_same letter f g 0 32 (λ j b. h j (omega arith))
 
 rep_take : {n : ℕ} {t xs : List ℕ} → Rep 1 t n xs → n ≤ length t → take n t ≡ xs
 rep_take {n} {t} {xs} p h =
@@ -148,23 +150,23 @@ rep_take {n} {t} {xs} p h =
     ext_get_or 0 (take n t) xs (l ∙ sym e)
     (λ i b. get_or-take n t i 0 (omega arith) ∙ p.holds i (omega arith) (rw whole_one (omega arith)))
 
-pub all_put : (c : List ℕ) {t t₁ t₂ t₃ : List ℕ} {n a b r : ℕ} → PutsFew 768 (lines_by 114 (counts_from c 32)) n t t₁ a → PutsFew 768 (lines_by 107 (counts_from c 64)) a t₁ t₂ b → PutsFew 768 (lines_by 119 (counts_from c 96)) b t₂ t₃ r → PutsFew 2304 (all_lines_lem c) n t t₃ r
+pub all_put : (c : Counts) {t t₁ t₂ t₃ : List ℕ} {n a b r : ℕ} → PutsFew 768 (lines_by 114 (slice_index c.numbers)) n t t₁ a → PutsFew 768 (lines_by 107 (slice_index c.kinds)) a t₁ t₂ b → PutsFew 768 (lines_by 119 (slice_index c.reasons)) b t₂ t₃ r → PutsFew 2304 (all_lines_lem c) n t t₃ r
 all_put c p q s = record { puts = puts_then p.puts (puts_then q.puts s.puts); few = omega (arith, p.few, q.few, s.few) }
 
 pub ruleset all_lines = (all_put, rules)
 
-lines_are : (c : List ℕ) {n : ℕ} {s : Sheet} → Stands n s c → files_of c ++ all_lines_lem c ≡ lines_of s
+lines_are : (c : Counts) {n : ℕ} {s : Sheet} → Stands n s c → files_of c ++ all_lines_lem c ≡ lines_of s
 lines_are c {n} {s} w =
     let f : files_of c ≡ files_line s = rw (w.accepted, w.refused, w.unreadable) in
-    let x = lines_by_lem 114 32 c s.numbers w.numbers in
-    let y = lines_by_lem 107 64 c s.kinds w.kinds in
-    let z = lines_by_lem 119 96 c s.reasons w.reasons in
+    let x = lines_by_lem 114 (slice_index c.numbers) s.numbers w.numbers in
+    let y = lines_by_lem 107 (slice_index c.kinds) s.kinds w.kinds in
+    let z = lines_by_lem 119 (slice_index c.reasons) s.reasons w.reasons in
     ap (λ (q : List ℕ). q ++ all_lines_lem c) f
-    ∙ ap (λ (q : List ℕ). files_line s ++ (q ++ (lines_by 107 (counts_from c 64) ++ lines_by 119 (counts_from c 96)))) x
-    ∙ ap (λ (q : List ℕ). files_line s ++ (lines_by 114 s.numbers ++ (q ++ lines_by 119 (counts_from c 96)))) y
+    ∙ ap (λ (q : List ℕ). files_line s ++ (q ++ (lines_by 107 (slice_index c.kinds) ++ lines_by 119 (slice_index c.reasons)))) x
+    ∙ ap (λ (q : List ℕ). files_line s ++ (lines_by 114 s.numbers ++ (q ++ lines_by 119 (slice_index c.reasons)))) y
     ∙ ap (λ (q : List ℕ). files_line s ++ (lines_by 114 s.numbers ++ (lines_by 107 s.kinds ++ q))) z
 
-pub sheet_put : (c : List ℕ) (more : Bool) {t t₁ t₂ t₃ : List ℕ} {i j r : ℕ} → 8192 ≤ length t → length t₁ ≡ length t → length t₂ ≡ length t₁ → length t₃ ≡ length t₂ → PutsFew 33 (files_of c) 0 t t₁ i → PutsFew 2304 (all_lines_lem c) i t₁ t₂ j → PutsFew 5 (more_line more) j t₂ t₃ r → Prints c more t₃ r
+pub sheet_put : (c : Counts) (more : Bool) {t t₁ t₂ t₃ : List ℕ} {i j r : ℕ} → 8192 ≤ length t → length t₁ ≡ length t → length t₂ ≡ length t₁ → length t₃ ≡ length t₂ → PutsFew 33 (files_of c) 0 t t₁ i → PutsFew 2304 (all_lines_lem c) i t₁ t₂ j → PutsFew 5 (more_line more) j t₂ t₃ r → Prints c more t₃ r
 sheet_put c more {t} h x y z p q m = record {
   are = λ n s w.
       let all = puts_then (puts_then p.puts q.puts) m.puts in

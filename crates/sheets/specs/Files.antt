@@ -4,6 +4,7 @@ use Rattle.std.specs.Prelude.{◌≡◌, ℕ, ◌≤◌, Bool, List, [], ◌∷�
 use Rattle.slices.specs.Bytes.{if}
 use Rattle.document.specs.Whole.{Room, verdict_of, rows_left_lem, warnings_left}
 use Rattle.files.specs.Files.{read_file}
+use Rattle.sheets.specs.declared.Counts.{Counts}
 use Rattle.sheets.specs.Sheet.{Outcome, unreadable, refused, blank, sheet_of}
 use Rattle.sheets.specs.Answer.{outcome_of}
 use Rattle.sheets.specs.Names.{looked, more, openable}
@@ -39,18 +40,18 @@ Came (n ∷ ns) (o ∷ os) = ((failed : Bool) × (bs : List ℕ) × (o ≡ name_
 
 -- ---- what the program's functions say
 
-pub record AddsFile (before after : List ℕ) : Type 0 where
+pub record AddsFile (before after : Counts) : Type 0 where
   pub failed : Bool
   pub bytes : List ℕ
   pub adds : Adds (file_outcome failed bytes) before after
 
-pub record AddsName (n before after : List ℕ) : Type 0 where
+pub record AddsName (n : List ℕ) (before after : Counts) : Type 0 where
   pub failed : Bool
   pub bytes : List ℕ
   pub adds : Adds (name_outcome n failed bytes) before after
 
 -- the counts of no file become those of the names that are looked at
-pub record Sums (s before after : List ℕ) (r : Bool) : Type 0 where
+pub record Sums (s : List ℕ) (before after : Counts) (r : Bool) : Type 0 where
   pub told : r ≡ more s
   pub stands : Stands 0 blank before → (os : List Outcome) × Came (looked s) os × Stands (length os) (sheet_of os) after
 

@@ -11,7 +11,7 @@ pub fn next(list: &[u8]) -> Option<(&[u8], &[u8])>
     let mut at = 0;
     // A cursor and not `for`: the next place is past the end of the line that was found.
     while at < list.len() {
-        let end = slices::find(list, at, 10);
+        let end = slices::find(list, at, b'\n');
         if at < end {
             return Some((&list[at..end], &list[end..]));
         }
@@ -25,5 +25,5 @@ pub fn next(list: &[u8]) -> Option<(&[u8], &[u8])>
 pub fn is_openable(name: &[u8]) -> bool
     ensures { result ≡ openable name.now }
 {
-    name.len() <= 255 && slices::find(name, 0, 0) == name.len()
+    name.len() <= 255 && slices::find(name, 0, b'\0') == name.len()
 }

@@ -1,7 +1,9 @@
 // The lines of a sheet, put into a lent buffer.
-ghost use Rattle.std.specs.Prelude.{◌≡◌, ◌+◌, ◌^◌, ◌<◌, ◌≤◌, length, take};
+ghost use Rattle.std.specs.Prelude.{◌≡◌, ◌+◌, ◌^◌, ◌<◌, ◌≤◌, length, take, slice_index};
 ghost use Rattle.sheets.specs.Lines.{decimal, spaced, count_line, lines_by, more_line, long_line};
-ghost use Rattle.sheets.specs.Printed.{PutsFew, files_of, counts_from, all_lines_lem, Prints};
+ghost use Rattle.sheets.specs.Printed.{PutsFew, files_of, all_lines_lem, Prints};
+
+use super::Counts;
 
 // Puts a number in decimal digits.
 fn put_number(out: &mut [u8], n: usize, x: u32) -> usize
@@ -20,7 +22,7 @@ fn put_spaced(out: &mut [u8], n: usize, x: u32) -> usize
     requires { n + 1 < 2 ^ 40 }
     ensures { PutsFew 11 (spaced x) n out.old out.new result }
 {
-    let m = tables::put_byte(out, n, 32);
+    let m = tables::put_byte(out, n, b' ');
     put_number(out, m, x)
 }
 
@@ -35,31 +37,29 @@ fn put_line(out: &mut [u8], n: usize, letter: u8, number: u32, count: u32) -> us
     let a = tables::put_byte(out, n, letter);
     let b = put_spaced(out, a, number);
     let c = put_spaced(out, b, count);
-    tables::put_byte(out, c, 10)
+    tables::put_byte(out, c, b'\n')
 }
 
-// Puts the lines of 32 numbers, whose counts stand from `base` on.
-fn put_lines(out: &mut [u8], n: usize, letter: u8, counts: &[u32; 128], base: usize) -> usize
-    requires room { n + 4096 < 2 ^ 40 }
-    requires inside { base ≤ 96 }
-    ensures { PutsFew 768 (lines_by letter (counts_from counts.now base)) n out.old
-        out.new result }
+// Puts the lines of 32 numbers, whose counts these are.
+fn put_lines(out: &mut [u8], n: usize, letter: u8, table: &[u32; 32]) -> usize
+    requires { n + 4096 < 2 ^ 40 }
+    ensures { PutsFew 768 (lines_by letter (slice_index table.now)) n out.old out.new result }
 {
     let mut m = n;
-    for k in 0..32 {
-        m = put_line(out, m, letter, k, counts[base + k as usize]);
+    for (k, &c) in table.iter().enumerate() {
+        m = put_line(out, m, letter, k as u32, c);
     }
     m
 }
 
 // Puts the line of the files.
-fn put_files(out: &mut [u8], counts: &[u32; 128]) -> usize
+fn put_files(out: &mut [u8], counts: &Counts) -> usize
     ensures { PutsFew 33 (files_of counts.now) 0 out.old out.new result }
 {
-    let a = put_number(out, 0, counts[0]);
-    let b = put_spaced(out, a, counts[1]);
-    let c = put_spaced(out, b, counts[2]);
-    tables::put_byte(out, c, 10)
+    let a = put_number(out, 0, counts.accepted);
+    let b = put_spaced(out, a, counts.refused);
+    let c = put_spaced(out, b, counts.unreadable);
+    tables::put_byte(out, c, b'\n')
 }
 
 // Puts a last line where there are more names.
@@ -76,17 +76,17 @@ fn put_more(out: &mut [u8], n: usize, more: bool) -> usize
 
 // Puts the lines by number, kind and reason.
 #[tactic(auto, using(crate::proofs::Lining::all_lines))]
-fn put_all_lines(out: &mut [u8], n: usize, counts: &[u32; 128]) -> usize
-    requires room { n + 8192 < 2 ^ 40 }
+fn put_all_lines(out: &mut [u8], n: usize, counts: &Counts) -> usize
+    requires { n + 8192 < 2 ^ 40 }
     ensures { PutsFew 2304 (all_lines_lem counts.now) n out.old out.new result }
 {
-    let a = put_lines(out, n, b'r', counts, 32);
-    let b = put_lines(out, a, b'k', counts, 64);
-    put_lines(out, b, b'w', counts, 96)
+    let a = put_lines(out, n, b'r', &counts.numbers);
+    let b = put_lines(out, a, b'k', &counts.kinds);
+    put_lines(out, b, b'w', &counts.reasons)
 }
 
 // Puts the lines of a sheet whose counts these are.
-pub fn put_sheet(out: &mut [u8], counts: &[u32; 128], more: bool) -> usize
+pub fn put_sheet(out: &mut [u8], counts: &Counts, more: bool) -> usize
     requires room { 8192 ≤ length out.old }
     ensures { Prints counts.now more out.new result }
 {

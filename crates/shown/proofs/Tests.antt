@@ -16,14 +16,13 @@ use Rattle.std.proofs.Math.Nat.{min-eq_left, min-eq_right}
 use lib.ListN.{length, take}
 use lib.Seq.{length-take-le, ext_get_or, get_or-take}
 use Rattle.slices.specs.Bytes.{bytes, same}
-use Rattle.slices.proofs.Runs.{same_short}
+use Rattle.slices.proofs.Runs.{same_short, Differs, differing}
 use Rattle.tables.specs.Table.{Rep}
 use Rattle.tables.proofs.Tables.{whole_one, empty_stands}
 use Rattle.names.specs.Names.{interface_name, member_name, property_name}
 use Rattle.names.specs.Signature.{signature, basic_code, basic_signature}
 use Rattle.answers.specs.Text.{text}
 use Rattle.references.specs.Outcome.{Shows}
-use Rattle.references.proofs.Entities.{Differs, differs_short, differs_long, differs_at}
 use Rattle.references.proofs.Shapes.{unescape_plain}
 use Rattle.document.specs.Tags.{Shown}
 use Rattle.document.specs.Elements.{some_signature, access_of, direction_of}
@@ -149,4 +148,4 @@ module _ {s : List ℕ} where
   direction_none a b = rw (a.is, b.is)
 
 -- what answers every need of the tests on a text
-pub ruleset texts = (some_empty, some_there, access_read, access_write, access_both, access_none, direction_in, direction_out, direction_none, differs_short, differs_long, differs_at, text_from_reads, rules)
+pub ruleset texts = (some_empty, some_there, access_read, access_write, access_both, access_none, direction_in, direction_out, direction_none, differing, text_from_reads, rules)

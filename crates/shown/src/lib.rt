@@ -13,9 +13,8 @@ pub mod texts;
 use document::{Form, Value};
 
 // Unescapes a changed value into a buffer of 256 bytes. The count of its bytes, or 256 where it has more than 255.
-fn changed(doc: &[u8], v: Value, own: &mut [u8]) -> usize
-    requires lies { Lies doc.now v }
-    requires room { length own.old ≡ 256 }
+fn changed(doc: &[u8], v: Value, own: &mut [u8; 256]) -> usize
+    requires { Lies doc.now v }
     ensures { Changed doc.now v own.new result }
 {
     references::put_shown(document::raw(doc, v), own, 0).min(256)

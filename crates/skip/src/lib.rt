@@ -1,5 +1,5 @@
 // Passing over elements: skipped ones, and docstrings.
-// No function takes a whole `Reader`: the parts that it is not given it leaves alone, with no clause to say so.
+// A function takes the parts of a `Reader` that it needs and not all of it: then no clause has to say that the other parts stay as they are.
 #![tactic(auto)]
 
 ghost use Rattle.std.specs.Prelude.{◌≡◌, ◌+◌, ◌-◌, ◌≤◌, ◌<◌, length, take, drop};
@@ -11,7 +11,7 @@ use document::{Closing, Fill, Next, Refusal, StartTag, kinds};
 use scan::ClassTable;
 use tags::step;
 
-// Passes over the rest of an element whose name stands at a place, when so many elements are open in what is passed over.
+// Passes over the rest of an element whose name stands at a place. `depth`: how many of the skipped elements are open, this one among them.
 #[tactic(auto, using(crate::proofs::Passing::deep))]
 pub fn skip_element(
     doc: &[u8],

@@ -1,8 +1,10 @@
 -- Runs of a class of bytes, equal lists and beginnings.
 -- Assumes nothing.
-use Rattle.std.proofs.Common.{◌≡◌, ℕ, suc, ◌+◌, ◌-◌, ◌<◌, ◌≤◌, Bool, true, false, ◌&&◌, eqb, List, [], ◌∷◌, ◌++◌, length, get_or, drop, sym, refl, ap, ◌∙◌, subst, add-zero, add-one, arith, length-drop, drop_of_length-le, get_or-drop, drop-cons, drop-drop, rules, eq-eqb, ne_eqb, eqb-true}
+use Rattle.std.proofs.Common.{◌≡◌, ℕ, zero, suc, ◌+◌, ◌-◌, ◌<◌, ◌≤◌, Bool, true, false, ◌&&◌, eqb, List, [], ◌∷◌, ◌++◌, length, get_or, drop, sym, refl, ap, ◌∙◌, subst, add-zero, add-one, arith, length-drop, drop_of_length-le, get_or-drop, drop-cons, drop-drop, rules, eq-eqb, ne_eqb, eqb-true}
 use mathlib.Core.Bool.{false≢true, and-eq-true_iff}
 use borrow.Author.Tests.{eqb-false}
+use Rattle.std.specs.Prelude.{Option, None, Some, MatchOption}
+use Rattle.std.specs.Option.{unwrap_or}
 use Rattle.slices.specs.Bytes.{if, other, span, past, all, same, starts}
 use Rattle.slices.specs.Run.{Run}
 
@@ -129,6 +131,28 @@ module _ {p : ℕ → Bool} {s : List ℕ} {from at : ℕ} (g : Running p s from
     within = g.inside;
   }
 
+-- a run goes on over bytes of the class
+pub run_grows : {p : ℕ → Bool} {s : List ℕ} (from k : ℕ) → from + k ≤ length s → ((i : ℕ) → from ≤ i → i < from + k → p (get_or s i 0) ≡ true) → Running p s from (from + k)
+run_grows {p} {s} from zero h f =
+    let z : from ≡ from + 0 = omega arith in
+    subst (Running p s from) z (run_begins (omega (arith, h)))
+run_grows {p} {s} from (suc k) h f =
+    let z : from + k + 1 ≡ from + suc k = omega arith in
+    subst (Running p s from) z
+    (run_more (run_grows from k (omega (arith, h)) (λ i a l. f i a (omega (arith, l)))) (omega (arith, h)) (f (from + k) (omega arith) (omega arith)))
+
+pub run_reaches : {p : ℕ → Bool} {s : List ℕ} {from r : ℕ} → from ≤ r → r ≤ length s → ((i : ℕ) → from ≤ i → i < r → p (get_or s i 0) ≡ true) → Running p s from r
+run_reaches {p} {s} {from} {r} a h f =
+    let z : from + (r - from) ≡ r = omega (arith, a) in
+    subst (Running p s from) z (run_grows from (r - from) (omega (arith, a, h)) (λ i b l. f i b (omega (arith, l, a))))
+
+-- the first byte of another class ends it, or the length does
+pub run_first : {p : ℕ → Bool} {s : List ℕ} {from r : ℕ} (o : Option ℕ) → from ≤ length s
+    → MatchOption o ((k : ℕ) → from ≤ k → k < length s → p (get_or s k 0) ≡ true) (λ i. (from ≤ i) × (i < length s) × (p (get_or s i 0) ≡ false) × ((k : ℕ) → from ≤ k → k < i → p (get_or s k 0) ≡ true))
+    → r ≡ unwrap_or o (length s) → Run p s from r
+run_first {p} {s} {from} None h f e = rw e (run_ends (run_reaches h (omega arith) f) (omega arith))
+run_first {p} {s} {from} (Some i) h f e = rw e (run_stops (run_reaches f.0 (omega (arith, f.1)) f.3) f.1 f.2)
+
 pub other_false : (a b : ℕ) → a ≡ b → other b a ≡ false
 other_false a b e = rw (eq-eqb a b e)
 
@@ -203,6 +227,29 @@ same_equal (x ∷ a) [] e = absurd (false≢true e)
 same_equal (x ∷ a) (y ∷ b) e =
     let t = both (eqb x y) (same a b) e in
     rw (eqb-true x y t.0) (ap (◌∷◌ y) (same_equal a b t.1))
+
+-- a text is not some bytes, since its length is another or a byte is
+pub record Differs (s t : List ℕ) : Type 0 where
+  pub is : same s t ≡ false
+
+differs : (s t : List ℕ) → (s ≡ t → ⊥) → Differs s t
+differs s t n = go (same s t) refl (same_equal s t)
+  where
+    go : (r : Bool) → same s t ≡ r → (r ≡ true → s ≡ t) → Differs s t
+    go true e f = absurd (n (f refl))
+    go false e f = record { is = e }
+
+module _ (s t : List ℕ) where
+  pub differs_short : length s < length t → Differs s t
+  differs_short h = differs s t (λ e. omega (arith, ap length e))
+
+  pub differs_long : length t < length s → Differs s t
+  differs_long h = differs s t (λ e. omega (arith, ap length e))
+
+  pub differs_at : (i : ℕ) → (get_or s i 0 ≡ get_or t i 0 → ⊥) → Differs s t
+  differs_at i h = differs s t (λ e. h (ap (λ (l : List ℕ). get_or l i 0) e))
+
+pub ruleset differing = (differs_short, differs_long, differs_at)
 
 -- what answers every need of a comparison
 pub ruleset matches = (match_short, match_begins, match_more, match_fails, match_ends, rules)

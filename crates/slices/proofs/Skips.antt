@@ -5,7 +5,7 @@ use native.Mathlib.Decide.{dec_lt}
 use Rattle.slices.specs.Bytes.{other}
 use Rattle.slices.specs.Run.{Blocks, Run, Told, Without, Sought}
 use Rattle.slices.specs.Word.{Equal}
-use Rattle.slices.proofs.Runs.{Running, run_begins, run_more, run_stops, other_false, other_true}
+use Rattle.slices.proofs.Runs.{Running, run_reaches, run_stops, other_false, other_true}
 
 -- ---- blocks that pass a test
 
@@ -61,20 +61,8 @@ without_join {s} {b} {from} {at} {r} g k = record { onward = omega (arith, g.onw
     go i a l x (no j) = k.none i (omega (arith, j)) l x
 
 -- the run goes on up to there
-grown : (s : List ℕ) (b from k : ℕ) → from + k ≤ length s → ((i : ℕ) → from ≤ i → i < from + k → get_or s i 0 ≡ b → ⊥) → Running (other b) s from (from + k)
-grown s b from zero h f =
-    let z : from ≡ from + 0 = omega arith in
-    subst (Running (other b) s from) z (run_begins (omega (arith, h)))
-grown s b from (suc k) h f =
-    let z : from + k + 1 ≡ from + suc k = omega arith in
-    subst (Running (other b) s from) z
-    (run_more (grown s b from k (omega (arith, h)) (λ i a l. f i a (omega (arith, l)))) (omega (arith, h)) (other_true (get_or s (from + k) 0) b (f (from + k) (omega arith) (omega arith))))
-
 pub without_running : {s : List ℕ} {b from r : ℕ} → Without s b from r → Running (other b) s from r
-without_running {s} {b} {from} {r} g =
-    let z : from + (r - from) ≡ r = omega (arith, g.onward) in
-    subst (Running (other b) s from) z
-    (grown s b from (r - from) (omega (arith, g.onward, g.within)) (λ i a l. g.none i a (omega (arith, l, g.onward))))
+without_running {s} {b} g = run_reaches g.onward g.within (λ i a l. other_true (get_or s i 0) b (g.none i a l))
 
 pub sought_running : {s : List ℕ} {b from at end r : ℕ} → Without s b from at → Sought s b at end r → Running (other b) s from r
 sought_running g k = without_running (without_join g k.without)

@@ -128,11 +128,13 @@ lead (suc k) f n d q e m b h p p' p'' = go (λ p p' p''. lead k (λ i. f (suc i)
         rw (split, none, add-zero, z) (leads_more (omega (arith, l)) (rest d_high q_high e_high))
 
 -- the mask of a number of 64 bits
-pub lead_word : (x n d : ℕ) → n ≤ 128 → (d + n * 72340172838076673) % 2 ^ 64 ≡ x → (f : ℕ → ℕ) → ((i : ℕ) → f i < 256) → x ≡ word_of 8 f → Leads f n 8 (count_trailing_zeros 64 (bit_and (bit_and d ((2 ^ 64 - 1) - x)) 9259542123273814144) / 8)
+pub lead_word : (x n : ℕ) → x < 2 ^ 64 → n ≤ 128 → (f : ℕ → ℕ) → ((i : ℕ) → f i < 256) → x ≡ word_of 8 f → Leads f n 8 (count_trailing_zeros 64 (bit_and (bit_and ((x + (2 ^ 64 - n * 72340172838076673)) % 2 ^ 64) ((2 ^ 64 - 1) - x)) 9259542123273814144) / 8)
 unfolding word_of top bits
-lead_word x n d h p f b e =
+lead_word x n l h f b e =
+    let d = (x + (2 ^ 64 - n * 72340172838076673)) % 2 ^ 64 in
+    let w : (d + n * 72340172838076673) % 2 ^ 64 ≡ x = omega (arith, l) in
     let m = (d + n * 72340172838076673) / 2 ^ 64 in
-    lead 8 f n d ((2 ^ 64 - 1) - x) 9259542123273814144 m b h (omega arith) (omega arith) refl
+    lead 8 f n d ((2 ^ 64 - 1) - x) 9259542123273814144 m b h (omega (arith, w)) (omega (arith, l)) refl
 
 pub zeros_fit : (z : ℕ) → Fits w64 (count_trailing_zeros 64 z / 8)
 zeros_fit z = record { fits = omega (arith, trailing_le 64 z) }

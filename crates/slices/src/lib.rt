@@ -15,7 +15,8 @@ fn byte(s: &[u8], at: usize) -> u64
     s[at] as u64
 }
 
-// The 8 bytes from a place as one number, the first the lowest.
+// The 8 bytes from a place as one number, the first the lowest. Not `u64::from_le_bytes`: making the array that it takes from a part of a slice
+// has a case of too few bytes, which cannot come.
 #[tactic(auto, using(crate::proofs::Words::worded))]
 fn word(s: &[u8], at: usize) -> u64
     requires { at + 8 ≤ length s.now }
@@ -36,8 +37,8 @@ fn leading(x: u64, n: u64) -> usize
     requires { n ≤ 128 }
     ensures { (f : ℕ → ℕ) → ((i : ℕ) → f i < 256) → x ≡ word_of 8 f → Leads f n 8 result }
 {
-    let z = std::num::wrapping_sub_u64(x, n * 0x0101010101010101) & !x & 0x8080808080808080;
-    (u64::trailing_zeros(z) / 8) as usize
+    let z = x.wrapping_sub(n * 0x0101010101010101) & !x & 0x8080808080808080;
+    (z.trailing_zeros() / 8) as usize
 }
 
 // How many of the 8 bytes from a place come before the first that is below n: 8 where none is.
@@ -55,12 +56,7 @@ pub fn run_end<F: Fn(u8) -> bool>(s: &[u8], from: usize, test: F) -> usize
     requires callable { F.IsAlwaysCallable test }
     ensures { (p : ℕ → Bool) → Tells (F.post test) p → Run p s.now from result }
 {
-    for at in from..s.len() {
-        if !test(s[at]) {
-            return at;
-        }
-    }
-    s.len()
+    (from..s.len()).find(|&at| !test(s[at])).unwrap_or(s.len())
 }
 
 // Past whole blocks of n bytes, of whose places the test is true.
@@ -71,7 +67,7 @@ pub fn blocks<F: Fn(usize) -> bool>(s: &[u8], from: usize, n: usize, test: F) ->
     ensures { Blocks (F.post test) s.now from n result }
 {
     let mut at = from;
-    // By `step_by` the end of the last whole block would be found by a division first.
+    // By `step_by` no line would be shorter.
     while n <= s.len() - at {
         if !test(at) {
             return at;

@@ -23,7 +23,7 @@ fn node_holds(c: u32) -> bool
     )
 }
 
-// The same in an interface.
+// Whether a row of kind `c` may stand in an interface.
 #[tactic(auto, unfolding(document::specs::Elements::may_hold))]
 fn interface_holds(c: u32) -> bool
     ensures { result ≡ may_hold kinds.interface c }
@@ -41,7 +41,7 @@ fn interface_holds(c: u32) -> bool
     )
 }
 
-// The same in a method or a signal.
+// Whether a row of kind `c` may stand in a method or a signal.
 #[tactic(auto, unfolding(document::specs::Elements::may_hold))]
 fn method_holds(c: u32) -> bool
     ensures { result ≡ may_hold kinds.method c }

@@ -88,7 +88,7 @@ fn row_bytes(rows: &[u32], i: usize) -> usize
     front + items::word(rows, i, 10) as usize + items::word(rows, i, 13) as usize
 }
 
-// The same of all rows.
+// How many bytes the triples of all rows say that they lead to.
 fn bytes_told(table: &Table) -> usize {
     (0..table.n).map(|i| row_bytes(table.rows, i)).sum()
 }
@@ -98,7 +98,7 @@ fn is_worth(table: &Table, bytes: usize) -> bool {
     32768 <= table.n || bytes < bytes_told(table)
 }
 
-// The first bad row is the place of the error.
+// The first row that is not sound, if there is one, of buffers of which something may be known.
 #[tactic(auto, using(crate::proofs::Rows::checks))]
 fn first_known(table: &Table, tallies: Option<&[Tally]>) -> Result<(), usize>
     requires { Prepared table.now.document.bytes.now table.now.text.bytes.now
@@ -115,8 +115,9 @@ fn first_known(table: &Table, tallies: Option<&[Tally]>) -> Result<(), usize>
     Ok(())
 }
 
-// The same, where nothing is known of the buffers yet. The texts are checked whole, but for those in what is found to be UTF-8 first: how much of
-// both buffers is found out where it is worth it, and how much is ASCII where there is a row for each 64 bytes.
+// The first row that is not sound, if there is one, of buffers of which nothing is known yet. Before the texts are checked, so much at the
+// beginning of both buffers is found to be UTF-8: all that is, where there is much to check; the ASCII alone, where there is a row for each
+// 64 bytes; else nothing.
 #[tactic(auto, using(crate::proofs::Rows::checks))]
 fn first_unsound(table: &Table, tallies: Option<&[Tally]>) -> Result<(), usize>
     requires { Prepared table.now.document.bytes.now table.now.text.bytes.now
@@ -149,7 +150,7 @@ fn first_unsound(table: &Table, tallies: Option<&[Tally]>) -> Result<(), usize>
     first_known(&looked, tallies)
 }
 
-// The same by tallies, in so much room.
+// The first row that is not sound, if there is one, by tallies in room for N rows.
 #[tactic(auto, using(crate::proofs::Rows::ways))]
 fn first_by_tally<const N: usize>(table: &Table) -> Result<(), usize>
     requires room { table.now.n ≤ N }
@@ -162,7 +163,7 @@ fn first_by_tally<const N: usize>(table: &Table) -> Result<(), usize>
     first_unsound(table, Some(&tallies))
 }
 
-// The same of any rows, in little room where they are few.
+// The first row that is not sound, if there is one, of rows in any order; tallies take little room where the rows are few.
 #[tactic(auto, using(crate::proofs::Rows::ways))]
 fn first_bad(table: &Table) -> Result<(), usize>
     ensures { FirstBad table.now.document.bytes.now table.now.text.bytes.now
@@ -211,6 +212,7 @@ pub fn check<'a>(
 
 // Whether a document, a text and the first `claimed` rows of a table are admitted: refused with 2 for a document or a text of more than
 // 1,048,576 bytes, with 19 for rows that are not sound.
+// It answers no struct of the four: writers, trees and order put them into their own at the next step, each with what it knows of the rows.
 pub fn admit<'a>(
     document: &'a [u8],
     text: &'a [u8],
@@ -220,10 +222,7 @@ pub fn admit<'a>(
     ensures { Admits document.now text.now rows.now claimed result }
 {
     if 1048576 < document.len() || 1048576 < text.len() {
-        return Err(Fault {
-            number: 2,
-            place: 1048576,
-        });
+        return Err(Fault::new(2, 1048576));
     }
-    check(document, text, rows, claimed).map_err(|place| Fault { number: 19, place })
+    check(document, text, rows, claimed).map_err(|place| Fault::new(19, place))
 }

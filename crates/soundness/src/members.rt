@@ -6,7 +6,8 @@ ghost use Rattle.soundness.specs.Outcome.{Member, NextMember, Basic, Keyed, Coun
 use super::lent::{self, Table};
 use document::kinds;
 
-// Whether row k is a member of the definition in row i.
+// Whether row k is a member of the definition in row i. Beside order's function of this name: its clause speaks of soundness' definition of a
+// member.
 #[tactic(auto, using(crate::proofs::Definitions::members))]
 fn is_member(rows: &[u32], i: usize, k: usize) -> bool
     requires after { i < k }

@@ -3,7 +3,7 @@ ghost use Rattle.std.specs.Prelude.{◌≡◌, ◌+◌, ◌*◌, ◌≤◌, leng
 ghost use Rattle.items.specs.Order.{DocumentOrder};
 ghost use Rattle.soundness.specs.Outcome.{Follows, Orders};
 
-// Whether row k's parent is the row before it, or above that; `up` is a row plus one.
+// Whether row k's parent is the row before it or a row above that one, or row k has none.
 #[tactic(auto, using(crate::proofs::Definitions::walks))]
 fn follows(rows: &[u32], k: usize) -> bool
     requires held { k * 16 + 16 ≤ length rows.now }

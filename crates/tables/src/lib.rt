@@ -28,7 +28,7 @@ fn copy_words(table: &mut [u32], base: usize, words: &[u32])
 }
 
 // Adds a row where a whole one has room, and counts it in any case.
-// The table and its count go apart, here and below: the count runs on past the room.
+// The table and its count are passed apart, here and below: the count runs on past the room.
 #[tactic(auto, using(crate::proofs::Tables::tables))]
 pub fn put_words(table: &mut [u32], n: usize, words: &[u32]) -> usize
     requires few_rows { n < 1048576 }

@@ -1,4 +1,4 @@
--- The kind of a name: by its length, and by its local name, which follows its last colon.
+-- The kind of a name: by its text, and by its local name, which follows its last colon.
 -- Assumes nothing.
 use Prim.Native.Nat.{ℕ, suc, ◌-◌, ◌≤◌, ◌<◌, ◌+◌, ◌^◌}
 use mathlib.Core.Path.{◌≡◌, refl, sym, ◌∙◌, ap}
@@ -11,69 +11,87 @@ use native.Mathlib.Omega.{arith}
 use lib.Dec.{eqb}
 use lib.ListN.{length, take, drop}
 use Rattle.std.specs.Prelude.{Option, Some, None}
-use Rattle.slices.specs.Bytes.{if, same, span}
-use Rattle.slices.proofs.Runs.{same_short}
+use Rattle.std.proofs.lemmas.Slice.Eq.{text_from_reads}
+use Rattle.slices.specs.Bytes.{if, bytes, same, span}
+use Rattle.slices.proofs.Runs.{Differs, differing}
 use Rattle.slices.proofs.Ends.{run_span}
 use Rattle.scan.specs.Classes.{name_byte}
 use Rattle.scan.specs.Colons.{colons_from, Scanned}
 use Rattle.scan.specs.declared.Colons.{Colons}
 use Rattle.scan.specs.declared.Name.{Name}
 use Rattle.scan.proofs.Prefixes.{Within, colons_within, name_from}
-use Rattle.document.specs.Elements.{local_name, local_kind, kind_of}
+use Rattle.document.specs.Elements.{local_name, kind_of}
 use Rattle.document.specs.Prefixes.{local_start}
 use Rattle.document.proofs.Prefixes.{local_name_lem}
-use Rattle.tags.specs.Kinds.{numbered, exact_kinds, local_kinds, exact_kind}
+use Rattle.tags.specs.Kinds.{numbered, exact_kinds, exact_kind, local_kind}
 
--- a callee's answer decides
-module _ {t : Bool} (b : Bool) (e : t ≡ b) where
-  pub it_is : (k d : ℕ) → t ≡ true → k ≡ if b k d
-  it_is k d f = rw (sym e ∙ f)
+-- a listed name, and one that is not, by what a text is and is not
+module _ {s : List ℕ} where
+  pub exact_node : s ≡ bytes "node" → 1 ≡ exact_kind s
+  unfolding exact_kind
+  exact_node e = rw e
 
-  pub it_is_not : (k : ℕ) {d r : ℕ} → t ≡ false → r ≡ d → r ≡ if b k d
-  it_is_not k f q = rw (sym e ∙ f) q
+  pub exact_interface : s ≡ bytes "interface" → 2 ≡ exact_kind s
+  unfolding exact_kind
+  exact_interface e = rw e
 
-pub ruleset chosen = (it_is, it_is_not, rules)
+  pub exact_method : s ≡ bytes "method" → 3 ≡ exact_kind s
+  unfolding exact_kind
+  exact_method e = rw e
 
--- of a list of names those with a length
-abbrev pub of_length_lem : ℕ → List (List ℕ × ℕ) → List (List ℕ × ℕ)
-of_length_lem m [] = []
-of_length_lem m (k ∷ ks) = let r = of_length_lem m ks in if (eqb (length k.0) m) (k ∷ r) r
+  pub exact_property : s ≡ bytes "property" → 4 ≡ exact_kind s
+  unfolding exact_kind
+  exact_property e = rw e
 
--- only those count for a name of that length
-of_length : (ks : List (List ℕ × ℕ)) (d : ℕ) (n : List ℕ) (m : ℕ) → length n ≡ m → numbered ks d n ≡ numbered (of_length_lem m ks) d n
-of_length [] d n m e = refl
-of_length (k ∷ ks) d n m e = go (eqb (length k.0) m) refl (of_length ks d n m e)
-  where
-    go : (t : Bool) → eqb (length k.0) m ≡ t → numbered ks d n ≡ numbered (of_length_lem m ks) d n → numbered (k ∷ ks) d n ≡ numbered (if t (k ∷ of_length_lem m ks) (of_length_lem m ks)) d n
-    go true f i = rw i
-    go false f i = rw (← same_short n k.0 (λ q. eqb-false _ _ f (sym q ∙ e))) i
+  pub exact_signal : s ≡ bytes "signal" → 5 ≡ exact_kind s
+  unfolding exact_kind
+  exact_signal e = rw e
 
-by_length : (ks : List (List ℕ × ℕ)) (n : List ℕ) {m r : ℕ} → length n ≡ m → r ≡ numbered (of_length_lem m ks) 0 n → r ≡ numbered ks 0 n
-by_length ks n {m} e q = q ∙ sym (of_length ks 0 n m e)
+  pub exact_annotation : s ≡ bytes "annotation" → 6 ≡ exact_kind s
+  unfolding exact_kind
+  exact_annotation e = rw e
 
--- none of the names has the length
-abbrev NoneOf : ℕ → List (List ℕ × ℕ) → Type 0
-NoneOf m [] = Unit {0}
-NoneOf m (k ∷ ks) = (m ≡ length k.0 → ⊥) × NoneOf m ks
+  pub exact_arg : s ≡ bytes "arg" → 7 ≡ exact_kind s
+  unfolding exact_kind
+  exact_arg e = rw e
 
-by_none : (ks : List (List ℕ × ℕ)) (n : List ℕ) → NoneOf (length n) ks → 0 ≡ numbered ks 0 n
-by_none [] n e = refl
-by_none (k ∷ ks) n e = rw (← same_short n k.0 e.0) (by_none ks n e.1)
+  pub exact_none : Differs s (bytes "node") → Differs s (bytes "interface") → Differs s (bytes "method") → Differs s (bytes "property") → Differs s (bytes "signal") → Differs s (bytes "annotation") → Differs s (bytes "arg") → 0 ≡ exact_kind s
+  unfolding exact_kind
+  exact_none a b c d e f g = rw (a.is, b.is, c.is, d.is, e.is, f.is, g.is)
 
--- the two lists
-pub exact_length : (n : List ℕ) {m r : ℕ} → length n ≡ m → r ≡ numbered (of_length_lem m exact_kinds) 0 n → r ≡ exact_kind n
-exact_length n = by_length exact_kinds n
+  pub local_simple_type : s ≡ bytes "simple-type" → 8 ≡ local_kind s
+  unfolding local_kind
+  local_simple_type e = rw e
 
-pub exact_none : (n : List ℕ) → (length n ≡ 3 → ⊥) → (length n ≡ 4 → ⊥) → (length n ≡ 6 → ⊥) → (length n ≡ 8 → ⊥) → (length n ≡ 9 → ⊥) → (length n ≡ 10 → ⊥) → 0 ≡ exact_kind n
-exact_none n a b c d e f = by_none exact_kinds n (b, (e, (c, (d, (c, (f, (a, tt)))))))
+  pub local_enum : s ≡ bytes "enum" → 9 ≡ local_kind s
+  unfolding local_kind
+  local_enum e = rw e
 
-pub local_length : (n : List ℕ) {m r : ℕ} → length n ≡ m → r ≡ numbered (of_length_lem m local_kinds) 0 n → r ≡ local_kind n
-local_length n = by_length local_kinds n
+  pub local_enumvalue : s ≡ bytes "enumvalue" → 10 ≡ local_kind s
+  unfolding local_kind
+  local_enumvalue e = rw e
 
-pub local_none : (n : List ℕ) → (length n ≡ 4 → ⊥) → (length n ≡ 6 → ⊥) → (length n ≡ 7 → ⊥) → (length n ≡ 9 → ⊥) → (length n ≡ 11 → ⊥) → 0 ≡ local_kind n
-local_none n a b c d e = by_none local_kinds n (e, (a, (d, (b, (b, (c, (d, tt)))))))
+  pub local_struct : s ≡ bytes "struct" → 11 ≡ local_kind s
+  unfolding local_kind
+  local_struct e = rw e
 
-pub ruleset lengths = (exact_length, exact_none, local_length, local_none, rules)
+  pub local_member : s ≡ bytes "member" → 12 ≡ local_kind s
+  unfolding local_kind
+  local_member e = rw e
+
+  pub local_mapping : s ≡ bytes "mapping" → 13 ≡ local_kind s
+  unfolding local_kind
+  local_mapping e = rw e
+
+  pub local_docstring : s ≡ bytes "docstring" → 14 ≡ local_kind s
+  unfolding local_kind
+  local_docstring e = rw e
+
+  pub local_none : Differs s (bytes "simple-type") → Differs s (bytes "enum") → Differs s (bytes "enumvalue") → Differs s (bytes "struct") → Differs s (bytes "member") → Differs s (bytes "mapping") → Differs s (bytes "docstring") → 0 ≡ local_kind s
+  unfolding local_kind
+  local_none a b c d e f g = rw (a.is, b.is, c.is, d.is, e.is, f.is, g.is)
+
+pub ruleset listed = (exact_node, exact_interface, exact_method, exact_property, exact_signal, exact_annotation, exact_arg, exact_none, local_simple_type, local_enum, local_enumvalue, local_struct, local_member, local_mapping, local_docstring, local_none, differing, text_from_reads, rules)
 
 -- where all numbers are above 0, 0 says that the name is not in the list
 abbrev above : List (List ℕ × ℕ) → Bool
@@ -100,11 +118,11 @@ not_in_list (k ∷ ks) d n a h = go (eqb k.1 0) refl (same n k.0) a h (not_in_li
 
 module _ (n : List ℕ) {k : ℕ} (e : k ≡ exact_kind n) where
   pub kind_exact : (k ≡ 0 → ⊥) → k ≡ kind_of n
-  unfolding kind_of
+  unfolding kind_of exact_kind local_kind
   kind_exact h = e ∙ in_list exact_kinds (local_kind (local_name n)) n refl (λ q. h (e ∙ q))
 
   pub kind_local : k ≡ 0 → {l : List ℕ} {r : ℕ} → l ≡ local_name n → r ≡ local_kind l → r ≡ kind_of n
-  unfolding kind_of
+  unfolding kind_of exact_kind local_kind
   kind_local h e' q = q ∙ rw e' (sym (not_in_list exact_kinds (local_kind (local_name n)) n refl (sym e ∙ h)))
 
 pub ruleset kinds = (kind_exact, kind_local, rules)

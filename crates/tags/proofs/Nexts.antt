@@ -21,10 +21,11 @@ use Rattle.document.specs.Tokens as tokens
 use Rattle.document.specs.Tokens.{opening, closing, tag, tag_or_end, next}
 use Rattle.document.specs.Refusals.{bare}
 use Rattle.document.specs.Outcome.{OnwardToken, Tokenises}
+use Rattle.document.specs.declared.ClosingTag.{ClosingTag}
 use Rattle.document.specs.declared.Refusal.{Refusal}
 use Rattle.document.specs.declared.Token.{Token}
 use Rattle.document.proofs.Ignorables.{Scanned, ignorable_within}
-use Rattle.tags.specs.Outcome.{TagStart, TagAt}
+use Rattle.tags.specs.Outcome.{TagStart, TagAt, closing_token}
 use Rattle.tags.proofs.Faults.{markup_at, unended_bare}
 
 -- a tag is a closing tag or a start tag
@@ -44,6 +45,14 @@ module _ (doc : List ℕ) (lt : ℕ) where
 
     pub tag_starts : (get_or doc (lt + 1) 0 ≡ 47 → ⊥) → TagAt doc lt (opening (drop (lt + 1) doc) lt) r → TagAt doc lt (tag (drop (lt + 1) doc) lt) r
     tag_starts b t = moved (rw (drop-cons doc (lt + 1) 0 l, ne_eqb _ _ b)) t
+
+-- what a closing tag gives is what its token gives
+module _ {doc : List ℕ} {lt : ℕ} {x : tokens.Next} {r : Result ClosingTag Refusal} (t : TagAt doc lt x (closing_token r)) where
+  pub closing_refused : {y : Refusal} → r ≡ Err y → TagAt doc lt x (Err y)
+  closing_refused {y} e = rw e at t
+
+  pub closing_there : {c : ClosingTag} → r ≡ Ok c → TagAt doc lt x (Ok (Token.Close c))
+  closing_there {c} e = rw e at t
 
 -- what answers every need of `tag`
 pub ruleset ways = (tag_unended, tag_closes, tag_starts, rules)

@@ -33,5 +33,9 @@ local_kinds =
     ∷ (bytes "docstring", kinds.docstring)
     ∷ []
 
-abbrev pub exact_kind : List ℕ → ℕ
+-- by exact name, and by local name; 0 is any other
+unfoldable pub exact_kind : List ℕ → ℕ
 exact_kind n = numbered exact_kinds 0 n
+
+unfoldable pub local_kind : List ℕ → ℕ
+local_kind n = numbered local_kinds 0 n

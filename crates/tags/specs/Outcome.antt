@@ -8,6 +8,7 @@ use Rattle.document.specs.Tokens as tokens
 use Rattle.document.specs.Tokens.{fault, last, tagged, tag_end}
 use Rattle.document.specs.Outcome.{OnwardToken, Comes}
 use Rattle.document.specs.declared.Token.{Token}
+use Rattle.document.specs.declared.ClosingTag.{ClosingTag}
 use Rattle.document.specs.declared.Refusal.{Refusal}
 use Rattle.faults.specs.declared.Fault.{Fault}
 use Rattle.tags.specs.declared.TagEnd.{TagEnd}
@@ -22,6 +23,11 @@ pub record TagStart (doc : List ℕ) (lt : ℕ) : Type 0 where
 pub record TagAt (doc : List ℕ) (lt : ℕ) (x : tokens.Next) (r : Result Token Refusal) : Type 0 where
   pub onward : OnwardToken doc lt r
   pub is : Comes doc x r
+
+-- what reading a closing tag gives, as a token
+abbrev pub closing_token : Result ClosingTag Refusal → Result Token Refusal
+closing_token (Err x) = Err x
+closing_token (Ok c) = Ok (Token.Close c)
 
 -- a start tag's end is further on, within the document, and its last byte is `>`
 abbrev pub OnwardEnd : List ℕ → ℕ → Result TagEnd Fault → Type 0

@@ -2,16 +2,15 @@
 #![tactic(auto)]
 
 ghost use Rattle.std.specs.Prelude.{◌≡◌, suc, ◌+◌, ◌≤◌, ◌-◌, ◌<◌, ◌^◌, length, drop, take};
-ghost use Rattle.faults.specs.Fault.{fault};
-ghost use Rattle.slices.specs.Bytes.{if, other, same, span};
+ghost use Rattle.slices.specs.Bytes.{other, span};
 ghost use Rattle.scan.specs.Colons.{Scanned};
 ghost use Rattle.document.specs.Tokens.{opening, closing, tag};
-ghost use Rattle.document.specs.Elements.{local_kind, kind_of, local_name};
+ghost use Rattle.document.specs.Elements.{kind_of, local_name};
 ghost use Rattle.document.specs.Prefixes.{local_start};
 ghost use Rattle.document.specs.Refusals.{showing, fault_in};
 ghost use Rattle.document.specs.Outcome.{Tokenises, Steps};
-ghost use Rattle.tags.specs.Kinds.{exact_kind};
-ghost use Rattle.tags.specs.Outcome.{TagStart, TagAt, Ends};
+ghost use Rattle.tags.specs.Kinds.{exact_kind, local_kind};
+ghost use Rattle.tags.specs.Outcome.{TagStart, TagAt, closing_token, Ends};
 
 use attributes::attributes;
 use document::{Closing, ClosingTag, Excerpt, Next, Refusal, StartTag, Token, kinds};
@@ -25,60 +24,36 @@ pub struct TagEnd {
     pub end: usize,
 }
 
-// The kind if the name is the key, or 0: no Option here and below, since the definitions answer so.
-fn one(name: &[u8], key: &[u8], kind: u32) -> u32
-    ensures { result ≡ if (same name.now key.now) kind 0 }
-{
-    if slices::equal(name, key) {
-        return kind;
-    }
-    0
-}
-
-// The first kind if the name is the first key, else the second if it is the second.
-fn either(name: &[u8], key: &[u8], kind: u32, key2: &[u8], kind2: u32) -> u32
-    ensures { result ≡ if (same name.now key.now) kind
-        (if (same name.now key2.now) kind2 0) }
-{
-    if slices::equal(name, key) {
-        return kind;
-    }
-    one(name, key2, kind2)
-}
-
-// The kind of a name by the names that are taken whole, or 0, as the definition answers.
-#[tactic(auto, using(crate::proofs::Kind::lengths))]
+// The kind of a name by the names that are taken whole, or 0: no Option here and below, since the definitions answer so.
+#[tactic(auto, using(crate::proofs::Kind::listed))]
 fn exact_kind(name: &[u8]) -> u32
     ensures { result ≡ exact_kind name.now }
 {
-    match name.len() {
-        3 => one(name, b"arg", kinds::ARG),
-        4 => one(name, b"node", kinds::NODE),
-        6 => either(name, b"method", kinds::METHOD, b"signal", kinds::SIGNAL),
-        8 => one(name, b"property", kinds::PROPERTY),
-        9 => one(name, b"interface", kinds::INTERFACE),
-        10 => one(name, b"annotation", kinds::ANNOTATION),
+    match name {
+        b"node" => kinds::NODE,
+        b"interface" => kinds::INTERFACE,
+        b"method" => kinds::METHOD,
+        b"property" => kinds::PROPERTY,
+        b"signal" => kinds::SIGNAL,
+        b"annotation" => kinds::ANNOTATION,
+        b"arg" => kinds::ARG,
         _ => 0,
     }
 }
 
-// The kind of a local name, or 0, as the definition answers.
-#[tactic(auto, using(crate::proofs::Kind::lengths))]
+// The kind of a local name, or 0.
+#[tactic(auto, using(crate::proofs::Kind::listed))]
 fn local_kind(name: &[u8]) -> u32
     ensures { result ≡ local_kind name.now }
 {
-    match name.len() {
-        4 => one(name, b"enum", kinds::ENUM),
-        6 => either(name, b"struct", kinds::STRUCT, b"member", kinds::MEMBER),
-        7 => one(name, b"mapping", kinds::MAPPING),
-        9 => either(
-            name,
-            b"enumvalue",
-            kinds::ENUMVALUE,
-            b"docstring",
-            kinds::DOCSTRING,
-        ),
-        11 => one(name, b"simple-type", kinds::SIMPLE_TYPE),
+    match name {
+        b"simple-type" => kinds::SIMPLE_TYPE,
+        b"enum" => kinds::ENUM,
+        b"enumvalue" => kinds::ENUMVALUE,
+        b"struct" => kinds::STRUCT,
+        b"member" => kinds::MEMBER,
+        b"mapping" => kinds::MAPPING,
+        b"docstring" => kinds::DOCSTRING,
         _ => 0,
     }
 }
@@ -121,10 +96,10 @@ fn kind_at(doc: &[u8], at: usize, name: Name) -> u32
 }
 
 // The closing tag whose `</` stands at a place: a name, white space, `>`.
-pub fn closing_tag(doc: &[u8], classes: &ClassTable, lt: usize) -> Result<Token, Refusal>
+pub fn closing_tag(doc: &[u8], classes: &ClassTable, lt: usize) -> Result<ClosingTag, Refusal>
     requires start { TagStart doc.now lt }
     requires longer { lt + 2 ≤ length doc.now }
-    ensures { TagAt doc.now lt (closing (drop (lt + 2) doc.now) lt) result }
+    ensures { TagAt doc.now lt (closing (drop (lt + 2) doc.now) lt) (closing_token result) }
 {
     let at = lt + 2;
     let name = scan::name_at(doc, classes, at);
@@ -133,25 +108,15 @@ pub fn closing_tag(doc: &[u8], classes: &ClassTable, lt: usize) -> Result<Token,
         return Err(document::bare(4, lt + 1));
     }
     let end = scan::space_end(doc, classes, named);
-    if doc.len() <= end {
+    if doc.len() <= end || doc[end] != b'>' {
         return Err(document::bare(4, lt + 1));
     }
-    if doc[end] != b'>' {
-        return Err(document::bare(4, lt + 1));
-    }
-    Ok(Token::Close(ClosingTag {
+    Ok(ClosingTag {
         lt,
         at,
         len: named - at,
         end: end + 1,
-    }))
-}
-
-// A malformed tag, told at a place.
-fn malformed(place: usize) -> Fault
-    ensures { result ≡ fault 4 place }
-{
-    Fault { number: 4, place }
+    })
 }
 
 // The end of a start tag, past the white space from a place on; or the fault where it was wanted.
@@ -161,7 +126,7 @@ pub fn tag_end(doc: &[u8], classes: &ClassTable, from: usize) -> Result<TagEnd, 
 {
     let at = scan::space_end(doc, classes, from);
     if doc.len() <= at {
-        return Err(malformed(at));
+        return Err(Fault::new(4, at));
     }
     if doc[at] == b'>' {
         return Ok(TagEnd {
@@ -169,15 +134,9 @@ pub fn tag_end(doc: &[u8], classes: &ClassTable, from: usize) -> Result<TagEnd, 
             end: at + 1,
         });
     }
-    if doc[at] != b'/' {
-        return Err(malformed(at));
-    }
     let next = at + 1;
-    if doc.len() <= next {
-        return Err(malformed(at));
-    }
-    if doc[next] != b'>' {
-        return Err(malformed(at)); // at the slash
+    if doc[at] != b'/' || doc.len() <= next || doc[next] != b'>' {
+        return Err(Fault::new(4, at)); // at the slash, where there is one
     }
     Ok(TagEnd {
         closes: true,
@@ -205,20 +164,17 @@ fn fault_in(doc: &[u8], classes: &ClassTable, fault: Fault) -> Refusal
 {
     let number = fault.number;
     let place = fault.place;
-    if number == 8 {
-        let name = scan::name_at(doc, classes, place);
-        return document::showing(number, place, Excerpt::new(place, name.end - place));
+    match number {
+        8 => {
+            let name = scan::name_at(doc, classes, place);
+            document::showing(number, place, Excerpt::new(place, name.end - place))
+        }
+        10 | 11 => reference_in(doc, number, place),
+        _ => document::bare(number, place),
     }
-    if number == 10 {
-        return reference_in(doc, number, place);
-    }
-    if number == 11 {
-        return reference_in(doc, number, place);
-    }
-    document::bare(number, place)
 }
 
-// The start tag whose `<` stands at a place.
+// The start tag whose `<` stands at a place, as the token that has it: a StartTag would be copied into one, and it is large.
 #[tactic(auto, using(crate::proofs::Startings::startings))]
 fn start_tag(doc: &[u8], classes: &ClassTable, lt: usize) -> Result<Token, Refusal>
     requires { TagStart doc.now lt }
@@ -260,12 +216,13 @@ pub fn token(doc: &[u8], classes: &ClassTable, from: usize) -> Result<Token, Ref
         return Err(document::bare(4, next));
     }
     if doc[next] == b'/' {
-        return closing_tag(doc, classes, at);
+        return Ok(Token::Close(closing_tag(doc, classes, at)?));
     }
     start_tag(doc, classes, at)
 }
 
 // What comes next in an open element, whose name stands at a place with a length: 5 at the end, 6 after another closing tag.
+// Place and length are passed apart, here and by its callers: an `Excerpt` has words of 32 bits, which each use would widen.
 #[tactic(auto, using(crate::proofs::Stepping::stepping))]
 pub fn step(
     doc: &[u8],
@@ -294,11 +251,8 @@ pub fn step(
             let first = Excerpt::new(named, c.len);
             let second = Excerpt::new(at, len);
             Err(Refusal {
-                place: c.end,
-                number: 6,
-                key: 0,
-                first,
                 second,
+                ..document::showing(6, c.end, first)
             })
         }
         Token::Start(c) => Ok(Next::Start(c)),

@@ -66,11 +66,11 @@ module _ {doc : List ℕ} {c : StartTag} {i : ℕ} {f : Fill} {b b' : Lent} {a :
     ends = λ k lt why n t fs u z s. (rw e at h).ends t (definition (open_as k i lt n why p) ∷ fs) u z (rw add-one) s;
   }
 
-  pub noted_done : {p q : Parts} {g : Fill} → More doc c f p q → a ≡ Ok g → Noted doc c i p f b b' (Ok (record { fill = g; parts = q }))
-  noted_done {p} {q} {g} m e =
+  pub noted_done : {p q : Parts} {g : Fill} → p.count < f.at → More doc c p q → a ≡ Ok g → Noted doc c i p f b b' (Ok (record { fill = g; parts = q }))
+  noted_done {p} {q} {g} l m e =
       let j : Begins doc c.kind c (i + 1) f b b' (Ok g) = rw e at h in
       record {
-        onward = (j.onward.0, j.onward.1, omega (arith, j.onward.0, m.few), j.onward.2);
+        onward = (j.onward.0, j.onward.1, omega (arith, l, j.onward.0, m.counts), j.onward.2);
         ends = λ k lt why n t fs u z s.
             let x = j.ends t (definition (open_as k i lt n why p) ∷ fs) u z (rw add-one) s in
             (x.0, x.1, x.2 ∙ ap (λ (gs : List Frame). runs doc g.at (closed gs x.0)) (noted_is k i lt why n t fs p q m.kind (m.is t z)), x.3);

@@ -9,8 +9,6 @@ use borrow.Author.Rules.{rules}
 use borrow.Author.Tests.{ne_eqb}
 use native.Mathlib.Numerals.{add-one}
 use native.Mathlib.Omega.{arith}
-use mir.Syntax.{w64}
-use mir.Val.{Fits}
 use Rattle.slices.specs.Bytes.{bytes}
 use Rattle.names.specs.Signature.{basic_signature}
 use Rattle.document.specs.Kinds as kinds
@@ -96,11 +94,11 @@ module _ {doc : List ℕ} {c : StartTag} {p : Parts} where
   pub keyed_typed : {r : Bool} → p.count ≡ 0 → is_absent c.values.ty ≡ false → Tests basic_signature doc c.values.ty r → Keyed doc c p r
   keyed_typed e n i = record { is = λ t z. rw e (some_is doc c.values.ty (attr (bytes "type") t) z.values.ty n i) }
 
-  pub more : {f : Fill} {x y : Bool} → PartKind c.kind → p.count < f.at → Breaks doc c p x → Keyed doc c p y → More doc c f p (record { count = p.count + 1; broken = x; basic = y })
-  more {f} {x} {y} h l b k = record { kind = h; few = omega arith; is = λ t z. rw (add-one, b.is t z, k.is t z) }
+  pub more : {x y : Bool} → PartKind c.kind → Breaks doc c p x → Keyed doc c p y → More doc c p (record { count = p.count + 1; broken = x; basic = y })
+  more h b k = record { kind = h; counts = refl; is = λ t z. rw (add-one, b.is t z, k.is t z) }
 
--- the count fits
-pub count_wide : {doc : List ℕ} {c : StartTag} {f : Fill} {n : ℕ} → Ready doc c f → n < f.at → Fits w64 (n + 1)
-count_wide r h = omega (arith, r.at, r.sound.small, r.fits.within)
+-- the count of the parts up to a place is small
+pub count_small : {doc : List ℕ} {c : StartTag} {f : Fill} {n : ℕ} → Ready doc c f → n < f.at → n < 1048576
+count_small r h = omega (arith, h, r.at, r.sound.small, r.fits.within)
 
-pub ruleset counts = (lies_ty, breaks_before, breaks_now, keyed_before, keyed_untyped, keyed_typed, more, count_wide, rules)
+pub ruleset counts = (lies_ty, breaks_before, breaks_now, keyed_before, keyed_untyped, keyed_typed, more, count_small, rules)

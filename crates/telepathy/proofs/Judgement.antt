@@ -17,7 +17,7 @@ use Rattle.document.specs.Tags.{Shown}
 use Rattle.document.specs.Tokens.{Tag}
 use Rattle.document.specs.Rows.{Row, Tables}
 use Rattle.document.specs.Reading.{Definition, Frame, closed, with_row, dropped, judged, reason_of, noted, entered}
-use Rattle.document.specs.Outcome.{Lent, lent, Bounded, Ready, Opening, Begins, runs, whole}
+use Rattle.document.specs.Outcome.{Lent, lent, Lies, Bounded, Ready, Opening, Begins, runs, whole}
 use Rattle.document.specs.declared.Refusal.{Refusal}
 use Rattle.document.specs.declared.StartTag.{StartTag}
 use Rattle.document.specs.declared.Fill.{Fill}
@@ -27,7 +27,7 @@ use Rattle.document.proofs.Loops.{name_inside}
 use Rattle.rows.specs.Outcome.{WarningPut, WarningFits}
 use Rattle.rows.proofs.Tables.{cut_to}
 use Rattle.elements.specs.Outcome.{TypedKind, UntypedKind}
-use Rattle.elements.proofs.Rows.{simple_type_kind, enum_kind, struct_kind, mapping_kind}
+use Rattle.elements.proofs.Rows.{lies_ty, simple_type_kind, enum_kind, struct_kind, mapping_kind}
 use Rattle.telepathy.specs.Outcome.{DefinitionKind, Told, Content, Judging, Judged, Rest, tagged, entering, no_parts}
 use Rattle.telepathy.specs.declared.Parts.{Parts}
 use Rattle.telepathy.specs.declared.Inner.{Inner}
@@ -60,8 +60,8 @@ module _ {doc : List ℕ} {c : StartTag} {f h : Fill} (j : Judging doc c f h) wh
     few = omega (arith, j.bounds.few, j.bounds.inside, j.bounds.sound.small, j.owner);
   }
 
-  pub judging_ready : Ready doc c f
-  judging_ready = j.ready
+  pub judging_lies : Lies doc c.values.ty
+  judging_lies = lies_ty j.ready
 
   module _ {p : Parts} {why : ℕ} (o : Told doc c p why) where
     pub judged_kept : {w : List ℕ} → why ≡ 0 → Judged doc c p f h w w h
@@ -93,7 +93,7 @@ module _ {doc : List ℕ} {c : StartTag} {f h : Fill} (j : Judging doc c f h) wh
           );
     }
 
-pub ruleset judgements = (back_fits, judging_ready, judged_kept, judged_dropped, rules)
+pub ruleset judgements = (back_fits, judging_lies, judged_kept, judged_dropped, rules)
 
 -- ---- the row
 

@@ -1,6 +1,6 @@
 -- What the functions say: a definition's kind and its parts, why it is dropped, and how a run goes on in it.
 -- Assumes nothing.
-use Rattle.std.specs.Prelude.{ℕ, ◌≤◌, ◌<◌, ◌≡◌, List, ◌∷◌, Bool, true, false, not, ◌||◌, eqb, take, Result, Ok, Err}
+use Rattle.std.specs.Prelude.{ℕ, ◌+◌, ◌≤◌, ◌<◌, ◌≡◌, List, ◌∷◌, Bool, true, false, not, ◌||◌, eqb, take, Result, Ok, Err}
 use Rattle.slices.specs.Bytes.{if, bytes}
 use Rattle.names.specs.Signature.{basic_signature}
 use Rattle.document.specs.Kinds as kinds
@@ -51,10 +51,10 @@ pub record Breaks (doc : List ℕ) (c : StartTag) (p : Parts) (r : Bool) : Type 
 pub record Keyed (doc : List ℕ) (c : StartTag) (p : Parts) (r : Bool) : Type 0 where
   pub is : (t : Tag) → TagIs doc c t → r ≡ if (eqb p.count 0) (is_some basic_signature (attr (bytes "type") t)) p.basic
 
--- one part more, which ends at f
-pub record More (doc : List ℕ) (c : StartTag) (f : Fill) (p r : Parts) : Type 0 where
+-- one part more
+pub record More (doc : List ℕ) (c : StartTag) (p r : Parts) : Type 0 where
   pub kind : PartKind c.kind
-  pub few : r.count ≤ f.at
+  pub counts : r.count ≡ p.count + 1
   pub is : (t : Tag) → TagIs doc c t → seen r ≡ one_more c.kind t (seen p)
 
 -- a definition that is open: kind, row, place of `<`, name, the tag's reason, parts

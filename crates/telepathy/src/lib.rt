@@ -1,9 +1,11 @@
 // Telepathy's type definitions: simple-type, enum, struct, mapping, with enumvalues and members as parts.
 // One incomplete part drops the whole definition, with its rows and text, and leaves one warning.
+// Which kinds come is said in clauses: a kind goes on in its start tag, and an enum of four kinds would go on beside it.
+// That a parent is small is a clause of its own, as in `elements`: the parent is no part of what `Ready` speaks of.
 #![tactic(auto)]
 
 ghost use Rattle.std.specs.Prelude.{◌+◌, ◌≤◌, ◌<◌, true, [], length};
-ghost use Rattle.document.specs.Outcome.{Ready, Bounded, Begins, Opening, Keeps, lent_to};
+ghost use Rattle.document.specs.Outcome.{Lies, Ready, Bounded, Begins, Opening, Keeps, lent_to};
 ghost use Rattle.telepathy.specs.Outcome.{DefinitionKind, PartKind, Holds, Unseen, Completes, Noted, Breaks, Keyed, More, TagTold, PartsTold, Told, Child, Body, Content, Judging, Judged, Rest};
 
 use children::{Element, contents};
@@ -76,39 +78,30 @@ fn part(r: &mut Reader, c: &StartTag, i: usize, f: Fill) -> Result<Fill, Refusal
 }
 
 // Whether an enumvalue or a member is complete.
-fn complete(doc: &[u8], c: &StartTag, f: Fill) -> bool
-    requires ready { Ready doc.now c.now f }
+fn complete(doc: &[u8], c: &StartTag) -> bool
+    requires lies { Lies doc.now c.now.values.ty }
     requires of_kind { PartKind c.now.kind }
     ensures { Completes doc.now c.now result }
 {
     let v = c.values;
     if c.kind == kinds::ENUMVALUE {
-        if v.suffix.is_absent() {
-            return false;
-        }
-        return !v.value.is_absent();
+        return !v.suffix.is_absent() && !v.value.is_absent();
     }
-    if v.name.is_absent() {
-        return false;
-    }
-    if v.ty.is_absent() {
-        return false;
-    }
-    shown::some_signature(doc, v.ty)
+    !v.name.is_absent() && !v.ty.is_absent() && shown::some_signature(doc, v.ty)
 }
 
 // Whether a part was incomplete, with this one.
-fn broken(doc: &[u8], c: &StartTag, p: Parts, f: Fill) -> bool
-    requires ready { Ready doc.now c.now f }
+fn broken(doc: &[u8], c: &StartTag, p: Parts) -> bool
+    requires lies { Lies doc.now c.now.values.ty }
     requires of_kind { PartKind c.now.kind }
     ensures { Breaks doc.now c.now p result }
 {
-    p.broken || !complete(doc, c, f)
+    p.broken || !complete(doc, c)
 }
 
 // Whether the first part's type is basic, with this one.
-fn keyed(doc: &[u8], c: &StartTag, p: Parts, f: Fill) -> bool
-    requires { Ready doc.now c.now f }
+fn keyed(doc: &[u8], c: &StartTag, p: Parts) -> bool
+    requires { Lies doc.now c.now.values.ty }
     ensures { Keyed doc.now c.now p result }
 {
     if p.count != 0 {
@@ -121,14 +114,14 @@ fn keyed(doc: &[u8], c: &StartTag, p: Parts, f: Fill) -> bool
 }
 
 // The parts with one more.
-fn one_more(doc: &[u8], c: &StartTag, p: Parts, f: Fill) -> Parts
-    requires ready { Ready doc.now c.now f }
+fn one_more(doc: &[u8], c: &StartTag, p: Parts) -> Parts
+    requires lies { Lies doc.now c.now.values.ty }
     requires of_kind { PartKind c.now.kind }
-    requires few { p.count < f.at }
-    ensures { More doc.now c.now f p result }
+    requires few { p.count < 1048576 }
+    ensures { More doc.now c.now p result }
 {
-    let b = broken(doc, c, p, f);
-    let k = keyed(doc, c, p, f);
+    let b = broken(doc, c, p);
+    let k = keyed(doc, c, p);
     Parts {
         count: p.count + 1,
         broken: b,
@@ -170,7 +163,7 @@ fn noted_part(r: &mut Reader, c: &StartTag, i: usize, p: Parts, f: Fill) -> Resu
         (lent_to r.old)
         (lent_to r.new) result }
 {
-    let q = one_more(r.doc, c, p, f);
+    let q = one_more(r.doc, c, p);
     let fill = part(r, c, i, f)?;
     Ok(Inner { fill, parts: q })
 }
@@ -263,8 +256,8 @@ fn content(r: &mut Reader, c: &StartTag, i: usize, f: Fill) -> Result<Inner, Ref
 }
 
 // Why a definition is dropped by its tag alone, or 0 as the definitions have it.
-fn tag_reason(doc: &[u8], c: &StartTag, f: Fill) -> u32
-    requires ready { Ready doc.now c.now f }
+fn tag_reason(doc: &[u8], c: &StartTag) -> u32
+    requires lies { Lies doc.now c.now.values.ty }
     requires of_kind { DefinitionKind c.now.kind }
     ensures { TagTold doc.now c.now result }
 {
@@ -299,12 +292,12 @@ fn parts_reason(kind: u32, p: Parts) -> u32
 }
 
 // Why a definition is dropped, or 0 as the definitions have it; only the first reason is told.
-fn reason(doc: &[u8], c: &StartTag, p: Parts, f: Fill) -> u32
-    requires ready { Ready doc.now c.now f }
+fn reason(doc: &[u8], c: &StartTag, p: Parts) -> u32
+    requires lies { Lies doc.now c.now.values.ty }
     requires of_kind { DefinitionKind c.now.kind }
     ensures { Told doc.now c.now p result }
 {
-    let why = tag_reason(doc, c, f);
+    let why = tag_reason(doc, c);
     if why != 0 {
         return why;
     }
@@ -317,7 +310,7 @@ fn judge(doc: &[u8], warnings: &mut [u32], c: &StartTag, p: Parts, f: Fill, h: F
     requires of_kind { DefinitionKind c.now.kind }
     ensures { Judged doc.now c.now p f h warnings.old warnings.new result }
 {
-    let why = reason(doc, c, p, f);
+    let why = reason(doc, c, p);
     if why == 0 {
         return h;
     }

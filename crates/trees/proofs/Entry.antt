@@ -13,6 +13,7 @@ use lib.ListN.{length, drop, get_or}
 use Rattle.faults.specs.declared.Fault.{Fault}
 use Rattle.slices.specs.Bytes.{if}
 use Rattle.answers.specs.Text.{Text, wrong, Says, Finishes}
+use Rattle.answers.proofs.Answers.{told, finished}
 use Rattle.document.specs.Kinds as kinds
 use Rattle.document.specs.Elements.{among, may_hold}
 use Rattle.items.specs.Words.{Word, triple_at, row_of, rows_of, RowWords}
@@ -124,7 +125,7 @@ module _ {d x ws : List ℕ} {n i : ℕ} (h : Held d x ws n) (l : i < n) where
   pub row_held : i * 16 + 16 ≤ length ws
   row_held = omega (arith, l, h.held)
 
-pub ruleset rows = (no_row, no_kind, row_deep, row_written, row_held, rules)
+pub ruleset rows = (told, finished, no_row, no_kind, row_deep, row_written, row_held, rules)
 
 -- ---- the answers
 

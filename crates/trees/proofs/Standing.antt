@@ -291,9 +291,6 @@ module _ {ws : List ℕ} {n i : ℕ} where
             subst (λ j. word_at ws j 1 ≡ i + 1 → ⊥) {x = get_or (range_with_len (i + 1) m) (k - (i + 1)) 0} {y = k} (omega (arith, a, b, get_or-range_with_len (i + 1) m (k - (i + 1)) 0 (omega (arith, a, b)))) (h (k - (i + 1)) 0 (omega arith) (omega (arith, a, b, length-range_with_len (i + 1) m))) (omega (arith, f));
       }
 
-pub word_is : {ws : List ℕ} {i k v : ℕ} → Word ws i k v → v ≡ word_at ws i k
-word_is w = w.is
-
 -- row k of the table is held
 module _ {d x ws : List ℕ} {n k : ℕ} (h : Held d x ws n) (l : k < n) where
   pub held_row : k * 16 + 16 ≤ length ws

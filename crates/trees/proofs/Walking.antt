@@ -30,7 +30,7 @@ use Rattle.std.specs.Prelude.{Result, Ok, Err}
 use Rattle.std.specs.declared.ops.ControlFlow.{ControlFlow}
 use Rattle.std.specs.declared.ops.ControlFlow.TheVariants.{Continue, Break}
 use Rattle.slices.proofs.Runs.{and_both}
-use Rattle.trees.specs.Walk.{rest, bytes_of, bytes_in, inside_of, AmongOpen, IsAround, Resumes, Begins, Above, at_top, up, Walking, TopOpen, Walks, Enters, Leaves, Turns, LeavesIs}
+use Rattle.trees.specs.Walk.{rest, bytes_of, bytes_in, inside_of, AmongOpen, IsAround, Resumes, Begins, Above, at_top, up, Walking, Going, TopOpen, Walks, DeepRow, Goes, Enters, Leaves, Turns, LeavesIs}
 use Rattle.trees.proofs.Standing.{held_row, held_few}
 use Rattle.trees.proofs.Zipper.{rest_all_on, rest_next, rest_next_on, rest_later, rest_none, rest_pass}
 use Rattle.trees.proofs.Counted.{only, under_most}
@@ -99,6 +99,9 @@ module _ {d x ws : List ℕ} {n top : ℕ} {s : Standing} {w : Walk} {out : List
   pub walk_left : 0 < w.left
   walk_left = omega (arith, h.enough, h.group)
 
+  pub walk_going : Going w
+  walk_going = record { left = walk_left; few = h.few; room = omega (arith, h.room) }
+
   module _ {k : ℕ} (q : NextAt ws n w.row w.group w.from s k) where
     parent_is : word_at ws k 1 ≡ suc w.row
     parent_is = eqb-true (word_at ws k 1) (suc w.row) (and_both (among (word_at ws k 0) (group_kinds w.group)) (eqb (word_at ws k 1) (suc w.row)) q.is).1
@@ -117,42 +120,38 @@ module _ {d x ws : List ℕ} {n top : ℕ} {s : Standing} {w : Walk} {out : List
             let p : word_at ws m 1 ≡ suc w.row = ap (λ j. word_at ws j 1) e ∙ parent_is in
             omega (arith, p)
 
-    pub enter_deep : {t : List ℕ} {j : ℕ} → Begins d x ws n k w.nodes w.put out t (Err j) → Enters d x ws n top s w t (Err j)
-    enter_deep b = record {
-      is = record {
-        is = h.deep
-            ∙ ap (λ f. first (too_deeps (element_at d x ws) w.nodes f) h.next) (rest_next ws n q)
-            ∙ ap (λ p. first (first p (too_deeps (element_at d x ws) w.nodes (rest (links_of n ws) w.group w.row (suc k)))) h.next) (open_deep d x ws k (under k (links_of n ws)) w.nodes b.is.opens b.is.node b.is.deep)
-            ∙ ap some (sym b.is.row);
-      };
+    deep_there : {t : List ℕ} {j : ℕ} → Begins d x ws n k w.nodes w.put out t (Err j) → DeepRow d x ws n top j
+    deep_there b = record {
+      is = h.deep
+          ∙ ap (λ f. first (too_deeps (element_at d x ws) w.nodes f) h.next) (rest_next ws n q)
+          ∙ ap (λ p. first (first p (too_deeps (element_at d x ws) w.nodes (rest (links_of n ws) w.group w.row (suc k)))) h.next) (open_deep d x ws k (under k (links_of n ws)) w.nodes b.is.opens b.is.node b.is.deep)
+          ∙ ap some (sym b.is.row);
     }
 
-    pub enter_closed : {t : List ℕ} {z : Start} {put : ℕ} → Begins d x ws n k w.nodes w.put out t (Ok z) → z ≡ Closed put → Enters d x ws n top s w t (Ok record { row = w.row; group = w.group; from = k + 1; nodes = w.nodes; put = put; left = w.left - 1 })
-    enter_closed b₀ y = let b = begins_as b₀ y in record {
-      is = record {
-        fewer = omega (arith, walk_left);
-        walks = record {
-          within = h.within;
-          after = omega (arith, h.after, q.onward);
-          onward = omega (arith, q.within);
-          group = h.group;
-          few = h.few;
-          tail = h.tail;
-          next = h.next;
-          turns = h.turns;
-          above = h.above;
-          passed = λ o m a l. passed_on o m a (omega (arith, l));
-          done = h.done ++ bytes_of d x ws (tree k (under k (links_of n ws)));
-          stands = b.is.puts.stands h.done h.stands;
-          whole = h.whole
-              ∙ ap (λ f. h.done ++ (bytes_in d x ws f ++ (closing_tag (tag_of (word_at ws w.row 0)) ++ h.tail))) (rest_next_on ws n q)
-              ∙ closed_on h.done (bytes_of d x ws (tree k (under k (links_of n ws)))) (bytes_in d x ws (rest (links_of n ws) w.group w.row (k + 1))) (closing_tag (tag_of (word_at ws w.row 0)) ++ h.tail);
-          deep = h.deep
-              ∙ ap (λ f. first (too_deeps (element_at d x ws) w.nodes f) h.next) (rest_next_on ws n q)
-              ∙ ap (λ p. first (first p (too_deeps (element_at d x ws) w.nodes (rest (links_of n ws) w.group w.row (k + 1)))) h.next) (closed_shallow d x ws k (under k (links_of n ws)) w.nodes b.is.closed);
-          enough = omega (arith, h.enough, ap sizes (rest_next_on ws n q));
-          room = omega (arith, h.room, b.is.most, walk_left);
-        };
+    closed_there : {t : List ℕ} {z : Start} {put : ℕ} → Begins d x ws n k w.nodes w.put out t (Ok z) → z ≡ Closed put → Goes d x ws n top s w t (record { row = w.row; group = w.group; from = k + 1; nodes = w.nodes; put = put; left = w.left - 1 })
+    closed_there b₀ y = let b = begins_as b₀ y in record {
+      fewer = omega (arith, walk_left);
+      walks = record {
+        within = h.within;
+        after = omega (arith, h.after, q.onward);
+        onward = omega (arith, q.within);
+        group = h.group;
+        few = h.few;
+        tail = h.tail;
+        next = h.next;
+        turns = h.turns;
+        above = h.above;
+        passed = λ o m a l. passed_on o m a (omega (arith, l));
+        done = h.done ++ bytes_of d x ws (tree k (under k (links_of n ws)));
+        stands = b.is.puts.stands h.done h.stands;
+        whole = h.whole
+            ∙ ap (λ f. h.done ++ (bytes_in d x ws f ++ (closing_tag (tag_of (word_at ws w.row 0)) ++ h.tail))) (rest_next_on ws n q)
+            ∙ closed_on h.done (bytes_of d x ws (tree k (under k (links_of n ws)))) (bytes_in d x ws (rest (links_of n ws) w.group w.row (k + 1))) (closing_tag (tag_of (word_at ws w.row 0)) ++ h.tail);
+        deep = h.deep
+            ∙ ap (λ f. first (too_deeps (element_at d x ws) w.nodes f) h.next) (rest_next_on ws n q)
+            ∙ ap (λ p. first (first p (too_deeps (element_at d x ws) w.nodes (rest (links_of n ws) w.group w.row (k + 1)))) h.next) (closed_shallow d x ws k (under k (links_of n ws)) w.nodes b.is.closed);
+        enough = omega (arith, h.enough, ap sizes (rest_next_on ws n q));
+        room = omega (arith, h.room, b.is.most, walk_left);
       };
     }
 
@@ -163,8 +162,8 @@ module _ {d x ws : List ℕ} {n top : ℕ} {s : Standing} {w : Walk} {out : List
         go true e = omega (arith, l (eqb-true (word_at ws k 0) 1 e))
         go false e = h.few
 
-    pub enter_open : {t : List ℕ} {z : Start} {put kind o : ℕ} → Begins d x ws n k w.nodes w.put out t (Ok z) → z ≡ Opened put → Word ws k 0 kind → o ≡ inside_of kind w.nodes → Enters d x ws n top s w t (Ok record { row = k; group = 0; from = k + 1; nodes = o; put = put; left = w.left - 1 })
-    enter_open {put = put} {kind} {o} b₀ y v e =
+    open_there : {t : List ℕ} {z : Start} {put kind o : ℕ} → Begins d x ws n k w.nodes w.put out t (Ok z) → z ≡ Opened put → Word ws k 0 kind → o ≡ inside_of kind w.nodes → Goes d x ws n top s w t (record { row = k; group = 0; from = k + 1; nodes = o; put = put; left = w.left - 1 })
+    open_there {put = put} {kind} {o} b₀ y v e =
         let b = begins_as b₀ y in
         let g = group_of (word_at ws k 0) in
         let r = rest (links_of n ws) g w.row (suc k) in
@@ -174,35 +173,33 @@ module _ {d x ws : List ℕ} {n top : ℕ} {s : Standing} {w : Walk} {out : List
         let i : o ≡ inside_of (word_at ws k 0) w.nodes = e ∙ ap (λ z. inside_of z w.nodes) v.is in
         let next_is : rest (links_of n ws) w.group w.row w.from ≡ more (tree k u) r = rest_next ws n q ∙ ap (λ z. more (tree k u) (rest (links_of n ws) z w.row (suc k))) (sym group_known) in
         record {
-          is = record {
-            fewer = omega (arith, walk_left);
-            walks = record {
-              within = q.within;
-              after = omega arith;
-              onward = omega (arith, q.within);
-              group = omega arith;
-              few = subst (λ z. z ≤ 1024) (sym i) (inside_few b.is.shallow);
-              tail = bytes_in d x ws r ++ (closing_tag (tag_of (word_at ws w.row 0)) ++ h.tail);
-              next = first (too_deeps (element_at d x ws) w.nodes r) h.next;
-              turns = 6 * sizes r + (5 - g) + h.turns;
-              above = up big parent_is h.few i refl refl least passed_on h.above;
-              passed = λ _ m a l. absurd (omega (arith, a, l));
-              done = h.done ++ b.is.begun;
-              stands = b.is.puts.stands h.done h.stands;
-              whole = h.whole
-                  ∙ ap (λ f. h.done ++ (bytes_in d x ws f ++ (closing_tag (tag_of (word_at ws w.row 0)) ++ h.tail))) next_is
-                  ∙ ap (λ l. h.done ++ ((l ++ bytes_in d x ws r) ++ (closing_tag (tag_of (word_at ws w.row 0)) ++ h.tail))) b.is.is
-                  ∙ open_on h.done b.is.begun (bytes_in d x ws u) (closing_tag (tag_of (word_at ws k 0))) (bytes_in d x ws r) (closing_tag (tag_of (word_at ws w.row 0)) ++ h.tail)
-                  ∙ ap (λ f. (h.done ++ b.is.begun) ++ (bytes_in d x ws f ++ (closing_tag (tag_of (word_at ws k 0)) ++ (bytes_in d x ws r ++ (closing_tag (tag_of (word_at ws w.row 0)) ++ h.tail))))) (sym (rest_all_on ws n k));
-              deep = h.deep
-                  ∙ ap (λ f. first (too_deeps (element_at d x ws) w.nodes f) h.next) next_is
-                  ∙ ap (λ p. first (first p (too_deeps (element_at d x ws) w.nodes r)) h.next) (open_shallow d x ws k u w.nodes b.is.opens b.is.shallow)
-                  ∙ first_both (too_deeps (element_at d x ws) (inside_of (word_at ws k 0) w.nodes) u) (too_deeps (element_at d x ws) w.nodes r) h.next
-                  ∙ ap (λ z. first (too_deeps (element_at d x ws) z u) (first (too_deeps (element_at d x ws) w.nodes r) h.next)) (sym i)
-                  ∙ ap (λ f. first (too_deeps (element_at d x ws) o f) (first (too_deeps (element_at d x ws) w.nodes r) h.next)) (sym (rest_all_on ws n k));
-              enough = omega (arith, h.enough, ap sizes next_is, ap sizes (rest_all_on ws n k), group_known);
-              room = omega (arith, h.room, b.is.most, walk_left);
-            };
+          fewer = omega (arith, walk_left);
+          walks = record {
+            within = q.within;
+            after = omega arith;
+            onward = omega (arith, q.within);
+            group = omega arith;
+            few = subst (λ z. z ≤ 1024) (sym i) (inside_few b.is.shallow);
+            tail = bytes_in d x ws r ++ (closing_tag (tag_of (word_at ws w.row 0)) ++ h.tail);
+            next = first (too_deeps (element_at d x ws) w.nodes r) h.next;
+            turns = 6 * sizes r + (5 - g) + h.turns;
+            above = up big parent_is h.few i refl refl least passed_on h.above;
+            passed = λ _ m a l. absurd (omega (arith, a, l));
+            done = h.done ++ b.is.begun;
+            stands = b.is.puts.stands h.done h.stands;
+            whole = h.whole
+                ∙ ap (λ f. h.done ++ (bytes_in d x ws f ++ (closing_tag (tag_of (word_at ws w.row 0)) ++ h.tail))) next_is
+                ∙ ap (λ l. h.done ++ ((l ++ bytes_in d x ws r) ++ (closing_tag (tag_of (word_at ws w.row 0)) ++ h.tail))) b.is.is
+                ∙ open_on h.done b.is.begun (bytes_in d x ws u) (closing_tag (tag_of (word_at ws k 0))) (bytes_in d x ws r) (closing_tag (tag_of (word_at ws w.row 0)) ++ h.tail)
+                ∙ ap (λ f. (h.done ++ b.is.begun) ++ (bytes_in d x ws f ++ (closing_tag (tag_of (word_at ws k 0)) ++ (bytes_in d x ws r ++ (closing_tag (tag_of (word_at ws w.row 0)) ++ h.tail))))) (sym (rest_all_on ws n k));
+            deep = h.deep
+                ∙ ap (λ f. first (too_deeps (element_at d x ws) w.nodes f) h.next) next_is
+                ∙ ap (λ p. first (first p (too_deeps (element_at d x ws) w.nodes r)) h.next) (open_shallow d x ws k u w.nodes b.is.opens b.is.shallow)
+                ∙ first_both (too_deeps (element_at d x ws) (inside_of (word_at ws k 0) w.nodes) u) (too_deeps (element_at d x ws) w.nodes r) h.next
+                ∙ ap (λ z. first (too_deeps (element_at d x ws) z u) (first (too_deeps (element_at d x ws) w.nodes r) h.next)) (sym i)
+                ∙ ap (λ f. first (too_deeps (element_at d x ws) o f) (first (too_deeps (element_at d x ws) w.nodes r) h.next)) (sym (rest_all_on ws n k));
+            enough = omega (arith, h.enough, ap sizes next_is, ap sizes (rest_all_on ws n k), group_known);
+            room = omega (arith, h.room, b.is.most, walk_left);
           };
         }
 
@@ -397,6 +394,21 @@ module _ {d x ws : List ℕ} {n top put : ℕ} {out : List ℕ} (h : TopOpen d x
       first-none none = refl
       first-none (some p) = refl
 
+-- a child is entered, whatever the top of the walk is
+module _ {d x ws : List ℕ} {n k : ℕ} {s : Standing} {w : Walk} {out : List ℕ} (q : NextAt ws n w.row w.group w.from s k) {t : List ℕ} where
+  pub enter_deep : {j : ℕ} → Begins d x ws n k w.nodes w.put out t (Err j) → Enters d x ws n s w out t (Err j)
+  enter_deep b = record { is = λ top h. deep_there h q b }
+
+  module _ {z : Start} {put : ℕ} (b : Begins d x ws n k w.nodes w.put out t (Ok z)) where
+    pub enter_closed : z ≡ Closed put → Enters d x ws n s w out t (Ok record { row = w.row; group = w.group; from = k + 1; nodes = w.nodes; put = put; left = w.left - 1 })
+    enter_closed y = record { is = λ top h. closed_there h q b y }
+
+    pub enter_open : {kind o : ℕ} → z ≡ Opened put → Word ws k 0 kind → o ≡ inside_of kind w.nodes → Enters d x ws n s w out t (Ok record { row = k; group = 0; from = k + 1; nodes = o; put = put; left = w.left - 1 })
+    enter_open y v e = record { is = λ top h. open_there h q b y v e }
+
+pub going_left : {w : Walk} → Going w → 0 < w.left
+going_left g = g.left
+
 -- ---- one turn, and all
 
 pub turn_at : {ws : List ℕ} {n i g from k : ℕ} {s : Standing} → Next ws n i g from s (Ok k) → NextAt ws n i g from s k
@@ -406,11 +418,12 @@ pub turn_none : {ws : List ℕ} {n i g from k : ℕ} {s : Standing} → Next ws 
 turn_none q = q.is
 
 module _ {d x ws : List ℕ} {n top : ℕ} {s : Standing} {w : Walk} {out : List ℕ} where
-  pub turn_deep : {k : ℕ} → Enters d x ws n top s w out (Err k) → Turns d x ws n top s w out (Err k)
-  turn_deep q = record { is = q.is }
+  module _ {t : List ℕ} (h : Walking d x ws n top s w t) where
+    pub turn_deep : {k : ℕ} → Enters d x ws n s w t out (Err k) → Turns d x ws n top s w out (Err k)
+    turn_deep q = record { is = q.is top h }
 
-  pub turn_enters : {w' : Walk} → Enters d x ws n top s w out (Ok w') → Turns d x ws n top s w out (Ok (Continue w'))
-  turn_enters q = record { is = q.is }
+    pub turn_enters : {w' : Walk} → Enters d x ws n s w t out (Ok w') → Turns d x ws n top s w out (Ok (Continue w'))
+    turn_enters q = record { is = q.is top h }
 
   pub turn_leaves : {r : ControlFlow ℕ Walk} → Leaves d x ws n top s w out r → Turns d x ws n top s w out (Ok r)
   turn_leaves q = record { is = q.is }
@@ -447,7 +460,7 @@ module _ {d x ws : List ℕ} {n top : ℕ} {s : Standing} {w : Walk} where
     pub loop_never : {z : Result ℕ ℕ} → w.left ≤ 0 → Walks d x ws n top t z
     loop_never l = absurd (omega (arith, walk_left g.walks, l))
 
-pub ruleset turning = (turn_at, turn_none, turn_deep, turn_enters, turn_leaves, rules)
+pub ruleset turning = (turn_at, turn_none, walk_going, turn_deep, turn_enters, turn_leaves, rules)
 
 pub ruleset looping = (loop_begins, loop_walks, loop_deep, loop_again, loop_less, loop_ends, loop_never, rules)
 
@@ -460,7 +473,7 @@ pub ruleset treeing = (stands_known, rules)
 
 pub ruleset tops = (held_row, held_few, top_walks, rules)
 
-pub ruleset entering = (held_row, held_few, enter_deep, enter_closed, enter_open, walk_left, rules)
+pub ruleset entering = (held_row, held_few, enter_deep, enter_closed, enter_open, going_left, rules)
 
 pub ruleset leaving = (leave_group, walk_left, rules)
 

@@ -161,6 +161,12 @@ pub record Walking (d x ws : List ℕ) (n top : ℕ) (s : Standing) (w : Walk) (
   pub enough : 6 * sizes (rest (links_of n ws) w.group w.row w.from) + (5 - w.group) + turns ≤ w.left
   pub room : w.put + w.left * 33554432 ≤ 2 ^ 60
 
+-- what entering a child needs of a walk: a turn is left, few nodes are open, and there is room to count
+pub record Going (w : Walk) : Type 0 where
+  pub left : 0 < w.left
+  pub few : w.nodes ≤ 1024
+  pub room : w.put ≤ 2 ^ 60
+
 -- row `top` is open, and nothing is around it
 pub record TopOpen (d x ws : List ℕ) (n top : ℕ) (put : ℕ) (out : List ℕ) : Type 0 where
   pub within : top < n
@@ -195,8 +201,9 @@ abbrev pub EntersIs : List ℕ → List ℕ → List ℕ → ℕ → ℕ → Sta
 EntersIs d x ws n top s w out (Ok w') = Goes d x ws n top s w out w'
 EntersIs d x ws n top s w out (Err k) = DeepRow d x ws n top k
 
-pub record Enters (d x ws : List ℕ) (n top : ℕ) (s : Standing) (w : Walk) (out : List ℕ) (r : Result Walk ℕ) : Type 0 where
-  pub is : EntersIs d x ws n top s w out r
+-- whatever the top of the walk is
+pub record Enters (d x ws : List ℕ) (n : ℕ) (s : Standing) (w : Walk) (out out' : List ℕ) (r : Result Walk ℕ) : Type 0 where
+  pub is : (top : ℕ) → Walking d x ws n top s w out → EntersIs d x ws n top s w out' r
 
 abbrev pub LeavesIs : List ℕ → List ℕ → List ℕ → ℕ → ℕ → Standing → Walk → List ℕ → ControlFlow ℕ Walk → Type 0
 LeavesIs d x ws n top s w out (Continue w') = Goes d x ws n top s w out w'

@@ -1,6 +1,6 @@
 // What stands in a row: its groups, the next child of a group, and whether there is a child at all.
 ghost use Rattle.std.specs.Prelude.{◌≡◌, true, ◌+◌, ◌*◌, ◌≤◌, ◌<◌, length};
-ghost use Rattle.trees.specs.Steps.{group_of, Held, Stands, Next, HasChild, RowsHeld, RowKept, Late, LastNode, NodesStand, Asked, Child, Past, RunPast, GroupPast};
+ghost use Rattle.trees.specs.Steps.{group_of, Stands, Next, HasChild, RowsHeld, RowKept, Late, LastNode, NodesStand, Asked, Child, Past, RunPast, GroupPast};
 
 use crate::lent::Table;
 use document::kinds;
@@ -50,7 +50,7 @@ fn last_node(rows: &[u32], k: usize, node: usize) -> usize
     }
 }
 
-// Whether no row that is not a node stands in a node after a node of the same parent: then the parent is the last node before it.
+// Whether in each node all nodes stand after its other rows: then the node that a row is in, if the row is no node, is the last node before it.
 #[tactic(auto, using(crate::proofs::Standing::lasts))]
 fn nodes_stand_last(rows: &[u32], n: usize) -> bool
     requires { RowsHeld rows.now n }
@@ -67,8 +67,8 @@ fn nodes_stand_last(rows: &[u32], n: usize) -> bool
 }
 
 // How n rows stand.
-pub fn rows_stand<'a>(document: &'a [u8], text: &'a [u8], rows: &[u32], n: usize) -> Standing
-    requires { Held document.now text.now rows.now n }
+pub fn rows_stand(rows: &[u32], n: usize) -> Standing
+    requires { RowsHeld rows.now n }
     ensures { Stands rows.now n result }
 {
     Standing {

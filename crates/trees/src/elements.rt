@@ -6,6 +6,7 @@ ghost use Rattle.trees.specs.Written.{tag_of, name_key, value_key, word_pairs};
 ghost use Rattle.trees.specs.Steps.{StartPut, DocstringPut, ClosePut, keyed, CountFits, NamePut, GivenHeld, GivenPut, AttributePut, AttributesPut, TaggedPut, WordHeld, WordPut};
 
 use crate::lent::Table;
+use answers::put::put_bytes;
 use document::kinds;
 use scan::ClassTable;
 
@@ -38,8 +39,8 @@ fn put_name(kind: u32, before: &[u8], out: &mut [u8], n: usize) -> usize
     requires { CountFits (n + length before.now) 20 }
     ensures { NamePut kind before.now n out.old out.new result }
 {
-    let begun = writer::put_text(out, n, before);
-    writer::put_text(out, begun, tag_name(kind))
+    let begun = put_bytes(out, n, before);
+    put_bytes(out, begun, tag_name(kind))
 }
 
 // An attribute of a value, after its space, key, `=` and quote.
@@ -49,7 +50,7 @@ fn put_given(value: &[u8], before: &[u8], classes: &ClassTable, out: &mut [u8], 
     ensures { GivenPut value.now before.now n out.old out.new result }
 {
     let put = writer::put_value(out, n, before, value, classes);
-    writer::put_text(out, put, b"\"")
+    put_bytes(out, put, b"\"")
 }
 
 // An attribute whose value is the triple from word k on of row i, if it is there.
@@ -126,7 +127,7 @@ fn put_word(rows: &[u32], i: usize, kind: u32, out: &mut [u8], n: usize) -> usiz
     requires { WordHeld rows.now i kind n }
     ensures { WordPut rows.now i kind n out.old out.new result }
 {
-    writer::put_text(out, n, word_text(kind, items::word(rows, i, 14)))
+    put_bytes(out, n, word_text(kind, items::word(rows, i, 14)))
 }
 
 // The attributes of row i but for word 14.
@@ -179,10 +180,10 @@ pub fn put_docstring(table: &Table, i: usize, out: &mut [u8], put: usize) -> usi
     if t.len == 0 {
         return put;
     }
-    let begun = writer::put_text(out, put, b"<tp:docstring>");
+    let begun = put_bytes(out, put, b"<tp:docstring>");
     let shown = tables::lookup(table.document, table.text, t);
-    let told = writer::put_text(out, begun, shown);
-    writer::put_text(out, told, b"</tp:docstring>")
+    let told = put_bytes(out, begun, shown);
+    put_bytes(out, told, b"</tp:docstring>")
 }
 
 // The closing tag of a kind.
@@ -192,5 +193,5 @@ pub fn put_close(kind: u32, out: &mut [u8], put: usize) -> usize
     ensures { ClosePut kind put out.old out.new result }
 {
     let named = put_name(kind, b"</", out, put);
-    writer::put_text(out, named, b">")
+    put_bytes(out, named, b">")
 }

@@ -9,6 +9,7 @@ ghost use Rattle.trees.specs.Walk.{Writable, WritesSound};
 
 use answers::TextAnswer;
 use document::kinds;
+use faults::Fault;
 
 mod children;
 mod elements;
@@ -36,17 +37,18 @@ fn write_sound<'a>(
     ensures { WritesSound document.now text.now rows.now claimed row out.old out.new result }
 {
     if claimed <= row || !is_writable(items::word(rows, row, 0)) {
-        return answers::refuse(out, 20, row);
+        return answers::refuse(out, Fault::new(20, row));
     }
     match walk::put_tree(document, text, rows, claimed, row, out) {
-        Err(place) => answers::refuse(out, 7, place),
-        Ok(n) => answers::finish(out, n, 21, n),
+        Err(place) => answers::refuse(out, Fault::new(7, place)),
+        Ok(n) => answers::finish(out, n, Fault::new(21, n)),
     }
 }
 
 // Writes the element of a row with all under it: any row but an enumvalue or a member. Refused with 2 for a document or a text of more than
 // 1,048,576 bytes, with 19 for rows that are not sound, with 20 for no such row or one that is a part of a definition, with 7 at the first row, as
 // written, that would be the 1,025th open node, and with 21 and the bytes needed where there is no room.
+// Beside `writers::write`: what is shared is a match of two lines.
 #[tactic(auto, using(crate::proofs::Entry::entry))]
 pub fn write_tree<'a>(
     document: &'a [u8],
@@ -60,7 +62,7 @@ pub fn write_tree<'a>(
         (length out.old) out.new result }
 {
     match soundness::admit(document, text, rows, claimed) {
-        Err(fault) => answers::refuse(out, fault.number, fault.place),
+        Err(fault) => answers::refuse(out, fault),
         Ok(()) => write_sound(document, text, rows, claimed, row, out),
     }
 }

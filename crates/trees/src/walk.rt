@@ -2,11 +2,12 @@
 // open: parents say the way back.
 ghost use Rattle.std.specs.Prelude.{◌+◌, ◌≤◌, ◌<◌, ◌^◌, ◌≡◌};
 ghost use Rattle.trees.specs.Steps.{Held, NextAt, NoNext};
-ghost use Rattle.trees.specs.Walk.{inside_of, OpenIs, IsDeep, AmongOpen, IsAround, Resumes, Opens, Begins, Walking, Enters, Leaves, Turns, TopOpen, Walks};
+ghost use Rattle.trees.specs.Walk.{inside_of, OpenIs, IsDeep, AmongOpen, IsAround, Resumes, Opens, Begins, Going, Walking, Enters, Leaves, Turns, TopOpen, Walks};
 
 use crate::children::Standing;
 use crate::lent::Table;
 use crate::{children, elements};
+use answers::put::put_bytes;
 use document::kinds;
 use std::ops::ControlFlow;
 
@@ -90,7 +91,7 @@ fn put_open(
     if is_deep(items::word(table.rows, i, 0), nodes) {
         return Err(i);
     }
-    let opened = writer::put_text(out, put, b">");
+    let opened = put_bytes(out, put, b">");
     Ok(elements::put_docstring(table, i, out, opened))
 }
 
@@ -110,7 +111,7 @@ fn put_begin(
 {
     let tagged = elements::put_start(table, i, out, put);
     if !is_open(table, i) {
-        return Ok(Start::Closed(writer::put_text(out, tagged, b"/>")));
+        return Ok(Start::Closed(put_bytes(out, tagged, b"/>")));
     }
     let opened = put_open(table, i, nodes, out, tagged)?;
     Ok(Start::Opened(opened))
@@ -118,13 +119,12 @@ fn put_begin(
 
 // Child k of the row that is open.
 #[tactic(auto, using(crate::proofs::Walking::entering))]
-fn enter(table: &Table, top: usize, k: usize, w: Walk, out: &mut [u8]) -> Result<Walk, usize>
-    requires walking { Walking table.now.document.now table.now.text.now table.now.rows.now
-        table.now.n top table.now.standing w out.old }
+fn enter(table: &Table, k: usize, w: Walk, out: &mut [u8]) -> Result<Walk, usize>
+    requires going { Going w }
     requires child { NextAt table.now.rows.now table.now.n w.row w.group w.from
         table.now.standing k }
     ensures { Enters table.now.document.now table.now.text.now table.now.rows.now
-        table.now.n top table.now.standing w out.new result }
+        table.now.n table.now.standing w out.old out.new result }
 {
     match put_begin(table, k, w.nodes, out, w.put)? {
         Start::Closed(put) => Ok(Walk {
@@ -216,7 +216,7 @@ fn one_turn(
 {
     match children::next_child(table, w.row, w.group, w.from) {
         Ok(k) => {
-            let next = enter(table, top, k, w, out)?;
+            let next = enter(table, k, w, out)?;
             Ok(ControlFlow::Continue(next))
         }
         Err(end) => Ok(leave(table, top, w, end, out)),
@@ -298,7 +298,7 @@ pub fn put_tree<'a>(
         text,
         rows,
         n,
-        standing: children::rows_stand(document, text, rows, n),
+        standing: children::rows_stand(rows, n),
         classes: scan::classes(),
     };
     put_from(&table, top, out)

@@ -16,6 +16,7 @@ use Rattle.tables.specs.Table.{Wiped}
 use Rattle.tables.proofs.Tables.{empty_stands, clear_all}
 use Rattle.answers.specs.Text.{Text, text, wrong, Says, Finishes}
 use Rattle.answers.specs.Text as answers
+use Rattle.answers.proofs.Answers as laws
 use Rattle.std.proofs.Common.{Option, Some, None, Result, Ok, Err}
 use Rattle.faults.specs.declared.Fault.{Fault}
 use Rattle.utf16.specs.Decode.{in_bytes}
@@ -57,7 +58,7 @@ module _ (big : Bool) (raw : List ℕ) {out' : List ℕ} {room : ℕ} {r : Resul
             let a = s.says (in_bytes d.is.0) (d.is.2.stands [] (empty_stands 1 out₀)) in
             rw (le-ltb 1048576 (length raw) h, ne_eqb (length raw % 2) 1 e, d.is.1, le-ltb 1048576 (length (in_bytes d.is.0)) (omega (arith, d.is.2.counts))) (rw l at a)
 
-pub ruleset orders = (ordered-long, ordered-odd, ordered-lone, ordered-above, ordered-done, rules)
+pub ruleset orders = (laws.told, laws.finished, ordered-long, ordered-odd, ordered-lone, ordered-above, ordered-done, rules)
 
 -- ---- by the mark
 

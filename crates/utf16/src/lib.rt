@@ -32,8 +32,8 @@ fn joined(a: u8, b: u8) -> u32
     a as u32 * 256 + b as u32
 }
 
-// The unit at a place. Which byte order it is, is a value that a document tells, and the definitions speak of it; as a parameter of the
-// type it would make each function twice.
+// The unit at a place: two cases with a value each, by the byte order. Which byte order it is, is a value that a document tells, and the
+// definitions speak of it; as a parameter of the type it would make each function twice.
 fn unit(raw: &[u8], at: usize, big: bool) -> u32
     requires { at + 1 < length raw.now }
     ensures { IsUnit big raw.now at result }
@@ -147,7 +147,7 @@ fn put_units(
 {
     let mut at = from;
     let mut n = count;
-    // A character moves the place by one unit or two, so no range has it.
+    // A character moves the place by one unit or two, so no range gives it.
     while at + 1 < raw.len() {
         if from + 64 <= at {
             return Ok(Step { next: at, count: n });
@@ -195,7 +195,7 @@ fn put_all(raw: &[u8], big: bool, out: &mut [u8]) -> Result<usize, usize>
 {
     let mut at = 2;
     let mut n = 0;
-    // The next place is what the call found, so no range has it.
+    // The next place is what the call found, so no range gives it.
     while at + 1 < raw.len() {
         let step = put_some(raw, at, big, out, n)?;
         at = step.next;
@@ -211,18 +211,18 @@ fn decode_ordered(raw: &[u8], big: bool, out: &mut [u8]) -> TextAnswer
         out.new result }
 {
     if 1048576 < raw.len() {
-        return answers::refuse(out, 2, 1048576);
+        return answers::refuse(out, Fault::new(2, 1048576));
     }
     if raw.len() % 2 == 1 {
-        return answers::refuse(out, 26, raw.len());
+        return answers::refuse(out, Fault::new(26, raw.len()));
     }
     match put_all(raw, big, out) {
-        Err(at) => answers::refuse(out, 27, at),
+        Err(at) => answers::refuse(out, Fault::new(27, at)),
         Ok(n) => {
             if 1048576 < n {
-                return answers::refuse(out, 2, 1048576);
+                return answers::refuse(out, Fault::new(2, 1048576));
             }
-            answers::finish(out, n, 18, raw.len())
+            answers::finish(out, n, Fault::new(18, raw.len()))
         }
     }
 }

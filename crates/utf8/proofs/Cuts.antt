@@ -15,7 +15,11 @@ use Rattle.utf8.proofs.Texts.{All, joined, Whole, none_whole, whole, formed, who
 abbrev pub Lead : ℕ → Type 0
 Lead b = 0x80 ≤ b → b ≤ 0xbf → ⊥
 
-pub followed_byte : (n : ℕ) (l : List ℕ) (i : ℕ) → Followed n l → i < n → (0x80 ≤ get_or l i 0) × (get_or l i 0 ≤ 0xbf)
+-- one that does
+abbrev pub Next : ℕ → Type 0
+Next b = (0x80 ≤ b) × (b ≤ 0xbf)
+
+pub followed_byte : (n : ℕ) (l : List ℕ) (i : ℕ) → Followed n l → i < n → Next (get_or l i 0)
 followed_byte zero l i f h = absurd (omega arith)
 followed_byte (suc n) [] i f h = absurd f
 followed_byte (suc n) (b ∷ l) zero f h = (f.0, f.1)
@@ -26,7 +30,7 @@ char_lead : (c : List ℕ) → Char c → Lead (get_or c 0 0)
 char_lead [] h = absurd (omega (arith, h.some))
 char_lead (a ∷ c) h = (char_shape a c h).leads.0
 
-pub char_next : (c : List ℕ) (k : ℕ) → Char c → k < length c → (k ≡ 0 → ⊥) → (0x80 ≤ get_or c k 0) × (get_or c k 0 ≤ 0xbf)
+pub char_next : (c : List ℕ) (k : ℕ) → Char c → k < length c → (k ≡ 0 → ⊥) → Next (get_or c k 0)
 char_next [] k h l n = absurd (omega arith)
 char_next (a ∷ c) zero h l n = absurd (n refl)
 char_next (a ∷ c) (suc k) h l n = followed_byte (length c) c k (char_shape a c h).follow (omega arith)

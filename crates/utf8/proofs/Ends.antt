@@ -9,13 +9,16 @@ use mir.Syntax.{w64}
 use mir.Val.{Fits}
 use lib.ListN.{length, take, drop, get_or, length-append, length-drop, take-append-drop}
 use lib.Seq.{take-length, take-add, take-append_seam, drop-append_seam, length-take-le, get_or-take, get_or-drop, take_all}
+use Rattle.std.specs.Prelude.{Option, None, Some}
+use Rattle.std.specs.Option.{unwrap_or}
 use Rattle.slices.specs.Bytes.{if}
 use Rattle.utf8.specs.WellFormed.{sequence, ill_formed}
 use Rattle.utf8.specs.WhiteSpace.{characters, code_point, white_space, trim_end, Trims}
 use Rattle.utf8.specs.Trim.{Boundary, Last, Starts, Ends, white, trailing}
 use Rattle.utf8.proofs.Sequences.{Char, char_first, below}
 use Rattle.utf8.proofs.Texts.{All, joined, joined_append, all_append, Whole, none_whole, whole, formed, whole_append, whole_char, sequence_char, characters_joined}
-use Rattle.utf8.proofs.Cuts.{cut-end, cut_is_lead, char_next}
+use Rattle.utf8.proofs.Cuts.{Lead, Next, cut-end, cut_is_lead, char_next}
+use Rattle.utf8.proofs.Downward.{LastOf}
 use Rattle.utf8.proofs.Trims.{first_char, first_long, white_is, white_is_not}
 
 -- characters that are some: those before the last, and the last
@@ -64,22 +67,15 @@ module _ (s : List ℕ) (end : ℕ) (f c : List ℕ) (b : Boundary s end) (w : W
     ends = rw (dropped, char_first c (drop end s) h) long;
   }
 
--- the way back has come to a place: the last character begins before it
-pub record Backing (s : List ℕ) (end at : ℕ) : Type 0 where
-  pub start : ℕ
-  pub last : Last s end start
-  pub since : start < at
-  pub under : at ≤ end
-
-pub back_begins : {s : List ℕ} {end : ℕ} → Boundary s end → 0 < end → Backing s end end
-back_begins {s} {end} b h =
+-- there is a last character
+some_last : {s : List ℕ} {end : ℕ} → Boundary s end → 0 < end → (r : ℕ) × Last s end r
+some_last {s} {end} b h =
     let w = whole (take end s) b.before in
     let p = snoc w.parts w.all (rw (w.is, length-take-le end s b.inside) h) in
-    let l = last_is s end p.front p.last b p.whole_front p.char (p.is ∙ w.is) in
-    record { start = length p.front; last = l; since = l.below; under = omega arith }
+    (length p.front, last_is s end p.front p.last b p.whole_front p.char (p.is ∙ w.is))
 
 -- the bytes of the last character after its first
-last_next : (s : List ℕ) (end r at : ℕ) → Last s end r → r < at → at < end → (0x80 ≤ get_or s at 0) × (get_or s at 0 ≤ 0xbf)
+last_next : (s : List ℕ) (end r at : ℕ) → Last s end r → r < at → at < end → Next (get_or s at 0)
 last_next s end r at l h k =
     let n = sequence (drop r s) in
     let c = sequence_char (drop r s) n refl (λ z. omega (arith, l.ends, l.below)) in
@@ -88,35 +84,19 @@ last_next s end r at l h k =
     let q = char_next (take n (drop r s)) (at - r) c.0 (rw (length-take-le n (drop r s) c.1) i) (omega arith) in
     rw (get_or-take n (drop r s) (at - r) 0 i, get_or-drop r s (at - r) 0, e) at q
 
-module _ {s : List ℕ} {end at : ℕ} (b : Backing s end at) where
-  -- it begins at the byte before the place if that continues no character, and before it if it does
-  begins_here : (0x80 ≤ get_or s (at - 1) 0 → get_or s (at - 1) 0 ≤ 0xbf → ⊥) → Last s end (at - 1)
-  begins_here h =
-      let e : b.start ≡ at - 1 = below b.start (at - 1) (λ l. let q = last_next s end b.start (at - 1) b.last l (omega (arith, b.since, b.under)) in absurd (h q.0 q.1)) (λ l. omega (arith, b.since)) in
-      rw e at b.last
-
-  pub back_low : get_or s (at - 1) 0 < 0x80 → Last s end (at - 1)
-  back_low l = begins_here (λ p q. omega arith)
-
-  pub back_high : 0xbf < get_or s (at - 1) 0 → Last s end (at - 1)
-  back_high l = begins_here (λ p q. omega arith)
-
-  pub back_first : at ≤ 1 → Last s end 0
-  back_first l =
-      let e : b.start ≡ 0 = omega (arith, b.since) in
-      rw e at b.last
-
-  pub back_more : end ≤ length s → 1 < at → 0x80 ≤ get_or s (at - 1) 0 → get_or s (at - 1) 0 ≤ 0xbf → Backing s end (at - 1)
-  back_more i l p q = record {
-    start = b.start;
-    last = b.last;
-    since = below b.start (at - 1) (λ k. omega arith) (λ k.
-        let e : b.start ≡ at - 1 = omega (arith, b.since) in
-        absurd ((rw e at (cut_is_lead s b.start b.last.cut (omega (arith, b.under)))) p q));
-    under = omega (arith, b.under);
-  }
-
-pub ruleset backs = (back_begins, back_low, back_high, back_first, back_more, rules)
+-- it begins at the last byte before its end that continues no character, or with the text
+pub last_found : {s : List ℕ} {end r : ℕ} (o : Option ℕ) → Boundary s end → 0 < end
+    → LastOf (record { start = 1; end = end }) o (λ i. Lead (get_or s i 0)) (λ i. Next (get_or s i 0)) → r ≡ unwrap_or o 0 → Last s end r
+last_found {s} {end} {r} None b h f e =
+    let l = some_last b h in
+    let z : l.0 ≡ r = below 0 l.0 (λ k. let q = f l.0 (omega (arith, k)) l.1.below in absurd (cut_is_lead s l.0 l.1.cut (omega (arith, l.1.below, b.inside)) q.0 q.1)) (λ k. omega (arith, k, e)) in
+    rw z at l.1
+last_found {s} {end} {r} (Some i) b h f e =
+    let l = some_last b h in
+    let z : l.0 ≡ r =
+    below l.0 i (λ k. let q = last_next s end l.0 i l.1 k f.1 in absurd (f.2 q.0 q.1))
+    (λ k. below i l.0 (λ j. let q = f.3 l.0 j l.1.below in absurd (cut_is_lead s l.0 l.1.cut (omega (arith, l.1.below, b.inside)) q.0 q.1)) (λ j. omega (arith, j, k, e))) in
+    rw z at l.1
 
 -- trimming from the end looks at the last character
 characters_snoc : {x : List ℕ} (c : List ℕ) → Whole x → Char c → characters (x ++ c) ≡ characters x ++ (c ∷ [])

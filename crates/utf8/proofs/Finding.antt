@@ -1,7 +1,7 @@
 -- The search for the first ill-formed sequence: what each way of a turn makes of what is left.
 -- Assumes nothing.
 use Prim.Native.Nat.{ℕ, ◌+◌, ◌-◌, ◌≤◌, ◌<◌, ◌^◌}
-use mathlib.Core.Path.{◌≡◌, ap, sym, ◌∙◌}
+use mathlib.Core.Path.{◌≡◌, sym, ◌∙◌}
 use mathlib.Core.List.{List}
 use borrow.Author.Rules.{rules}
 use native.Mathlib.Nat.{add-zero}
@@ -14,7 +14,7 @@ use Rattle.utf8.specs.WellFormed.{sequence, ill_formed}
 use Rattle.utf8.specs.Ascii.{Ascii}
 use Rattle.utf8.specs.Trim.{Start}
 use Rattle.utf8.proofs.Ascii.{ascii_join}
-use Rattle.utf8.proofs.Texts.{Whole, formed, whole_char, after_whole, sequence_char, sequence_none, ascii_whole}
+use Rattle.utf8.proofs.Texts.{Whole, whole, formed, whole_char, after_whole, sequence_char, sequence_none, ascii_whole}
 
 -- the search has come to a place: what it asks is what is left from there
 pub record Found (s : List ℕ) (at : ℕ) : Type 0 where
@@ -36,8 +36,11 @@ past_ascii s at r a =
     (λ i h. let g : i < r - at = rw k at h in
     rw (get_or-take (r - at) (drop at s) i 0 g, get_or-drop at s i 0) (a.low (at + i) (omega arith) (omega arith)))))
 
-pub found_first : {s : List ℕ} {at r : ℕ} → Ascii s 0 at → Ascii s at r → Found s r
-found_first {s} {at} {r} b a = record { left = past_ascii s 0 r (ascii_join b a) ∙ ap (λ (n : ℕ). n + ill_formed (drop r s)) (omega arith); inside = a.inside }
+pub found_first : {s : List ℕ} {r : ℕ} → Start s r → Found s r
+found_first {s} {r} b =
+    let k : length (take r s) ≡ r = length-take-le r s b.inside in
+    let z : 0 + r ≡ r = omega arith in
+    record { left = rw z at (passes s 0 r (omega (arith, b.inside)) (whole (take r s) (b.is ∙ sym k))); inside = b.inside }
 
 -- bytes below 128 are well_formed
 pub start_ascii : {s : List ℕ} {at r : ℕ} → Ascii s 0 at → Ascii s at r → Start s r

@@ -13,3 +13,4 @@ pub mod Trims
 pub mod Points
 pub mod Ends
 pub mod Between
+pub mod Downward

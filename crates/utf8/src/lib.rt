@@ -21,11 +21,8 @@ fn largest(s: &[u8], from: usize, n: usize) -> u8
     ensures { AtMost s.now from n result }
 {
     let mut m = 0u8;
-    for i in 0..n {
-        let b = s[from + i];
-        if m < b {
-            m = b;
-        }
+    for &b in &s[from..from + n] {
+        m = m.max(b);
     }
     m
 }
@@ -116,8 +113,8 @@ pub fn ascii_start(s: &[u8]) -> usize
 pub fn ill_formed(s: &[u8]) -> usize
     ensures { result ≡ ill_formed s.now }
 {
-    let mut at = ascii_run(s, blocks(s, 0, 128));
-    // The next place is what the call found, so no range has it.
+    let mut at = ascii_start(s);
+    // The next place is what the call found, so no range gives it.
     while at < s.len() {
         let n = sequence(s, at);
         if n == 0 {
@@ -216,7 +213,7 @@ fn trim_start(s: &[u8]) -> usize
     ensures { Starts s.now result }
 {
     let mut at = 0;
-    // The next place is what the call found, so no range has it.
+    // The next place is what the call found, so no range gives it.
     while at < s.len() {
         let n = white(s, at);
         if n == 0 {
@@ -228,19 +225,15 @@ fn trim_start(s: &[u8]) -> usize
 }
 
 // The start of the character that ends at a place.
-#[tactic(auto, using(crate::proofs::Ends::backs))]
 fn back(s: &[u8], end: usize) -> usize
     requires boundary { Boundary s.now end }
     requires end_nonzero { 0 < end }
     ensures { Last s.now end result }
 {
-    for at in (1..end).rev() {
-        // By comparisons: after `matches!` a proof has no lasting name for the side of the range that a byte is on.
-        if s[at] < 0x80 || 0xbf < s[at] {
-            return at;
-        }
-    }
-    0
+    (1..end)
+        .rev()
+        .find(|&at| !matches!(s[at], 0x80..=0xbf))
+        .unwrap_or(0)
 }
 
 // The end of the last character that is not White_Space, or 0: the text ends there in either case.
@@ -250,7 +243,7 @@ fn trim_end(s: &[u8]) -> usize
     ensures { Ends s.now result }
 {
     let mut end = s.len();
-    // The next place is what the call found, so no range has it.
+    // The next place is what the call found, so no range gives it.
     while 0 < end {
         let at = back(s, end);
         if white(s, at) == 0 {
@@ -268,8 +261,5 @@ pub fn trim(s: &[u8]) -> Trimmed
 {
     let start = trim_start(s);
     let end = start + trim_end(&s[start..]);
-    Trimmed {
-        start: start,
-        end: end,
-    }
+    Trimmed { start, end }
 }

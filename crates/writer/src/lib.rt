@@ -41,17 +41,7 @@ impl<'a> Writer<'a> {
     }
 }
 
-// Puts bytes as they are. This contract and the next say nothing of a writer.
-pub fn put_text(out: &mut [u8], n: usize, s: &[u8]) -> usize
-    requires { n + length s.now < 2 ^ 62 }
-    ensures { Puts s.now n out.old out.new result }
-{
-    let mut w = Writer::new(out, n);
-    w.put(s);
-    w.len
-}
-
-// Puts bytes as they are, then the escaped bytes of a value.
+// Puts bytes as they are, then the escaped bytes of a value. The contract says nothing of a writer.
 pub fn put_value(
     out: &mut [u8],
     n: usize,

@@ -17,6 +17,7 @@ use Rattle.faults.specs.declared.Fault.{Fault}
 use Rattle.slices.specs.Bytes.{if, bytes}
 use Rattle.tables.proofs.Tables.{empty_stands}
 use Rattle.answers.specs.Text.{wrong, Says, Finishes}
+use Rattle.answers.proofs.Answers.{told, finished}
 use Rattle.answers.proofs.Putting.{puts_as}
 use Rattle.document.specs.Elements.{among}
 use Rattle.soundness.specs.Outcome.{Admits}
@@ -169,7 +170,7 @@ module _ {d x ws t t' : List ℕ} {n i : ℕ} {r : Result ℕ Fault} where
       let k : m ≡ length (written c) = q.puts.counts ∙ omega arith in
       record { says = subst (λ o. Says (item_written i (length t) o) (length t) t' r) (sym q.is) (rw (l, k) at s) }
 
-pub ruleset rows = (zero_room, writable_true, admitted_document, admitted_text, admitted_scans, admitted_few, admitted_held, no_row, no_kind, row_written, rules)
+pub ruleset rows = (told, finished, zero_room, writable_true, admitted_document, admitted_text, admitted_scans, admitted_few, admitted_held, no_row, no_kind, row_written, rules)
 
 -- the answers
 module _ {d x ws t' : List ℕ} {n i room : ℕ} {r : Result ℕ Fault} {z : Result (Unit {0}) Fault} (g : Admits d x ws n z) where

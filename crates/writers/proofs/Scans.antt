@@ -15,7 +15,7 @@ use Rattle.std.specs.Option.{unwrap_or}
 use Rattle.std.specs.List.{AllWithin, HoldsAt, range_with_len}
 use Rattle.std.proofs.lemmas.List.FromFn.{length-range_with_len, get_or-range_with_len}
 use Rattle.slices.specs.Bytes.{if}
-use Rattle.items.specs.Words.{Word, row_of, word_at}
+use Rattle.items.specs.Words.{row_of, word_at}
 use Rattle.items.specs.Order.{InOrder}
 use Rattle.writers.specs.Rows.{words_in, any_child, Child, SomeChild, NextChild, ChildOf, Last}
 
@@ -59,9 +59,6 @@ module _ (ws : List ℕ) (kind p : ℕ) where
       record {
         is = sym (any_none m from (λ k a b. subst (λ j. Child ws kind p j false) {x = get_or (range_with_len from m) (k - from) 0} {y = k} (omega (arith, get_or-range_with_len from m (k - from) 0 (omega arith))) (h (k - from) 0 (omega arith) (omega (arith, length-range_with_len from m)))));
       }
-
-pub word_is : {ws : List ℕ} {i k v : ℕ} → Word ws i k v → v ≡ word_at ws i k
-word_is w = w.is
 
 -- the next child, or the end
 pub next_child_is : {ws : List ℕ} {p from to r : ℕ} (o : Maybe ℕ) → from ≤ to

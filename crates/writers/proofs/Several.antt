@@ -204,28 +204,28 @@ module _ {ws is : List ℕ} {n : ℕ} {r : prelude.Option ℕ} (g : Missing ws n
   none_missing : (d x : List ℕ) → first_missing (content_at d x ws n) is ≡ none
   none_missing d x = missing_none (content_at d x ws n) is (λ j l. there_is d x ws n (get_or is j 0) ∙ all_items j l)
 
-module _ {d x ws is : List ℕ} {n slots : ℕ} {r : prelude.Option ℕ} (g : Missing ws n is r) where
-  pub vet_missing : {i : ℕ} → r ≡ Some i → VetsItems d x ws n is slots (Err (fault 20 i))
+module _ {ws is : List ℕ} {n slots : ℕ} {r : prelude.Option ℕ} (g : Missing ws n is r) where
+  pub vet_missing : {i : ℕ} → r ≡ Some i → VetsItems ws n is slots (Err (fault 20 i))
   vet_missing {i} e =
       let f : Missing ws n is (Some i) = rw e at g in
       let k = f.found.0 in
-      let there_not : there (content_at d x ws n (get_or is k 0)) ≡ false = there_is d x ws n (get_or is k 0) ∙ rw (← f.found.2) f.found.4 in
+      let is_none : is_item ws n (get_or is k 0) ≡ false = rw (← f.found.2) f.found.4 in
       record {
-        says = λ room.
-            rw (f.found.2, missing_some (content_at d x ws n) is k f.found.1 (λ j l. there_is d x ws n (get_or is j 0) ∙ f.found.3 j l) there_not);
+        says = λ d x room.
+            rw (f.found.2, missing_some (content_at d x ws n) is k f.found.1 (λ j l. there_is d x ws n (get_or is j 0) ∙ f.found.3 j l) (there_is d x ws n (get_or is k 0) ∙ is_none));
         fine = λ e. absurd (cc);
       }
 
   module _ (e : r ≡ None) where
-    pub vet_few : slots < length is → VetsItems d x ws n is slots (Err (fault 18 (length is)))
+    pub vet_few : slots < length is → VetsItems ws n is slots (Err (fault 18 (length is)))
     vet_few l = record {
-      says = λ room. rw (none_missing g e d x, lt-ltb slots (length is) l);
+      says = λ d x room. rw (none_missing g e d x, lt-ltb slots (length is) l);
       fine = λ e. absurd (cc);
     }
 
-    pub vet_fine : length is ≤ slots → VetsItems d x ws n is slots (Ok tt)
+    pub vet_fine : length is ≤ slots → VetsItems ws n is slots (Ok tt)
     vet_fine l = record {
-      says = λ room. rw (none_missing g e d x, le-ltb slots (length is) l);
+      says = λ d x room. rw (none_missing g e d x, le-ltb slots (length is) l);
       fine = λ f. record { items = all_items g e; room = l };
     }
 
@@ -240,10 +240,10 @@ module _ {d x ws is : List ℕ} {n slots : ℕ} {z : Result (Unit {0}) Fault} (g
     fine = λ e. absurd (cc);
   }
 
-  pub vet_sound : {u : Unit {0}} {r : Result (Unit {0}) Fault} → z ≡ Ok u → VetsItems d x ws n is slots r → Vets d x ws n is slots r
+  pub vet_sound : {u : Unit {0}} {r : Result (Unit {0}) Fault} → z ≡ Ok u → VetsItems ws n is slots r → Vets d x ws n is slots r
   unfolding several_writing
   vet_sound e v = record {
-    says = λ room. admitted_as g wrong (λ v. checked v (items_written (content_at d x ws n) is room slots)) e ∙ v.says room;
+    says = λ room. admitted_as g wrong (λ v. checked v (items_written (content_at d x ws n) is room slots)) e ∙ v.says d x room;
     admitted = λ f. admits g e;
     fine = v.fine;
   }

@@ -52,9 +52,9 @@ abbrev pub fault_of : Result (Unit {0}) Fault → Text → Text
 fault_of (Err x) t = wrong x.number x.place
 fault_of (Ok u) t = t
 
--- what is wrong with the rows asked for; with the rows too
-pub record VetsItems (d x ws : List ℕ) (n : ℕ) (is : List ℕ) (slots : ℕ) (r : Result (Unit {0}) Fault) : Type 0 where
-  pub says : (room : ℕ) → items_written (content_at d x ws n) is room slots ≡ fault_of r (fitted room (concat (texts_of (content_at d x ws n) is)))
+-- what is wrong with the rows asked for, whatever document and text they point into; with the rows too
+pub record VetsItems (ws : List ℕ) (n : ℕ) (is : List ℕ) (slots : ℕ) (r : Result (Unit {0}) Fault) : Type 0 where
+  pub says : (d x : List ℕ) (room : ℕ) → items_written (content_at d x ws n) is room slots ≡ fault_of r (fitted room (concat (texts_of (content_at d x ws n) is)))
   pub fine : r ≡ Ok tt → Fit ws n is slots
 
 pub record Vets (d x ws : List ℕ) (n : ℕ) (is : List ℕ) (slots : ℕ) (r : Result (Unit {0}) Fault) : Type 0 where

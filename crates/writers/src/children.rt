@@ -100,7 +100,7 @@ pub fn last_child(rows: &[u32], n: usize, j: usize, p: usize, ordered: bool) -> 
 }
 
 // The first row after row i whose parent is not after row i, or n: where what stands in row i ends, in document order.
-// Not an Option: a range of rows ends at n too.
+// Not an Option: a range of rows ends at n too. Not one with `next_child`: the tests differ, and each has its clause.
 fn run_end(rows: &[u32], n: usize, i: usize) -> usize
     requires rows { Held rows.now n }
     requires within { i < n }

@@ -15,6 +15,7 @@ ghost use Rattle.writers.specs.Entry.{Admitted, WritesSound};
 ghost use Rattle.writers.specs.Several.{IsItem, At, Asks, RowPut, Missing, Fit, VetsItems, Vets, SeveralPut, Fits, FinishesItems, WritesFit, Clears};
 
 use answers::TextAnswer;
+use answers::put::put_bytes;
 use document::kinds;
 use faults::Fault;
 use scan::ClassTable;
@@ -66,7 +67,7 @@ fn put_annotation(source: &Source, i: usize, out: &mut [u8], n: usize) -> usize
 {
     let named = put_shown(source, i, 2, b"<annotation name=\"", out, n);
     let valued = put_shown(source, i, 5, b"\" value=\"", out, named);
-    writer::put_text(out, valued, b"\"/>")
+    put_bytes(out, valued, b"\"/>")
 }
 
 // Row i as an annotation, if it is one of row p less one.
@@ -114,7 +115,7 @@ fn put_arg_name(source: &Source, i: usize, out: &mut [u8], n: usize) -> usize
         return n;
     }
     let named = put_shown(source, i, 2, b" name=\"", out, n);
-    writer::put_text(out, named, b"\"")
+    put_bytes(out, named, b"\"")
 }
 
 // The type of the arg in row i.
@@ -125,10 +126,11 @@ fn put_arg_type(source: &Source, i: usize, out: &mut [u8], n: usize) -> usize
         out.old out.new result }
 {
     let typed = put_shown(source, i, 5, b" type=\"", out, n);
-    writer::put_text(out, typed, b"\"")
+    put_bytes(out, typed, b"\"")
 }
 
-// The direction of the arg in row i, if it has one.
+// The direction of the arg in row i, if it has one. The three attributes of an arg are three functions, and trees has its own: what would be shared
+// is a test and a call, which each use would bring as clauses.
 fn put_direction(rows: &[u32], i: usize, out: &mut [u8], n: usize) -> usize
     requires few { i < 262144 }
     requires held { i * 16 + 16 ≤ length rows.now }
@@ -138,8 +140,8 @@ fn put_direction(rows: &[u32], i: usize, out: &mut [u8], n: usize) -> usize
     let direction = items::word(rows, i, 14);
     match direction {
         0 => n,
-        1 => writer::put_text(out, n, b" direction=\"in\""),
-        _ => writer::put_text(out, n, b" direction=\"out\""),
+        1 => put_bytes(out, n, b" direction=\"in\""),
+        _ => put_bytes(out, n, b" direction=\"out\""),
     }
 }
 
@@ -150,7 +152,7 @@ fn put_arg_tag(source: &Source, i: usize, out: &mut [u8], n: usize) -> usize
     ensures { ArgTagPut source.now.document.now source.now.text.now source.now.rows.now i n out.old
         out.new result }
 {
-    let tagged = writer::put_text(out, n, b"<arg");
+    let tagged = put_bytes(out, n, b"<arg");
     let named = put_arg_name(source, i, out, tagged);
     let typed = put_arg_type(source, i, out, named);
     put_direction(source.rows, i, out, typed)
@@ -166,11 +168,11 @@ fn put_arg(source: &Source, i: usize, to: usize, out: &mut [u8], n: usize) -> us
     let tagged = put_arg_tag(source, i, out, n);
     let p = i + 1;
     if children::has_child(source.rows, p, to, kinds::ANNOTATION, p) {
-        let opened = writer::put_text(out, tagged, b">");
+        let opened = put_bytes(out, tagged, b">");
         let noted = put_annotations(source, p, p, to, out, opened);
-        return writer::put_text(out, noted, b"</arg>");
+        return put_bytes(out, noted, b"</arg>");
     }
-    writer::put_text(out, tagged, b"/>")
+    put_bytes(out, tagged, b"/>")
 }
 
 // Row i as an arg, if it is one of row p less one.
@@ -246,8 +248,8 @@ fn put_member_end(kind: u32, out: &mut [u8], n: usize) -> usize
     ensures { MemberEndPut kind n out.old out.new result }
 {
     match kind {
-        kinds::METHOD => writer::put_text(out, n, b"</method>"),
-        _ => writer::put_text(out, n, b"</signal>"),
+        kinds::METHOD => put_bytes(out, n, b"</method>"),
+        _ => put_bytes(out, n, b"</signal>"),
     }
 }
 
@@ -273,11 +275,11 @@ fn put_member(source: &Source, count: usize, i: usize, kind: u32, out: &mut [u8]
 {
     let tagged = put_member_tag(source, i, kind, out, n);
     if children::has_children(source.rows, i + 1, count) {
-        let opened = writer::put_text(out, tagged, b"\">");
+        let opened = put_bytes(out, tagged, b"\">");
         let inside = put_children(source, count, i, out, opened);
         return put_member_end(kind, out, inside);
     }
-    writer::put_text(out, tagged, b"\"/>")
+    put_bytes(out, tagged, b"\"/>")
 }
 
 // Whether rows of a kind are written.
@@ -321,7 +323,7 @@ fn write_sound<'a>(
         out.old out.new result }
 {
     if claimed <= row {
-        return answers::refuse(out, 20, row);
+        return answers::refuse(out, Fault::new(20, row));
     }
     let kind = items::word(rows, row, 0);
     if is_writable(kind) {
@@ -333,14 +335,14 @@ fn write_sound<'a>(
             classes: &classes,
         };
         let n = put_item(&source, claimed, row, kind, out, 0);
-        return answers::finish(out, n, 21, n);
+        return answers::finish(out, n, Fault::new(21, n));
     }
-    answers::refuse(out, 20, row)
+    answers::refuse(out, Fault::new(20, row))
 }
 
 // Writes a method, a signal, an annotation or an arg. Refused with 2 for a document or a text of more than 1,048,576 bytes,
 // with 19 for rows that are not sound, with 20 for no such row or one of another kind, and with 21 and the bytes needed where
-// there is no room.
+// there is no room. Beside `trees::write_tree`: what is shared is a match of two lines.
 pub fn write<'a>(
     document: &'a [u8],
     text: &'a [u8],
@@ -353,7 +355,7 @@ pub fn write<'a>(
         (length out.old) out.new result }
 {
     match soundness::admit(document, text, rows, claimed) {
-        Err(fault) => answers::refuse(out, fault.number, fault.place),
+        Err(fault) => answers::refuse(out, fault),
         Ok(()) => write_sound(document, text, rows, claimed, row, out),
     }
 }
@@ -388,28 +390,15 @@ fn first_missing(rows: &[u32], n: usize, asked: &[u32]) -> Option<usize>
 
 // Of sound rows: 20 at the first row that is no item, 18 at how many are asked for where there are fewer words for their ends.
 #[tactic(auto, using(crate::proofs::Several::vetting))]
-fn vet_items<'a>(
-    document: &'a [u8],
-    text: &'a [u8],
-    rows: &[u32],
-    n: usize,
-    asked: &[u32],
-    slots: usize,
-) -> Result<(), Fault>
+fn vet_items(rows: &[u32], n: usize, asked: &[u32], slots: usize) -> Result<(), Fault>
     requires { Held rows.now n }
-    ensures { VetsItems document.now text.now rows.now n asked.now slots result }
+    ensures { VetsItems rows.now n asked.now slots result }
 {
     if let Some(row) = first_missing(rows, n, asked) {
-        return Err(Fault {
-            number: 20,
-            place: row,
-        });
+        return Err(Fault::new(20, row));
     }
     if slots < asked.len() {
-        return Err(Fault {
-            number: 18,
-            place: asked.len(),
-        });
+        return Err(Fault::new(18, asked.len()));
     }
     Ok(())
 }
@@ -427,7 +416,7 @@ fn vet<'a>(
         slots result }
 {
     soundness::admit(document, text, rows, claimed)?;
-    vet_items(document, text, rows, claimed, asked, slots)
+    vet_items(rows, claimed, asked, slots)
 }
 
 // The item of the k-th row asked for; in document order only the rows of its own run are looked at.
@@ -488,7 +477,7 @@ fn refuse_items(out: &mut [u8], ends: &mut [u32], fault: Fault) -> TextAnswer
         ends.new result }
 {
     tables::clear_words(ends, 0);
-    answers::refuse(out, fault.number, fault.place)
+    answers::refuse(out, fault)
 }
 
 // Whether n bytes have room, and a word counts them.
@@ -503,14 +492,7 @@ fn finish_items(out: &mut [u8], ends: &mut [u32], n: usize, count: usize) -> Tex
     ensures { FinishesItems count n out.old ends.old out.new ends.new result }
 {
     if !fits(n, out.len()) {
-        return refuse_items(
-            out,
-            ends,
-            Fault {
-                number: 21,
-                place: n,
-            },
-        );
+        return refuse_items(out, ends, Fault::new(21, n));
     }
     tables::clear_words(ends, count);
     tables::clear_bytes(out, n);

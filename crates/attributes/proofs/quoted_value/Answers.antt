@@ -1,10 +1,8 @@
--- `attributes::quoted_value` meets its contract.
+-- What `attributes::quoted_value` leaves to show.
 -- Assumes nothing.
-use Rattle.attributes.proofs.Found.{values}
+use native.Mathlib.Omega.{arith}
+use Rattle.attributes.proofs.Found.{value_found}
 use Rattle.attributes.proofs.quoted_value.Goals as goal
 
-pub returns-then-doc-end : goal.returns-then-doc-end
-returns-then-doc-end c = search values
-
 pub returns-then-is_quote : goal.returns-then-is_quote
-returns-then-is_quote c = search values
+returns-then-is_quote c = value_found c.requires (omega arith) c.is_quote.ensures c.if-is_quote.true (c.in_ok-v.ensures {u = tt}).some

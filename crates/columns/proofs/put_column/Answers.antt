@@ -1,6 +1,6 @@
 -- What `columns::put_column` leaves to show. Its loop is in Invariants.antt.
 -- Assumes nothing.
-use Rattle.std.proofs.Common.{arith}
+use Rattle.std.proofs.Common.{refl, arith}
 use Rattle.columns.proofs.Putting.{column-more, column_ends, putting}
 use Rattle.columns.proofs.put_column.Goals as goal
 
@@ -14,8 +14,7 @@ loop-r-preserved c =
     (search putting)
     (λ i. omega (arith, c.type_inv.rows i))
     _
-    (omega arith)
-    c.wrapping_sub_u32-less.ensures.value
+    refl
 
 pub returns : goal.returns
 returns c = column_ends c.loop-r.invariant (omega arith)

@@ -1,6 +1,6 @@
 -- What `columns::put_words` leaves to show. Its loop is in Invariants.antt.
 -- Assumes nothing.
-use Rattle.std.proofs.Common.{arith}
+use Rattle.std.proofs.Common.{refl, arith}
 use Rattle.columns.proofs.Putting.{words_more, words_end, putting}
 use Rattle.columns.proofs.put_words.Goals as goal
 
@@ -14,7 +14,7 @@ loop-r-preserved c =
     (search putting)
     (λ i. omega (arith, c.type_inv.columns i))
     _
-    c.wrapping_add_u32-above.ensures.value
+    refl
 
 pub returns : goal.returns
 returns c = words_end c.loop-r.invariant (omega arith)

@@ -3,13 +3,13 @@
 use Rattle.std.proofs.lemmas.Result.{err_from_is_err_and}
 use Rattle.slices.specs.Bytes.{bytes}
 use Rattle.names.specs.Names.{interface_name}
-use Rattle.elements.proofs.Rows.{interface_kind, named_refused, named_done}
+use Rattle.elements.proofs.Rows.{interface_kind, step_refused, named_start, named_done}
 use Rattle.elements.proofs.interface_row.Goals as goal
 
 pub returns-in_err-demand_good : goal.returns-in_err-demand_good
 returns-in_err-demand_good c =
     let p = err_from_is_err_and c.from_residual.result c.from_residual.ensures.1 in
-    rw (p.1, p.2) (named_refused c.requires.ready interface_kind (rw (c.in_err-demand_good.was {u = tt}) at (c.demand_good.ensures interface_name (bytes "name") (λ r i. i.1) (λ t z. z.values.name))))
+    rw (p.1, p.2) (step_refused (named_start interface_kind) c.requires.ready (rw (c.in_err-demand_good.was {u = tt}) at (c.demand_good.ensures interface_name (bytes "name") (λ r i. i.1) (λ t z. z.values.name))))
 
 pub returns : goal.returns
 returns c = named_done c.requires.ready interface_kind (rw (c.in_ok-demand_good.was {u = tt}) at (c.demand_good.ensures interface_name (bytes "name") (λ r i. i.1) (λ t z. z.values.name))) c.new-head.ensures c.put_row.ensures

@@ -13,9 +13,6 @@ complete-returns-then-b-eq40 t c = search types
 pub complete-returns-then-b-ne97 : goal.complete-returns-then-b-ne97
 complete-returns-then-b-ne97 t c = search types
 
-pub complete-returns-then-arrays-ge32 : goal.complete-returns-then-arrays-ge32
-complete-returns-then-arrays-ge32 t c = search types
-
 pub complete-returns : goal.complete-returns
 complete-returns t c = search types
 

@@ -6,8 +6,8 @@ use Rattle.order.proofs.conclude.Goals as goal
 pub returns-then-count_definitions-count : goal.returns-then-count_definitions-count
 returns-then-count_definitions-count c = search concluding
 
-pub first_on_circle-requires-clause-clear : goal.first_on_circle-requires-clause-clear
-first_on_circle-requires-clause-clear c = search concluding
+pub first_on_circle-requires : goal.first_on_circle-requires
+first_on_circle-requires c = search concluding
 
 pub returns-in-Some : goal.returns-in-Some
 returns-in-Some c = search concluding

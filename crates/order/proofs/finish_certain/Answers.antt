@@ -1,10 +1,7 @@
 -- `order::finish_certain` meets its contract.
 -- Assumes nothing.
-use Rattle.order.proofs.Deciding.{certain_finish}
+use Rattle.order.proofs.Deciding.{certain_leaves}
 use Rattle.order.proofs.finish_certain.Goals as goal
 
-pub returns-then-out-count : goal.returns-then-out-count
-returns-then-out-count c = search certain_finish
-
-pub returns-else-out-count : goal.returns-else-out-count
-returns-else-out-count c = search certain_finish
+pub returns-in-Some : goal.returns-in-Some
+returns-in-Some c = certain_leaves c.requires.counted c.requires.certain c.in-Some.is c.leave.ensures

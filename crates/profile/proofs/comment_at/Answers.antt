@@ -1,10 +1,7 @@
--- `profile::comment_at` meets its contract.
+-- What `profile::comment_at` leaves to show.
 -- Assumes nothing.
-use Rattle.profile.proofs.Afters.{closes}
+use Rattle.profile.proofs.Afters.{comment_breach}
 use Rattle.profile.proofs.comment_at.Goals as goal
 
-pub returns-then-fault-close : goal.returns-then-fault-close
-returns-then-fault-close c = search closes
-
-pub returns-in-Err : goal.returns-in-Err
-returns-in-Err c = search closes
+pub returns-in-Some : goal.returns-in-Some
+returns-in-Some c = comment_breach c.args.s.now c.args.at c.end_of.ensures (c.in_ok-end.was {u = tt}) c.comment_fault.ensures c.in-Some.is c.new.ensures

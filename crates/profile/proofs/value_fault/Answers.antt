@@ -13,4 +13,3 @@ returns c =
     (first_from_Range _ _ _ c.find.result (λ i. raw (drop i c.args.s.now) ≡ true) (λ i. raw (drop i c.args.s.now) ≡ false) c.find.ensures.ran
     (λ k q e. search rules)
     (λ k q e. search rules))
-    c.unwrap_or.ensures

@@ -8,7 +8,7 @@ pub returns-then-names-eq512 : goal.returns-then-names-eq512
 returns-then-names-eq512 g c = going_full c.loop-name.invariant _ c.in-Some.ensures.some (search rules)
 
 pub loop-name-preserved : goal.loop-name-preserved
-loop-name-preserved g c = going_more c.loop-name.invariant _ c.in-Some.ensures.some (search rules) (search (c.add_name.array_long, rules)) c.add_name.ensures
+loop-name-preserved g c = going_more c.loop-name.invariant _ c.in-Some.ensures.some (search rules) c.add_name.ensures
 
 pub returns : goal.returns
 returns g c = going_ends c.loop-name.invariant (c.in_default.ensures {u = tt}).none

@@ -7,4 +7,4 @@ use Rattle.sheets.proofs.count_firsts.Given as goal
 
 abbrev pub invariant-loop-record : goal.invariant-loop-record
 invariant-loop-record l =
-    Counting l.base l.width l.n l.words l.initial.counts l.counts (take_count l.record-iterator) (chunks_size (take_source l.record-iterator)) (chunks_rest (take_source l.record-iterator))
+    Counting l.width l.n l.words l.initial.table l.table (take_count l.record-iterator) (chunks_size (take_source l.record-iterator)) (chunks_rest (take_source l.record-iterator))

@@ -5,4 +5,4 @@ use Rattle.shown.proofs.Tests.{changed_is}
 use Rattle.shown.proofs.changed.Goals as goal
 
 pub returns : goal.returns
-returns c = changed_is c.raw.ensures c.put_shown.ensures c.requires.room (search rules) c.min.ensures
+returns c = changed_is c.raw.ensures c.put_shown.ensures (search rules) (search rules) c.min.ensures

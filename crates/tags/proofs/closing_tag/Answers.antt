@@ -9,8 +9,5 @@ returns-then-named-at c = search closings
 pub returns-then-doc-end : goal.returns-then-doc-end
 returns-then-doc-end c = search closings
 
-pub returns-then-doc-end-ne62 : goal.returns-then-doc-end-ne62
-returns-then-doc-end-ne62 c = search closings
-
 pub returns : goal.returns
 returns c = search closings

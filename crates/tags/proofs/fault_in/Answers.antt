@@ -3,5 +3,5 @@
 use Rattle.tags.proofs.Faults.{faults}
 use Rattle.tags.proofs.fault_in.Goals as goal
 
-pub returns-then-number-eq8 : goal.returns-then-number-eq8
-returns-then-number-eq8 c = search faults
+pub returns-in-8 : goal.returns-in-8
+returns-in-8 c = search faults

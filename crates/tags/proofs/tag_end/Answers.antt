@@ -14,9 +14,3 @@ returns-then-doc-at c = search ends
 
 pub returns-then-doc-at-ne47 : goal.returns-then-doc-at-ne47
 returns-then-doc-at-ne47 c = search ends
-
-pub returns-then-doc-next : goal.returns-then-doc-next
-returns-then-doc-next c = search ends
-
-pub returns-then-doc-next-ne62 : goal.returns-then-doc-next-ne62
-returns-then-doc-next-ne62 c = search ends

@@ -10,4 +10,4 @@ returns-in_err-fill-clause-is c =
     rw (p.1, p.2) (noted_fault c.part.ensures.is (c.in_err-fill.was {u = tt}))
 
 pub returns-clause-is : goal.returns-clause-is
-returns-clause-is c = noted_done c.part.ensures.is c.one_more-q.ensures (c.in_ok-fill.was {u = tt})
+returns-clause-is c = noted_done c.part.ensures.is c.requires.few c.one_more-q.ensures (c.in_ok-fill.was {u = tt})

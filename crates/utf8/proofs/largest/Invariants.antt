@@ -3,5 +3,5 @@
 use Rattle.utf8.specs.Ascii.{AtMost}
 use Rattle.utf8.proofs.largest.Given as goal
 
-abbrev pub invariant-loop-i : goal.invariant-loop-i
-invariant-loop-i l = AtMost l.s l.from l.i l.m
+abbrev pub invariant-loop-b : goal.invariant-loop-b
+invariant-loop-b l = AtMost l.s l.from l.b-index l.m

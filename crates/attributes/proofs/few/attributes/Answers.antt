@@ -8,4 +8,4 @@ pub returns-in_default : goal.returns-in_default
 returns-in_default c = slots_end c.loop-s.invariant (c.in_default.ensures {u = tt}).none
 
 pub loop-s-preserved : goal.loop-s-preserved
-loop-s-preserved c = search (slots_more c.loop-s.invariant (c.in-Some.ensures {u = tt}).some c.plain_end-end.ensures c.if-doc-end.false, rules)
+loop-s-preserved c = search (slots_more c.loop-s.invariant (c.in-Some.ensures {u = tt}).some (c.in-Some-plain_end.ensures {u = tt}), rules)

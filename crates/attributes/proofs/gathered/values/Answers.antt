@@ -5,7 +5,7 @@ use Rattle.attributes.proofs.gathered.values.Goals as goal
 
 pub returns : goal.returns
 returns c =
-    all_values c.requires.key_table
+    all_values
     c.first_named.ensures
     c.first_named-2.ensures
     c.first_named-3.ensures

@@ -9,10 +9,10 @@ use Rattle.order.proofs.certificate.are_placed.Goals as goal
 
 pub returns : goal.returns
 returns c =
-    placed_all c.args.table.now.document.now c.args.table.now.text.now c.args.table.now.rows.now c.args.work.now c.args.out.now c.args.table.now.n c.args.count c.all.result
+    placed_all c.args.table.now.document.now c.args.table.now.text.now c.args.table.now.rows.now c.args.work.now c.args.out.now c.args.table.now.n c.all.result
     (cases_from_all _ _ c.all.result
-    (λ k. IsPlaced (shown_rows c.args.table.now) c.args.table.now.n c.args.work.now c.args.out.now c.args.count k true)
-    (λ k. IsPlaced (shown_rows c.args.table.now) c.args.table.now.n c.args.work.now c.args.out.now c.args.count k false)
+    (λ k. IsPlaced (shown_rows c.args.table.now) c.args.table.now.n c.args.work.now c.args.out.now k true)
+    (λ k. IsPlaced (shown_rows c.args.table.now) c.args.table.now.n c.args.work.now c.args.out.now k false)
     c.all.ensures.ran
     (YieldsList-from_range 0 c.args.table.now.n c.args.table.now.n refl (omega arith))
     (λ k q e. search rules)

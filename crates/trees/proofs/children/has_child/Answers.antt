@@ -3,7 +3,8 @@
 use Rattle.std.proofs.Common.{◌≡◌, ◌+◌, refl, arith, rules, tests}
 use Rattle.std.proofs.lemmas.Iterator.{cases_from_any, YieldsList-from_range}
 use Rattle.items.specs.Words.{word_at}
-use Rattle.trees.proofs.Standing.{have_any, word_is}
+use Rattle.items.proofs.Words.{word_is}
+use Rattle.trees.proofs.Standing.{have_any}
 use Rattle.trees.proofs.children.has_child.Goals as goal
 
 pub returns : goal.returns

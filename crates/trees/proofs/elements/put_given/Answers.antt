@@ -3,8 +3,8 @@
 use Rattle.trees.proofs.Texts.{givens}
 use Rattle.trees.proofs.elements.put_given.Goals as goal
 
-pub put_text-requires : goal.put_text-requires
-put_text-requires c = search givens
+pub put_bytes-requires : goal.put_bytes-requires
+put_bytes-requires c = search givens
 
 pub returns : goal.returns
 returns c = search givens

@@ -7,4 +7,4 @@ use Rattle.trees.proofs.walk.enter.Goals as goal
 pub returns-in_err-put : goal.returns-in_err-put
 returns-in_err-put c =
     let p = err_from_is_err_and c.from_residual.result c.from_residual.ensures.1 in
-    rw (p.1, p.2) (enter_deep c.requires.walking c.requires.child c.in_err-put.ensures)
+    rw (p.1, p.2) (enter_deep c.requires.child c.in_err-put.ensures)

@@ -3,7 +3,8 @@
 use Rattle.std.proofs.Common.{◌≡◌, arith, rules, tests}
 use Rattle.std.proofs.lemmas.Iterator.{first_from_Range}
 use Rattle.items.specs.Words.{word_at}
-use Rattle.writers.proofs.Scans.{word_is, next_child_is}
+use Rattle.items.proofs.Words.{word_is}
+use Rattle.writers.proofs.Scans.{next_child_is}
 use Rattle.writers.proofs.children.next_child.Goals as goal
 
 pub returns : goal.returns

@@ -4,7 +4,7 @@ use Rattle.std.proofs.Common.{◌≤◌, arith, rules, tests}
 use Rattle.std.specs.Prelude.{⊤}
 use Rattle.std.proofs.lemmas.Iterator.{first_from_Range}
 use Rattle.items.specs.Words.{word_at}
-use Rattle.writers.proofs.Scans.{word_is}
+use Rattle.items.proofs.Words.{word_is}
 use Rattle.writers.proofs.Several.{run_end_is}
 use Rattle.writers.proofs.children.run_end.Goals as goal
 
