@@ -1,8 +1,7 @@
 /*
  * A proved reader and writers of D-Bus introspection XML.
  *
- * Link target/staticlib/libintrospection.a, which `rt staticlib introspection` makes (x86-64 Linux). It needs no library
- * but C's. What is read, and every number and place, is in docs/FORMAT.md; this is what a caller needs of it.
+ * Link target/staticlib/libintrospection.a, which `./build library` makes (x86-64 Linux). It needs no library but C's. What is read, and every number and place, is in docs/FORMAT.md; this is what a caller needs of it.
  *
  * Memory. Every buffer is the caller's. A function uses it during the call alone, keeps no pointer, allocates nothing
  * and calls nothing of the program. A buffer is a pointer and a length in elements: bytes for uint8_t, 32-bit words for
@@ -216,8 +215,7 @@ void introspection_read(const uint8_t *document, size_t document_length, uint32_
  * warnings and text of introspection_read.
  *
  * answer: enum introspection_answer. Refusals: those of introspection_read, 18 too, then 29; after it rows, warnings and text
- * are zeros, and what was decoded from UTF-16 stands. On real files it takes about 2.3 times
- * the instructions of introspection_read.
+ * are zeros, and what was decoded from UTF-16 stands. An accepted document is gone over a second time.
  */
 void introspection_read_strict(const uint8_t *document, size_t document_length, uint32_t *rows, size_t rows_length,
                                uint32_t *warnings, size_t warnings_length, uint8_t *text, size_t text_length,
@@ -303,8 +301,8 @@ void introspection_write(const uint8_t *document, size_t document_length, const 
  *
  * The rows are checked as for introspection_write. What comes on top is in proportion to the rows and the bytes
  * written where the rows stand in the order that introspection_read leaves and in no node another child follows a
- * node; measured to be 70 to 140 ns a row. If nodes stand before other children it may be the levels of nodes times
- * the rows, and in a hostile order the rows times the rows. Nothing is called for each level: 300 kB of the
+ * node. If nodes stand before other children it may be the levels of nodes times the rows, and in a hostile order the
+ * rows times the rows; docs/BENCHMARKS.md has measurements. Nothing is called for each level: 300 kB of the
  * stack are enough whatever the rows are, nearly all of them for the check.
  *
  * answer: number, place, bytes written. Refusals: 2, 19, 20, then 7 at the first row, in the order of writing, that
@@ -356,12 +354,11 @@ void introspection_rows(const uint32_t *columns, size_t columns_length, uint64_t
  * three words for each row claimed the time is in proportion to the rows and to the bytes of names and tp types, in any order
  * of the rows, with a circle too. That holds for names that spread over an index of 4,096 words, or 65,536 where more than
  * 4,096 rows are claimed: for names that were made to fall together in it, each name looked up may be compared with all of
- * those. docs/BENCHMARKS.md has measurements. With fewer words the plain form answers the same: for each definition given
+ * those. docs/BENCHMARKS.md has measurements of both forms. With fewer words the plain form answers the same: for each definition given
  * out a pass over the rows, and for each member looked at a comparison with the names of all definitions. Where each type is
  * defined before it is used a definition is looked at once, and the time is in proportion to the members times the rows;
  * else it may be looked at once for each definition that is given out before it. A circle costs up to a search of the same
- * kind for each definition. 2,600 rows were measured to take 11 ms in the first case, and 1.9 s where each of 1,300 types is
- * defined before the one that it uses.
+ * kind for each definition.
  *
  * answer: number, place, definitions, members whose tp type no row defines. Refusals: 2, 19, 28 at the first row on a circle
  * of uses, a definition that uses itself included, then 18 at the number of definitions if order has fewer words. So a

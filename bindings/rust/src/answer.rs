@@ -45,8 +45,8 @@ pub enum ErrorKind {
     BadDirection = 16,
     /// More than 256 attributes in a tag. Place: the 257th name.
     TooManyAttributes = 17,
-    /// No room in a lent table: rows or columns of fewer than 16 times the count of words. Place:
-    /// the count. For reading and unescaping this crate lends enough.
+    /// No room in a lent table: rows or columns that hold fewer words than 16 for each row of the
+    /// count. Place: the count. For reading and unescaping this crate lends enough.
     NoRoom = 18,
     /// Rows that are not sound. What the reader leaves is, so no caller sees it.
     UnsoundRows = 19,

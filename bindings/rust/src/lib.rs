@@ -3,7 +3,8 @@
 //! [`Document::parse`] reads a document, and lends what it holds in the words of the crate zbus_xml:
 //! nodes, interfaces, methods, signals, properties, arguments, annotations, docstrings and
 //! [type definitions](telepathy). Every name and value is a `&str` into the document, or into one
-//! text buffer where it was written with references; nothing is copied but what is decoded.
+//! text buffer where it was written with references, or with tabs or line ends, which are shown as
+//! spaces; nothing else is copied but what is decoded.
 //!
 //! The rule: a definition that cannot be read whole is left out whole, with a [`Warning`] at its
 //! place; a fault in the markup, or in what a member of an interface needs, refuses the document
@@ -135,8 +136,9 @@ impl<'a> Document<'a> {
     /// accepted and breaks one of the profile's rules is refused, at the least place of a breach.
     ///
     /// The rules are of XML 1.0: no raw `<` and no `&#X` in an attribute value, no `--` inside a
-    /// comment, tag and attribute names of the fifth edition, every character a Char, the root tag
-    /// `node`, and after the root only white space, closed comments and closed instructions.
+    /// comment and no hyphen at its end, tag and attribute names of the fifth edition, every character
+    /// a Char, the root tag `node`, and after the root only white space, closed comments and closed
+    /// instructions.
     ///
     /// ```
     /// use introspection::{Document, ErrorKind};

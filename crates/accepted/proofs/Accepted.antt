@@ -1,9 +1,8 @@
 -- Of a document that is accepted: the rows that the reader leaves show what it read, are sound and in order, and say where their
 -- elements begin, whatever stands after them in the buffers lent.
--- Assumes nothing.
 use Prim.Native.Nat.{ℕ, zero, suc, ◌-◌, ◌/◌, ◌<◌}
 use mathlib.Core.Path.{◌≡◌, refl, sym, ap, ◌∙◌}
-use mathlib.Core.List.{List, [], ◌++◌, map}
+use mathlib.Core.List.{List, [], ◌++◌}
 use mathlib.Core.Bool.{Bool, true, false, ◌||◌}
 use native.Mathlib.Omega.{arith}
 use lib.Dec.{ltb}
@@ -14,17 +13,15 @@ use Rattle.document.specs.Tags.{Shown}
 use Rattle.document.specs.Rows.{Row, Tables, words_from, texts}
 use Rattle.document.specs.Refusals.{bare}
 use Rattle.document.specs.Reading.{State, begun, reading, accepted, refused}
-use Rattle.document.specs.Whole.{Room, meaning, fitted, read, verdict_of, rows_left_lem, text_left, Says}
+use Rattle.document.specs.Whole.{Room, meaning, fitted, read, verdict_of, rows_left, Says}
 use Rattle.document.specs.declared.Counts.{Counts}
 use Rattle.document.specs.Verdict.{counts}
-use Rattle.items.specs.Words.{RowWords, word_at, rows_shown}
-use Rattle.items.specs.View.{view_row, text_shown}
-use Rattle.items.specs.Sound.{sound, soundness}
+use Rattle.items.specs.Words.{RowWords, word_at}
 use Rattle.items.specs.Order.{DocumentOrder}
 use Rattle.items.proofs.Order.{document_in_order}
 use Rattle.items.proofs.Rows.{row_word}
 use Rattle.bounds.proofs.Whole as bounds
-use Rattle.accepted.specs.Tables.{RowsInOrder, Begins, RowsBegin, RowsInDocumentOrder}
+use Rattle.accepted.specs.Tables.{WordsShown, TablesSound, LeftShown, RowsInOrder, Begins, RowsBegin, RowsInDocumentOrder}
 use Rattle.accepted.proofs.Order.{accepts_follow, words_ordered}
 use Rattle.accepted.proofs.Folding.{meaning_accepts}
 use Rattle.accepted.proofs.Values.{accepts_held}
@@ -39,17 +36,16 @@ use Rattle.accepted.proofs.Soundness.{words_sound}
 from_start : (x y : List ℕ) → Within (x ++ y) 0 x
 from_start x y = record { before = []; rest = y; long = refl; is = refl }
 
-module _ (doc : List ℕ) (t : Tables Shown) (e : meaning doc ≡ accepted t) (y z : List ℕ) where
-  pub words_shown : rows_shown doc (texts t.rows ++ y) (words_from 0 t.rows ++ z) (length t.rows) ≡ map (view_row text_shown) t.rows
-  words_shown =
-      rw (rows_words 0 t.rows z)
-      (rows_show doc (texts t.rows ++ y) 0 t.rows (accepts_held doc (meaning_accepts doc t e)) (from_start (texts t.rows) y))
+pub words_shown : WordsShown
+words_shown doc t e y z =
+    rw (rows_words 0 t.rows z)
+    (rows_show doc (texts t.rows ++ y) 0 t.rows (accepts_held doc (meaning_accepts doc t e)) (from_start (texts t.rows) y))
 
-  pub tables_sound : soundness doc (texts t.rows ++ y) (words_from 0 t.rows ++ z) (length t.rows) ≡ sound
-  tables_sound =
-      let a = meaning_accepts doc t e in
-      let f = a.sound.utf8 in
-      words_sound doc (texts t.rows ++ y) f t.rows (accepts_holds doc f a) (accepts_enough doc a) (accepts_held doc a) (from_start (texts t.rows) y) z (omega (arith, (bounds.room doc e).few, a.sound.small))
+pub tables_sound : TablesSound
+tables_sound doc t e y z =
+    let a = meaning_accepts doc t e in
+    let f = a.sound.utf8 in
+    words_sound doc (texts t.rows ++ y) f t.rows (accepts_holds doc f a) (accepts_enough doc a) (accepts_held doc a) (from_start (texts t.rows) y) z (omega (arith, (bounds.room doc e).few, a.sound.small))
 
 -- ---- with the room lent
 
@@ -64,15 +60,14 @@ fitted_accepts end r (accepted u) t e =
     go false e = e
 fitted_accepts end r (refused x) t e = e
 
-module _ (doc : List ℕ) (r : Room) (t : Tables Shown) (e : read doc r ≡ accepted t) where
-  pub read_accepts : meaning doc ≡ accepted t
-  unfolding read
-  read_accepts = fitted_accepts (length doc) r (meaning doc) t e
+pub read_accepts : (doc : List ℕ) (r : Room) (t : Tables Shown) → read doc r ≡ accepted t → meaning doc ≡ accepted t
+unfolding read
+read_accepts doc r t e = fitted_accepts (length doc) r (meaning doc) t e
 
-  pub left_shown : rows_shown doc (text_left r (read doc r)) (rows_left_lem r (read doc r)) (length t.rows) ≡ map (view_row text_shown) t.rows
-  left_shown =
-      rw e
-      (words_shown doc t read_accepts (replicate (r.text - length (texts t.rows)) 0) (replicate (r.rows - length (words_from 0 t.rows)) 0))
+pub left_shown : LeftShown
+left_shown doc r t e =
+    rw e
+    (words_shown doc t (read_accepts doc r t e) (replicate (r.text - length (texts t.rows)) 0) (replicate (r.rows - length (words_from 0 t.rows)) 0))
 
 -- ---- words of rows
 
@@ -89,9 +84,9 @@ words_back rs z i l =
 
 -- what holds of the rows of a document that is accepted, whatever stands after them, holds of the rows that the reader leaves
 of_rows : (P : List ℕ → List ℕ → ℕ → Type 0) → ((doc : List ℕ) (t : Tables Shown) → meaning doc ≡ accepted t → (z : List ℕ) → P doc (words_from 0 t.rows ++ z) (length t.rows)) → (doc rows warnings text : List ℕ) (room : Room) (n x w : ℕ) → Says doc room rows warnings text (Ok (counts n x w)) → P doc rows n
-of_rows P h doc rows warnings text room n x w s = go (read doc room) refl s.verdict s.rows_left
+of_rows P h doc rows warnings text room n x w s = go (read doc room) refl s.verdict s.of_rows
   where
-    go : (r : State Shown) → read doc room ≡ r → Ok (counts n x w) ≡ verdict_of r → rows ≡ rows_left_lem room r → P doc rows n
+    go : (r : State Shown) → read doc room ≡ r → Ok (counts n x w) ≡ verdict_of r → rows ≡ rows_left room r → P doc rows n
     go begun q e f = let z : ◌≡◌ {A = ℕ} 0 1 = cc in absurd (omega arith)
     go (reading fs u) q e f = let z : ◌≡◌ {A = ℕ} 0 1 = cc in absurd (omega arith)
     go (accepted t) q e f =

@@ -1,5 +1,4 @@
 -- A row more, with its open element.
--- Assumes nothing.
 use Prim.Native.Nat.{ℕ, zero, suc, ◌-◌, ◌<◌}
 use mathlib.Core.Path.{◌≡◌, refl, ap, sym, ◌∙◌}
 use mathlib.Core.List.{List, [], ◌∷◌}
@@ -19,14 +18,9 @@ use Rattle.document.proofs.Steps.{kind_in, Begins}
 use Rattle.accepted.proofs.Entries.{Brief, Complete, due}
 use Rattle.accepted.proofs.Frames.{Placed, Agree, Frames, frames_agree, frames_more}
 
--- nothing begins in content that is passed over
-pub none_passing : {X : Type 0} (k : ℕ) → may_hold 0 k ≡ true → X
-unfolding may_hold
-none_passing k b = never b
-
 pub begins_kind : (n k : ℕ) (fs : List Frame) → Begins n k fs → among k kinds ≡ true
 begins_kind n k [] b = rw b.1 refl
-begins_kind n k (f ∷ fs) b = held_kind (kind_in f) k b
+begins_kind n k (f ∷ fs) b = held_kind (kind_in f) k b.1
 
 placed_in : (ks : ℕ → ℕ) (n k r : ℕ) → r < n → may_hold (ks r) k ≡ true → Placed ks n k (suc r)
 placed_in ks zero k r l h = absurd (omega arith)
@@ -42,9 +36,9 @@ module _ (doc : List ℕ) (n : ℕ) (f g : ℕ → Brief) (a : Agree n f g) (k :
 
   pub placed_new : (fs : List Frame) → Begins n k fs → Frames doc n f fs → Placed (λ j. (g j).kind) n k (parent_of fs)
   placed_new [] b h = rw b.0 (b.1, refl)
-  placed_new (element c m r ∷ fs) b h = placed_in (λ j. (g j).kind) n k r h.0 (rw (same_kind r h.0 ∙ h.1) b)
-  placed_new (definition d ∷ fs) b h = placed_in (λ j. (g j).kind) n k d.row h.0 (rw (same_kind d.row h.0 ∙ h.1) b)
-  placed_new (passing p ns ∷ fs) b h = none_passing k b
+  placed_new (element c m r ∷ fs) b h = placed_in (λ j. (g j).kind) n k r h.0 (rw (same_kind r h.0 ∙ h.1) b.1)
+  placed_new (definition d ∷ fs) b h = placed_in (λ j. (g j).kind) n k d.row h.0 (rw (same_kind d.row h.0 ∙ h.1) b.1)
+  placed_new (passing p ns ∷ fs) b h = absurd b.0
 
   noted_frames : (fs : List Frame) → Frames doc n f fs → Frames doc n f (noted_in k t fs)
   noted_frames [] h = h
@@ -61,7 +55,7 @@ module _ (doc : List ℕ) (n : ℕ) (f g : ℕ → Brief) (a : Agree n f g) (k :
     -- a part of a definition
     frames_part : (fs : List Frame) → Begins n k fs → among k parts ≡ true → (complete k t ≡ true → Complete (g n)) → Frames doc n f fs → Frames doc (suc n) g (noted_in k t fs)
     frames_part [] b q c h = never (rw b.1 at q)
-    frames_part (element y m r ∷ fs) b q c h = never (sym h.2 ∙ part_parent y k b q)
+    frames_part (element y m r ∷ fs) b q c h = never (sym h.2 ∙ part_parent y k b.1 q)
     frames_part (definition d ∷ fs) b q c h =
         let j = frames_agree doc n f g (definition d ∷ fs) a h in (
           omega (arith, h.0),
@@ -72,7 +66,7 @@ module _ (doc : List ℕ) (n : ℕ) (f g : ℕ → Brief) (a : Agree n f g) (k :
               below i n (λ x. j.3 v.0 i l x) (λ x. let y : n ≡ i = omega arith in rw (← y) (c v.1))),
           j.4,
         )
-    frames_part (passing p ns ∷ fs) b q c h = none_passing k b
+    frames_part (passing p ns ∷ fs) b q c h = absurd b.0
 
     pub frames_entered : (fs : List Frame) → Begins n k fs → (due k t ≡ true → Complete (g n)) → Frames doc n f fs → Frames doc (suc n) g (frame_of k t n ∷ noted k t fs)
     frames_entered fs b c h = go (among k definitions) (among k parts) refl refl c

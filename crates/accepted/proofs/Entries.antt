@@ -1,5 +1,4 @@
 -- The row of a start tag: what of it is sound at once, and what once its definition is complete.
--- Assumes nothing.
 use Prim.Native.Nat.{ℕ}
 use mathlib.Core.Path.{◌≡◌, refl, sym}
 use mathlib.Core.List.{List, [], ◌∷◌}

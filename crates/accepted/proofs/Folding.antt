@@ -1,5 +1,4 @@
 -- What every step keeps holds of the tables of a document that is accepted; and such a document is small, and UTF-8.
--- Assumes nothing.
 use Prim.Native.Nat.{ℕ}
 use mathlib.Core.Path.{◌≡◌, refl}
 use mathlib.Core.List.{List, [], ◌∷◌}
@@ -21,12 +20,12 @@ use Rattle.document.specs.Outcome.{Sound, whole}
 use Rattle.document.proofs.Steps.{Known, Kept, Ways, step_kept}
 use Rattle.accepted.proofs.Tokens.{Comes, AllCome, tokens_come}
 
-module _ (doc : List ℕ) (i : Known Shown) (ways : (t : Token) → Comes doc t → Ways whole doc i i i t) (empty : i.first → i.inside [] (record { rows = []; warnings = [] })) (ended : (u : Tables Shown) → i.inside [] u → i.done u) where
+module _ (doc : List ℕ) (i : Known Shown) (ways : (t : Token) → Comes doc t → Ways whole doc i i i t) (empty : i.first → i.inside [] (record { rows = []; warnings = [] })) where
   fold_kept : (s : State Shown) (ts : List Token) → AllCome doc ts → Kept i s → Kept i (fold whole doc s ts)
   fold_kept s [] c h = h
   fold_kept s (t ∷ ts) c h =
       fold_kept (step whole doc s t) ts c.1
-      (step_kept whole doc i i i s t (record { ways = ways t c.0; empty = empty; ended = ended; done = λ u h. h; fault = λ x h. h }) h)
+      (step_kept whole doc i i i s t (record { ways = ways t c.0; empty = empty; done = λ u h. h; fault = λ x h. h }) h)
 
   pub run_kept : i.first → Kept i (run whole doc 0 begun)
   unfolding run

@@ -1,5 +1,4 @@
 -- Open elements and the rows so far: every row but those of an open definition is sound; and a new row keeps that.
--- Assumes nothing.
 use Prim.Native.Nat.{ℕ, zero, suc, ◌-◌, ◌≤◌, ◌<◌}
 use mathlib.Core.Path.{◌≡◌, refl, ap}
 use mathlib.Core.List.{List, [], ◌∷◌}

@@ -1,5 +1,4 @@
 -- Kinds that may stand in an element: they are 1 to 13, and the parts of definitions stand in definitions.
--- Assumes nothing.
 use Prim.Native.Nat.{ℕ}
 use mathlib.Core.Path.{◌≡◌, refl}
 use mathlib.Core.List.{List, [], ◌∷◌}
@@ -7,7 +6,7 @@ use mathlib.Core.Bool.{Bool, true}
 use Rattle.slices.specs.Bytes.{if, all}
 use Rattle.slices.proofs.Runs.{by_byte}
 use Rattle.document.specs.Kinds.{definitions, parts}
-use Rattle.document.specs.Elements.{among, held_by_lem, may_hold}
+use Rattle.document.specs.Elements.{among, held_by, may_hold}
 use Rattle.document.proofs.Tests.{among_all}
 
 -- every kind but 0 and 14
@@ -17,11 +16,11 @@ kinds = 1 ∷ 2 ∷ 3 ∷ 4 ∷ 5 ∷ 6 ∷ 7 ∷ 8 ∷ 9 ∷ 10 ∷ 11 ∷ 12 �
 -- what holds of all that the elements may hold that hold any
 module _ (q : ℕ → ℕ → Bool) where
   abbrev All : ℕ → Type 0
-  All p = all (q p) (held_by_lem p) ≡ true
+  All p = all (q p) (held_by p) ≡ true
 
   held_all : All 1 → All 2 → All 3 → All 4 → All 5 → All 7 → All 9 → All 11 → All 13 → (p c : ℕ) → may_hold p c ≡ true → q p c ≡ true
   unfolding may_hold
-  held_all h i j k l m n o x p c e = among_all (q p) c (held_by_lem p) every e
+  held_all h i j k l m n o x p c e = among_all (q p) c (held_by p) every e
     where
       every : All p
       every =

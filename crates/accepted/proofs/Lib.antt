@@ -1,5 +1,4 @@
 -- What the reader leaves of a document that it accepts: the rows show what was read, are sound, in order, and say where their elements begin.
--- Assumes nothing.
 pub mod Tokens
 pub mod Folding
 pub mod Values

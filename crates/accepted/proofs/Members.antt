@@ -1,6 +1,5 @@
 -- Structs and mappings have the members that they need: every step keeps that. While a definition is open, what was seen of its parts is
 -- what its member rows say; the rows before it have no member after it.
--- Assumes nothing.
 use Prim.Native.Nat.{ℕ, zero, suc, ◌≤◌, ◌<◌}
 use mathlib.Core.Path.{◌≡◌, refl, ap, sym, ◌∙◌}
 use mathlib.Core.List.{List, [], ◌∷◌, ◌++◌}
@@ -30,7 +29,7 @@ use Rattle.accepted.proofs.Holding.{part_parent}
 use Rattle.accepted.proofs.Tokens.{Comes}
 use Rattle.accepted.proofs.Folding.{run_kept, Accepts}
 use Rattle.accepted.proofs.Entries.{Brief, Entry, start_opens}
-use Rattle.accepted.proofs.Entering.{none_passing, begins_kind}
+use Rattle.accepted.proofs.Entering.{begins_kind}
 use Rattle.accepted.proofs.States.{row_at, at_more, at_last, at_first, at_documented}
 
 -- ---- the signatures of members, in row order; p is the definition's row plus one
@@ -314,7 +313,7 @@ module _ (k : ℕ) (t : Tag) (r : Row Shown) (fs : List Frame) (rs : List (Row S
     part_tallies : (gs : List Frame) → Begins n k gs → among k parts ≡ true → Tallies n rs gs → Tallies n rs (noted_in k t gs)
     part_tallies [] b e g = tt
     part_tallies (element c m q ∷ gs) b e g = g
-    part_tallies (definition d ∷ gs) b e g = (g.0, g.1, (λ f. members_only d.kind k f b other), g.3, g.4)
+    part_tallies (definition d ∷ gs) b e g = (g.0, g.1, (λ f. members_only d.kind k f b.1 other), g.3, g.4)
     part_tallies (passing p ns ∷ gs) b e g = g
 
     noted_tallies : Tallies n rs (noted k t fs)
@@ -424,9 +423,9 @@ row_holds k t r fs rs b e n h =
   where
     in_definition : (fs : List Frame) → Begins (length rs) 12 fs → opens_as whole 12 (parent_of fs) t ≡ opens r → r.kind ≡ 12 → r.parent ≡ parent_of fs → Holds fs rs → Holds (frame_of 12 t (length rs) ∷ noted 12 t fs) (rs ++ r ∷ [])
     in_definition [] b e q p h = absurd (omega (arith, b.1))
-    in_definition (element c m i ∷ fs) b e q p h = never (sym h.tallies.0 ∙ part_parent c 12 b refl)
+    in_definition (element c m i ∷ fs) b e q p h = never (sym h.tallies.0 ∙ part_parent c 12 b.1 refl)
     in_definition (definition d ∷ fs) b e q p h = member_holds t r d fs rs q p (member_row (suc d.row) t r e) h
-    in_definition (passing p ns ∷ fs) b e q w h = none_passing 12 b
+    in_definition (passing p ns ∷ fs) b e q w h = absurd b.0
 
 -- ---- every step
 
@@ -447,24 +446,24 @@ module _ (doc : List ℕ) where
   unfolding held
   ways (start t) c = record {
     closes = closes;
-    moves = λ fs u h. h;
-    row = λ k r fs u c b n e h. row_holds k t r fs u.rows b e (entry t k r fs u b e) h;
+    moves = λ f fs u c h. h;
+    row = λ k r fs u c b n e d h. row_holds k t r fs u.rows b e (entry t k r fs u b e) h;
     own_row = λ k r fs u c b n e h. row_holds k t r fs u.rows b e (entry t k r fs u b e) h;
     refusal = λ k p x e. tt;
     deep = tt;
-    warning = λ fs u c h. h;
-    skips = λ fs u h. record { closed = h.closed; tallies = h.tallies; fresh = h.fresh };
-    docstring = λ f fs u d h. record { closed = h.closed; tallies = h.tallies; fresh = h.fresh };
-    within = λ p ns fs u h. record { closed = h.closed; tallies = h.tallies; fresh = h.fresh };
+    warning = λ f fs u c h. h;
+    skips = λ f fs u c r h. record { closed = h.closed; tallies = h.tallies; fresh = h.fresh };
+    docstring = λ f fs u c d h. record { closed = h.closed; tallies = h.tallies; fresh = h.fresh };
+    within = λ p ns fs u c d h. record { closed = h.closed; tallies = h.tallies; fresh = h.fresh };
   }
     where
       entry : (t : Tag) (k : ℕ) (r : Row Shown) (fs : List Frame) (u : Tables Shown) → Begins (length u.rows) k fs → opens_as whole k (parent_of fs) t ≡ opens r → Entry k (parent_of fs) t r
       entry t k r fs u b e = rw e at (start_opens (parent_of fs) t k (begins_kind (length u.rows) k fs b))
   ways (close lt n q) c = record {
     closes = closes;
-    passed = λ p ns fs u h. record { closed = h.closed; tallies = h.tallies; fresh = h.fresh };
-    docstring = λ s r ns fs u h. documented_holds r _ fs u.rows (record { closed = h.closed; tallies = h.tallies; fresh = h.fresh });
-    within = λ p n ns fs u h. record { closed = h.closed; tallies = h.tallies; fresh = h.fresh };
+    passed = λ p ns fs u l h. record { closed = h.closed; tallies = h.tallies; fresh = h.fresh };
+    docstring = λ s r ns fs u l e h. documented_holds r _ fs u.rows (record { closed = h.closed; tallies = h.tallies; fresh = h.fresh });
+    within = λ p n ns fs u l e h. record { closed = h.closed; tallies = h.tallies; fresh = h.fresh };
     another = λ f fs u h. tt;
     none = tt;
   }
@@ -476,5 +475,5 @@ module _ (doc : List ℕ) where
   unfolding held
   accepts_enough {u} a i l =
       let h : Holds [] u.rows = rw a.reads at
-      (run_kept doc held ways (λ h. record { closed = λ i l c. absurd (omega arith); tallies = tt; fresh = λ i l. refl }) (λ u h. h) tt) in
+      (run_kept doc held ways (λ h. record { closed = λ i l c. absurd (omega arith); tallies = tt; fresh = λ i l. refl }) tt) in
       h.closed i l tt

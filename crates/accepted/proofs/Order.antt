@@ -1,6 +1,5 @@
 -- The rows of a state are in document order, and the last row stands in the open elements, one in another: every step keeps that. A
 -- row more stands in the innermost.
--- Assumes nothing.
 use Prim.Native.Nat.{ℕ, suc, ◌≤◌, ◌<◌}
 use mathlib.Core.Path.{◌≡◌, refl, ap, sym, ◌∙◌, subst}
 use mathlib.Core.List.{List, [], ◌∷◌, ◌++◌}
@@ -24,7 +23,6 @@ use Rattle.items.proofs.Order.{Falls, Follow, under_up, under_through, follow_fa
 use Rattle.accepted.proofs.Tokens.{Comes}
 use Rattle.accepted.proofs.Folding.{run_kept, Accepts}
 use Rattle.accepted.proofs.Entries.{Brief}
-use Rattle.accepted.proofs.Entering.{none_passing}
 use Rattle.accepted.proofs.States.{row_at, at_more, at_last, at_first, at_documented}
 
 -- ---- n rows, by their parents' rows plus one
@@ -93,7 +91,7 @@ module _ (n : ℕ) (f g : ℕ → ℕ) (a : Alike n f g) (o : Follow f n) where
   row_follows k [] b e c = (follow_more n f g a o e (subst (λ j. Under f 0 j) (sym b.0) Under.itself), (omega arith, Under.itself, tt))
   row_follows k (element y m r ∷ fs) b e c = in_row r (open_rows fs) e c
   row_follows k (definition d ∷ fs) b e c = in_row d.row (open_rows fs) e c
-  row_follows k (passing p ns ∷ fs) b e c = none_passing k b
+  row_follows k (passing p ns ∷ fs) b e c = absurd b.0
 
 -- ---- frames
 
@@ -188,23 +186,23 @@ module _ (doc : List ℕ) where
   unfolding held
   ways (start t) c = record {
     closes = closes;
-    moves = λ fs u h. h;
-    row = λ k r fs u c b n e h. row_holds k t r fs u.rows b (rw e at (parented k (parent_of fs) t)) h;
+    moves = λ f fs u c h. h;
+    row = λ k r fs u c b n e d h. row_holds k t r fs u.rows b (rw e at (parented k (parent_of fs) t)) h;
     own_row = λ k r fs u c b n e h. row_holds k t r fs u.rows b (rw e at (parented k (parent_of fs) t)) h;
     refusal = λ k p x e. tt;
     deep = tt;
-    warning = λ fs u c h. h;
-    skips = λ fs u h. record { follow = h.follow; inside = h.inside };
-    docstring = λ f fs u d h. record { follow = h.follow; inside = h.inside };
-    within = λ p ns fs u h. record { follow = h.follow; inside = h.inside };
+    warning = λ f fs u c h. h;
+    skips = λ f fs u c r h. record { follow = h.follow; inside = h.inside };
+    docstring = λ f fs u c d h. record { follow = h.follow; inside = h.inside };
+    within = λ p ns fs u c d h. record { follow = h.follow; inside = h.inside };
   }
   ways (close lt n q) c = record {
     closes = closes;
-    passed = λ p ns fs u h. record { follow = h.follow; inside = h.inside };
-    docstring = λ s r ns fs u h.
+    passed = λ p ns fs u l h. record { follow = h.follow; inside = h.inside };
+    docstring = λ s r ns fs u l e h.
         same_holds fs u.rows _ (length_documented _ r u.rows) (λ i l. ap (λ (b : Brief). b.parent) (at_documented r _ u.rows i))
         (record { follow = h.follow; inside = h.inside });
-    within = λ p n ns fs u h. record { follow = h.follow; inside = h.inside };
+    within = λ p n ns fs u l e h. record { follow = h.follow; inside = h.inside };
     another = λ f fs u h. tt;
     none = tt;
   }
@@ -214,7 +212,7 @@ module _ (doc : List ℕ) where
   pub accepts_follow : {u : Tables Shown} → Accepts doc u → Follow (parent_in u.rows) (length u.rows)
   unfolding held
   accepts_follow {u} a =
-      let h : Holds [] u.rows = rw a.reads at (run_kept doc held ways (λ h. record { follow = λ k l. absurd (omega arith); inside = tt }) (λ u h. h) tt) in
+      let h : Holds [] u.rows = rw a.reads at (run_kept doc held ways (λ h. record { follow = λ k l. absurd (omega arith); inside = tt }) tt) in
       h.follow
 
 -- ---- the words of rows

@@ -1,5 +1,4 @@
 -- The rows of a table, read back from its words: they show what was kept.
--- Assumes nothing.
 use Prim.Native.Nat.{ℕ, zero, suc, ◌+◌, ◌*◌, ◌<◌}
 use mathlib.Core.Path.{◌≡◌, refl, sym, ap, ◌∙◌}
 use mathlib.Core.List.{List, [], ◌∷◌, ◌++◌, map, append_assoc}
@@ -7,13 +6,13 @@ use native.Mathlib.Omega.{arith}
 use lib.ListN.{length, drop, get_or}
 use lib.Seq.{drop_at}
 use Rattle.document.specs.Tags.{Shown}
-use Rattle.document.specs.Rows.{Row, row_text, row_words_lem, words_from, texts}
+use Rattle.document.specs.Rows.{Row, row_text, row_words, words_from, texts}
 use Rattle.rows.proofs.Words.{length_row_words}
 use Rattle.items.specs.Words.{RowWords, row_of, rows_of, viewed}
 use Rattle.items.specs.View.{view_row, text_shown}
 use Rattle.items.proofs.Rows.{row-at}
 use Rattle.accepted.proofs.Values.{RowsHeld}
-use Rattle.accepted.proofs.Triples.{words_of, row_words, Within, within_first, within_more, row_shown}
+use Rattle.accepted.proofs.Triples.{words_of, row_of_words, Within, within_first, within_more, row_shown}
 
 -- of rows before which n bytes of text stand
 abbrev pub rows_from : ℕ → List (Row Shown) → List RowWords
@@ -25,9 +24,9 @@ rows_words n [] z = refl
 rows_words n (r ∷ rs) z =
     let m = n + length (row_text r) in
     let rest = words_from m rs ++ z in
-    let e : (row_words_lem n r ++ words_from m rs) ++ z ≡ row_words_lem n r ++ rest = append_assoc (row_words_lem n r) (words_from m rs) z in
+    let e : (row_words n r ++ words_from m rs) ++ z ≡ row_words n r ++ rest = append_assoc (row_words n r) (words_from m rs) z in
     ap (λ (k : List ℕ). row_of k ∷ rows_of (length rs) (drop 16 k)) e
-    ∙ rw (row_words n r rest, drop_at (row_words_lem n r) rest 16 (length_row_words n r), rows_words m rs z)
+    ∙ rw (row_of_words n r rest, drop_at (row_words n r) rest 16 (length_row_words n r), rows_words m rs z)
 
 pub rows_show : (doc x : List ℕ) (n : ℕ) (rs : List (Row Shown)) → RowsHeld doc rs → Within x n (texts rs) → map (viewed doc x) (rows_from n rs) ≡ map (view_row text_shown) rs
 rows_show doc x n [] h w = refl

@@ -1,5 +1,4 @@
 -- The words of rows that are sound are sound rows.
--- Assumes nothing.
 use Prim.Native.Nat.{ℕ, zero, suc, ◌+◌, ◌-◌, ◌/◌, ◌*◌, ◌≤◌, ◌<◌}
 use mathlib.Core.Path.{◌≡◌, refl, ◌∙◌, ap, sym}
 use mathlib.Core.List.{List, [], ◌∷◌, ◌++◌}
@@ -33,11 +32,11 @@ use Rattle.accepted.proofs.Members.{signatures, some_member, two_keyed, enough}
 
 -- ---- places
 
-kind_at_lem : (n : ℕ) (rs : List (Row Shown)) (j : ℕ) → kind_at (rows_from n rs) j ≡ (row_at rs j).kind
+kind_in_rows : (n : ℕ) (rs : List (Row Shown)) (j : ℕ) → kind_at (rows_from n rs) j ≡ (row_at rs j).kind
 unfolding row_at
-kind_at_lem n [] j = refl
-kind_at_lem n (r ∷ rs) zero = refl
-kind_at_lem n (r ∷ rs) (suc j) = kind_at_lem (n + length (row_text r)) rs j
+kind_in_rows n [] j = refl
+kind_in_rows n (r ∷ rs) zero = refl
+kind_in_rows n (r ∷ rs) (suc j) = kind_in_rows (n + length (row_text r)) rs j
 
 placed_true : (rows : List RowWords) (ks : ℕ → ℕ) → ((j : ℕ) → kind_at rows j ≡ ks j) → (i : ℕ) (w : RowWords) → Placed ks i w.kind w.parent → placed rows i w ≡ true
 placed_true rows ks e zero w h = rw (eq-eqb w.kind 1 h.0, eq-eqb w.parent 0 h.1)
@@ -148,7 +147,7 @@ module _ (doc x : List ℕ) (formed : ill_formed doc ≡ length doc) where
         let b : row_at rs i ≡ brief r = rw add-zero at (a 0) in
         let s : sound_row doc x (rows_from 0 rs) i (words_of n r) ≡ true =
         row_sound i (words_of n r) (omega arith) (ap (λ (b : Brief). b.kind) (sym b))
-        (row_good (rows_from 0 rs) (row_at rs) (kind_at_lem 0 rs) n i r b (h.fine i (omega arith)) (h.tags i (omega arith)) (h.frames i (omega arith)) v.0 d.0 (within_first (row_text r) (texts ss) w)) in
+        (row_good (rows_from 0 rs) (row_at rs) (kind_in_rows 0 rs) n i r b (h.fine i (omega arith)) (h.tags i (omega arith)) (h.frames i (omega arith)) v.0 d.0 (within_first (row_text r) (texts ss) w)) in
         rw s
         (none_bad (n + length (row_text r)) (suc i) ss (omega arith) (λ j. let q : suc i + j ≡ i + suc j = omega arith in rw q (a (suc j))) v.1 d.1 (within_more (row_text r) (texts ss) w))
 

@@ -1,10 +1,9 @@
 -- The rows of a state are sound, but for those of an open definition: every step keeps that.
--- Assumes nothing.
 use Prim.Native.Nat.{ℕ, zero, suc, ◌<◌}
 use mathlib.Core.Path.{◌≡◌, refl, ap, sym, ◌∙◌}
 use mathlib.Core.List.{List, [], ◌∷◌, ◌++◌}
 use mathlib.Core.Option.{none}
-use mathlib.Core.Bool.{true, false}
+use mathlib.Core.Bool.{false}
 use borrow.Author.Tests.{not-true}
 use native.Mathlib.Omega.{arith}
 use lib.Dec.{eqb}
@@ -21,9 +20,8 @@ use Rattle.document.specs.Elements.{kind_of, opens, opens_as}
 use Rattle.document.specs.Reading.{Definition, Purpose, captures, Frame, element, definition, passing, row_of, parent_of, noted, frame_of, Name}
 use Rattle.document.specs.Outcome.{whole}
 use Rattle.rows.proofs.Words.{length_documented}
-use Rattle.document.proofs.Tests.{never}
 use Rattle.document.proofs.Steps as steps
-use Rattle.document.proofs.Steps.{takes_docs, Begins, Named, Known, Closes, Shuts, Ways}
+use Rattle.document.proofs.Steps.{TakesDocs, Begins, Named, Known, Closes, Shuts, Ways}
 use Rattle.accepted.proofs.Tokens.{After, Before, Opens, Starts, Comes}
 use Rattle.accepted.proofs.Folding.{run_kept, Accepts}
 use Rattle.accepted.proofs.Entries.{Brief, brief, Entry, start_opens}
@@ -163,12 +161,12 @@ module _ (doc : List ℕ) (formed : ill_formed doc ≡ length doc) where
   unfolding row_at
   shuts lt n q b = record {
     closes = closes;
-    passed = λ p ns fs u h. popped h;
-    docstring = λ s r ns fs u h.
+    passed = λ p ns fs u l h. popped h;
+    docstring = λ s r ns fs u l e h.
         documented_holds r _ fs u.rows
         (docs_documented doc blank r _ u.rows h.frames.0.1 (content_good doc formed s lt h.frames.0.2 b) h.docs)
         (popped h);
-    within = λ p n ns fs u h. record { fine = h.fine; docs = h.docs; tags = h.tags; frames = h.frames };
+    within = λ p n ns fs u l e h. record { fine = h.fine; docs = h.docs; tags = h.tags; frames = h.frames };
     another = λ f fs u h. tt;
     none = tt;
   }
@@ -176,28 +174,28 @@ module _ (doc : List ℕ) (formed : ill_formed doc ≡ length doc) where
   -- ---- start tags
 
   -- the row of an element that takes docstrings
-  aims : (s : ℕ) → After doc s → (n : ℕ) (g : ℕ → Brief) (f : Frame) (fs : List Frame) → takes_docs f ≡ true → Frames doc n g (f ∷ fs) → Aims doc n g (captures s (row_of f))
-  aims s a n g (element k m r) fs d h = (h.0, rw h.1 (not-true (eqb k 6) d), a)
-  aims s a n g (definition e) fs d h = (h.0, rw h.1 (not-true (eqb e.kind 6) d), a)
-  aims s a n g (passing p ns) fs d h = never d
+  aims : (s : ℕ) → After doc s → (n : ℕ) (g : ℕ → Brief) (f : Frame) (fs : List Frame) → TakesDocs f → Frames doc n g (f ∷ fs) → Aims doc n g (captures s (row_of f))
+  aims s a n g (element k m r) fs d h = (h.0, rw h.1 (not-true (eqb k 6) d.1), a)
+  aims s a n g (definition e) fs d h = (h.0, rw h.1 (not-true (eqb e.kind 6) d.1), a)
+  aims s a n g (passing p ns) fs d h = absurd d.0
 
   starts : (t : Tag) → Starts doc t → steps.Starts whole doc held held held t
   starts t g = record {
     closes = closes;
-    moves = λ fs u h. h;
-    row = λ k r fs u c b n e h. row_holds k t r fs u.rows b (entry k r fs u b e) (at_tag doc t k fs r g.opens n (entry k r fs u b e)) h;
+    moves = λ f fs u c h. h;
+    row = λ k r fs u c b n e d h. row_holds k t r fs u.rows b (entry k r fs u b e) (at_tag doc t k fs r g.opens n (entry k r fs u b e)) h;
     own_row = λ k r fs u c b n e h. row_holds k t r fs u.rows b (entry k r fs u b e) (at_tag doc t k fs r g.opens n (entry k r fs u b e)) h;
     refusal = λ k p x e. tt;
     deep = tt;
-    warning = λ fs u c h. h;
-    skips = λ fs u h. record { fine = h.fine; docs = h.docs; tags = h.tags; frames = (tt, h.frames) };
-    docstring = λ f fs u d h. record {
+    warning = λ f fs u c h. h;
+    skips = λ f fs u c r h. record { fine = h.fine; docs = h.docs; tags = h.tags; frames = (tt, h.frames) };
+    docstring = λ f fs u c d h. record {
       fine = h.fine;
       docs = h.docs;
       tags = h.tags;
       frames = (aims t.after g.after (length u.rows) (row_at u.rows) f fs d h.frames, h.frames);
     };
-    within = λ p ns fs u h. record { fine = h.fine; docs = h.docs; tags = h.tags; frames = h.frames };
+    within = λ p ns fs u c d h. record { fine = h.fine; docs = h.docs; tags = h.tags; frames = h.frames };
   }
     where
       entry : (k : ℕ) (r : Row Shown) (fs : List Frame) (u : Tables Shown) → Begins (length u.rows) k fs → opens_as whole k (parent_of fs) t ≡ opens r → Entry k (parent_of fs) t r
@@ -214,4 +212,4 @@ module _ (doc : List ℕ) (formed : ill_formed doc ≡ length doc) where
   pub accepts_holds : {u : Tables Shown} → Accepts doc u → Holds [] u.rows
   accepts_holds a =
       rw a.reads at
-      (run_kept doc held ways (λ h. record { fine = λ i l. absurd (omega arith); docs = tt; tags = λ i l. absurd (omega arith); frames = λ i l. absurd (omega arith) }) (λ u h. h) tt)
+      (run_kept doc held ways (λ h. record { fine = λ i l. absurd (omega arith); docs = tt; tags = λ i l. absurd (omega arith); frames = λ i l. absurd (omega arith) }) tt)

@@ -1,7 +1,6 @@
 -- What the tokens of a document say of it: a start tag begins with `<` and its name; its raw values stand in the document, between
 -- quotes, and show their texts; it ends with `>`. A closing tag begins with `</` and its name. A fault is of an attribute's name that
 -- stands after white space, of a reference with its `;`, or of the markup.
--- Assumes nothing.
 use Prim.Native.Nat.{ℕ, zero, suc, ◌+◌, ◌-◌, ◌≤◌, ◌<◌}
 use mathlib.Core.Path.{◌≡◌, refl, ap, sym, ◌∙◌}
 use mathlib.Core.List.{List, [], ◌∷◌, ◌++◌}
@@ -15,6 +14,7 @@ use Rattle.std.specs.Prelude.{Result, Ok, Err}
 use Rattle.faults.specs.declared.Fault.{Fault}
 use Rattle.slices.specs.Bytes.{other, span, past, empty}
 use Rattle.slices.proofs.Runs.{Stops}
+use Rattle.slices.proofs.Ends.{not_empty}
 use Rattle.scan.specs.Classes.{white, name_byte}
 use Rattle.scan.proofs.Class.{white_small}
 use Rattle.scan.specs.Ignorable.{quote, markup, further, ignorable_from, ignorable}
@@ -27,7 +27,7 @@ use Rattle.document.specs.Tags as tags
 use Rattle.document.specs.Tokens.{Tag, Token, start, close, fault, end, Next, more, last, slash_end, tag_end, with_shown, with_attrs, opening, close_end, closing, tag, tag_or_end, past_ignorable, next, joined, tokens_from, tokens}
 use Rattle.document.specs.Elements.{among}
 use Rattle.document.proofs.Tests.{either, among_all}
-use Rattle.document.proofs.Branches.{span_past, not_empty, run-byte, run_first}
+use Rattle.document.proofs.Branches.{span_past, run-byte, run_first}
 use Rattle.document.proofs.Ignorables.{Scanned, ignorable_within}
 use Rattle.document.proofs.Unescapes.{Bad, Referring, Faulty, unended, misreferred, Told, unescape_told}
 use Rattle.document.proofs.Places.{past_begins, next-left, byte_left, past_left, span_left}

@@ -1,5 +1,4 @@
 -- The triples of a row's words, and what they show.
--- Assumes nothing.
 use Prim.Native.Nat.{ℕ, ◌+◌, ◌≤◌}
 use mathlib.Core.Path.{◌≡◌, refl, sym, ap, ◌∙◌}
 use mathlib.Core.List.{List, [], ◌∷◌, ◌++◌, append_assoc}
@@ -15,7 +14,7 @@ use Rattle.tables.specs.declared.Triple.{Triple}
 use Rattle.answers.specs.Text.{text}
 use Rattle.references.specs.Unescape.{plain}
 use Rattle.document.specs.Tags.{Shown}
-use Rattle.document.specs.Rows.{Doc, Row, text_of, triple, doc_triple, row_text, row_words_lem}
+use Rattle.document.specs.Rows.{Doc, Row, text_of, triple, doc_triple, row_text, row_words}
 use Rattle.references.proofs.Shapes.{unescape_plain}
 use Rattle.items.specs.Words.{RowWords, row_of, absent, shown_by, docstring_by, viewed}
 use Rattle.items.specs.View.{over, view_row, text_shown}
@@ -67,9 +66,9 @@ words_of n r = record {
   at = r.at;
 }
 
-pub row_words : (n : ℕ) (r : Row Shown) (rest : List ℕ) → row_of (row_words_lem n r ++ rest) ≡ words_of n r
-unfolding row_words_lem
-row_words n r rest =
+pub row_of_words : (n : ℕ) (r : Row Shown) (rest : List ℕ) → row_of (row_words n r ++ rest) ≡ words_of n r
+unfolding row_words
+row_of_words n r rest =
     rw (triple_words n r.name, triple_words (n + length (text_of r.name)) r.value, triple_words (n + length (text_of r.name) + length (text_of r.value)) r.tp, doc_words r.doc)
 
 -- ---- where a text stands

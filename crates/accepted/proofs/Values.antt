@@ -1,12 +1,11 @@
 -- The values that rows keep stand in the document: every step keeps that.
--- Assumes nothing.
 use Prim.Native.Nat.{ℕ, zero, suc}
 use mathlib.Core.Path.{◌≡◌}
 use mathlib.Core.List.{List, [], ◌∷◌, ◌++◌}
 use mathlib.Core.Option.{Option, none, some}
 use lib.ListN.{take}
 use Rattle.slices.specs.Bytes.{same}
-use Rattle.document.specs.Tags.{Shown, lookup, is_tp_type_lem, tp_type}
+use Rattle.document.specs.Tags.{Shown, lookup, is_tp_type, tp_type}
 use Rattle.document.specs.Tokens.{Tag, Token, start, close, fault, end}
 use Rattle.document.specs.Rows.{Doc, Row, Tables, documented}
 use Rattle.document.specs.Elements.{Opened, opens, refuses, kept, opens_as}
@@ -55,7 +54,7 @@ module _ (doc : List ℕ) where
 
   tp_held : (xs : List Shown) → AllHeld doc xs → HeldIn doc (tp_type xs)
   tp_held [] h = tt
-  tp_held (s ∷ xs) h = either (HeldIn doc) (is_tp_type_lem s.attr.name) (λ c. h.0) (λ c. tp_held xs h.1)
+  tp_held (s ∷ xs) h = either (HeldIn doc) (is_tp_type s.attr.name) (λ c. h.0) (λ c. tp_held xs h.1)
 
   kept_held : (o : Option Shown) → HeldIn doc o → HeldIn doc (kept whole o)
   kept_held none h = tt
@@ -92,21 +91,21 @@ module _ (doc : List ℕ) where
   ways : (t : Token) → Comes doc t → Ways whole doc held held held t
   ways (start t) g = record {
     closes = closes;
-    moves = λ fs u h. h;
-    row = λ k r fs u c b n e h. row_held t g k (parent_of fs) r u.rows e h;
+    moves = λ f fs u c h. h;
+    row = λ k r fs u c b n e d h. row_held t g k (parent_of fs) r u.rows e h;
     own_row = λ k r fs u c b n e h. row_held t g k (parent_of fs) r u.rows e h;
     refusal = λ k p x e. tt;
     deep = tt;
-    warning = λ fs u c h. h;
-    skips = λ fs u h. h;
-    docstring = λ f fs u d h. h;
-    within = λ p ns fs u h. h;
+    warning = λ f fs u c h. h;
+    skips = λ f fs u c r h. h;
+    docstring = λ f fs u c d h. h;
+    within = λ p ns fs u c d h. h;
   }
   ways (close lt n q) g = record {
     closes = closes;
-    passed = λ p ns fs u h. h;
-    docstring = λ s r ns fs u h. rows_documented r _ u.rows h;
-    within = λ p n ns fs u h. h;
+    passed = λ p ns fs u l h. h;
+    docstring = λ s r ns fs u l e h. rows_documented r _ u.rows h;
+    within = λ p n ns fs u l e h. h;
     another = λ f fs u h. tt;
     none = tt;
   }
@@ -114,4 +113,4 @@ module _ (doc : List ℕ) where
   ways (end p) g = (tt, λ f fs u h. tt)
 
   pub accepts_held : {u : Tables Shown} → Accepts doc u → RowsHeld doc u.rows
-  accepts_held a = rw a.reads at (run_kept doc held ways (λ h. tt) (λ u h. h) tt)
+  accepts_held a = rw a.reads at (run_kept doc held ways (λ h. tt) tt)

@@ -1,3 +1,2 @@
 -- What is said of the tables that the reader leaves.
--- Assumes nothing.
 pub mod Tables

@@ -1,13 +1,48 @@
--- What is said of the tables that the reader leaves, in the record that the contract of `reader::parse_with_warnings` cites.
--- Assumes nothing.
-use Rattle.std.specs.Prelude.{ℕ, suc, ◌<◌, ◌≡◌, List, false, drop, get_or, Ok}
+-- What is said of the tables of a document that is accepted: of what it means, of what is left of it in the room lent, and of any
+-- tables in the record that the contract of `reader::parse_with_warnings` cites.
+use Rattle.std.specs.Prelude.{ℕ, suc, ◌<◌, ◌≡◌, List, ◌++◌, map, false, length, drop, get_or, Ok}
 use Rattle.slices.specs.Bytes.{span, empty}
 use Rattle.scan.specs.Classes.{name_byte}
+use Rattle.document.specs.Tags.{Shown}
+use Rattle.document.specs.Rows.{Tables, words_from, texts}
 use Rattle.document.specs.Elements.{kind_of}
-use Rattle.document.specs.Whole.{Room, Says}
+use Rattle.document.specs.Reading.{accepted}
+use Rattle.document.specs.Whole.{Room, meaning, read, rows_left, text_left, Says}
 use Rattle.document.specs.Verdict.{counts}
-use Rattle.items.specs.Words.{word_at}
+use Rattle.items.specs.Words.{word_at, rows_shown}
+use Rattle.items.specs.View.{view_row, text_shown}
+use Rattle.items.specs.Sound.{sound, soundness}
 use Rattle.items.specs.Order.{InOrder, DocumentOrder}
+
+-- the words and the texts of the rows that a document means, whatever stands after them, show these rows
+abbrev pub WordsShown : Type 0
+WordsShown =
+    (doc : List ℕ) (t : Tables Shown) →
+    meaning doc ≡ accepted t →
+    (y z : List ℕ) →
+    rows_shown doc (texts t.rows ++ y) (words_from 0 t.rows ++ z) (length t.rows) ≡ map (view_row text_shown) t.rows
+
+-- and are sound
+abbrev pub TablesSound : Type 0
+TablesSound =
+    (doc : List ℕ) (t : Tables Shown) →
+    meaning doc ≡ accepted t →
+    (y z : List ℕ) →
+    soundness doc (texts t.rows ++ y) (words_from 0 t.rows ++ z) (length t.rows) ≡ sound
+
+-- what is left of them in the room lent shows the rows that were read
+abbrev pub LeftShown : Type 0
+LeftShown =
+    (doc : List ℕ) (r : Room) (t : Tables Shown) →
+    read doc r ≡ accepted t →
+    rows_shown doc (text_left r (read doc r)) (rows_left r (read doc r)) (length t.rows) ≡ map (view_row text_shown) t.rows
+
+-- and is sound
+abbrev pub LeftSound : Type 0
+LeftSound =
+    (doc : List ℕ) (r : Room) (t : Tables Shown) →
+    read doc r ≡ accepted t →
+    soundness doc (text_left r (read doc r)) (rows_left r (read doc r)) (length t.rows) ≡ sound
 
 -- the n rows of a document that is accepted are in document order: each row's parent is the row before it, or above that
 abbrev pub RowsInDocumentOrder : Type 0

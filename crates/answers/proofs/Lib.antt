@@ -1,4 +1,3 @@
 -- The laws on texts put into a lent buffer.
--- Assumes nothing.
 pub mod Putting
 pub mod Answers

@@ -1,5 +1,4 @@
 -- What putting bytes at a count into a lent buffer says.
--- Assumes nothing.
 use Rattle.std.specs.Prelude.{ℕ, ◌+◌, ◌≡◌, List, ◌++◌, length}
 use Rattle.tables.specs.Table.{Rep}
 

@@ -1,5 +1,4 @@
 -- A text or a fault: what is answered of it, and how the buffer that was lent for it is left.
--- Assumes nothing.
 use Rattle.std.specs.Prelude.{ℕ, ◌-◌, ◌≡◌, List, ◌++◌, ltb, length, replicate, Result, Ok, Err}
 use Rattle.slices.specs.Bytes.{if}
 use Rattle.tables.specs.Table.{Rep}

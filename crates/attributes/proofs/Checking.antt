@@ -1,5 +1,4 @@
 -- The check of the attributes, one by one.
--- Assumes nothing.
 use Prim.Native.Nat.{ℕ, suc, ◌+◌, ◌≤◌, ◌<◌}
 use mathlib.Core.Path.{◌≡◌, refl, sym, ap, ◌∙◌}
 use mathlib.Core.List.{List, [], ◌∷◌, ◌++◌, map, map-append, append_assoc}
@@ -9,7 +8,7 @@ use borrow.Author.Rules.{rules}
 use borrow.Author.Tests.{le-leb}
 use native.Mathlib.Numerals.{add-one}
 use native.Mathlib.Omega.{arith}
-use lib.ListN.{length, take, drop, get_or, drop_of_length-le}
+use lib.ListN.{length, take, drop, get_or}
 use lib.Seq.{drop-cons, length-take-le, get_or-take, take-suc}
 use Rattle.std.specs.Prelude.{Result, Ok, Err}
 use Rattle.slices.specs.Bytes.{if, all, same}
@@ -117,22 +116,8 @@ module _ {doc : List ℕ} {a : Attribute} (f : Fit doc 0 (length doc) a) where
 
 pub ruleset weighs = (weigh_room, weigh_duplicate, weigh_plain, weigh_reference, rules)
 
--- how many before it
-module _ (i : ℕ) {t : Bool} where
-  pub among_all : t ≡ true → i ≡ among t i
-  among_all e = rw e
-
-  pub among_none : t ≡ false → 0 ≡ among t i
-  among_none e = rw e
-
-pub ruleset counts = (among_all, among_none, rules)
-
 -- after those before it
 module _ {doc : List ℕ} {xs : List Attribute} {i : ℕ} (h : i < length xs) (g : Checkable doc xs) where
-  -- what `weigh` asks
-  pub judge_asks : Fit doc 0 (length doc) (get_or xs i blank) × (length doc ≤ 1048576)
-  judge_asks = (g.fitted.rule i (omega arith), g.small)
-
   pub judge_is : {m : ℕ} {v : Value} {r : Result (Unit {0}) Fault} → m ≡ among (get_or xs i blank).twin i → Picks (name_is (keyed (attr_of doc (get_or xs i blank)).name) doc) (take m xs) v → Weighs doc (get_or xs i blank) v r → Judges doc xs i r
   unfolding value_in first_by
   judge_is {m} {v} {r} e p w = record { is = rw (← seen (get_or xs i blank).twin refl (rw e at p)) w.is }
@@ -168,16 +153,10 @@ pub onto_none : (c : Checked) → onto [] c ≡ c
 onto_none (good s) = refl
 onto_none (fault k p) = refl
 
-pub check_begins : {doc : List ℕ} {xs : List Attribute} → Checking doc xs 0
-check_begins {doc} {xs} = record { shown = []; left = sym (onto_none (check [] (map (attr_of doc) xs))) }
-
 attrs_more : (doc : List ℕ) (xs : List Attribute) (i : ℕ) → i < length xs → attrs_of doc xs (suc i) ≡ attrs_of doc xs i ++ attr_of doc (get_or xs i blank) ∷ []
 attrs_more doc xs i h = rw (take-suc xs i blank h) (map-append (attr_of doc) (take i xs) (get_or xs i blank ∷ []))
 
 module _ {doc : List ℕ} {xs : List Attribute} {i : ℕ} (g : Checking doc xs i) where
-  pub check_ends : length xs ≤ i → Checks doc xs (Ok tt)
-  check_ends h = record { is = (g.shown ++ [], g.left ∙ rw (drop_of_length-le xs h)) }
-
   module _ (h : i < length xs) where
     -- the check of the one in hand
     here : check [] (map (attr_of doc) xs) ≡ onto g.shown (check (back (attrs_of doc xs i) []) (attr_of doc (get_or xs i blank) ∷ map (attr_of doc) (drop (suc i) xs)))

@@ -1,5 +1,4 @@
 -- The classes of names.
--- Assumes nothing.
 use Prim.Native.Nat.{ℕ, ◌<◌}
 use mathlib.Core.Path.{◌≡◌, refl, sym, subst, ◌∙◌}
 use mathlib.Core.List.{List}
@@ -11,7 +10,7 @@ use lib.Dec.{eqb}
 use Rattle.std.proofs.lemmas.Slice.Eq.{text_from_reads}
 use Rattle.slices.specs.Bytes.{if, bytes, same}
 use Rattle.slices.proofs.Runs.{same_equal, Differs, differing}
-use Rattle.document.specs.Tags.{is_tp_type_lem}
+use Rattle.document.specs.Tags.{is_tp_type}
 use Rattle.attributes.specs.Slots.{class_of}
 
 -- a name is the key, or another
@@ -30,16 +29,16 @@ pub record Classed (n : List ℕ) : Type 0 where
   pub access : same n (bytes "access") ≡ eqb (class_of n) 3
   pub direction : same n (bytes "direction") ≡ eqb (class_of n) 4
   pub suffix : same n (bytes "suffix") ≡ eqb (class_of n) 5
-  pub tp : is_tp_type_lem n ≡ eqb (class_of n) 6
+  pub tp : is_tp_type n ≡ eqb (class_of n) 6
   pub below : class_of n < 8
 
 -- none of the six
 module _ (n : List ℕ) (a : same n (bytes "name") ≡ false) (b : same n (bytes "type") ≡ false) (c : same n (bytes "value") ≡ false) (d : same n (bytes "access") ≡ false) (e : same n (bytes "direction") ≡ false) (f : same n (bytes "suffix") ≡ false) where
-  other_class : (t : Bool) → is_tp_type_lem n ≡ t → class_of n ≡ if t 6 7
+  other_class : (t : Bool) → is_tp_type n ≡ t → class_of n ≡ if t 6 7
   unfolding class_of
   other_class t p = rw (p, a, b, c, d, e, f)
 
-  other_classed : (t : Bool) → is_tp_type_lem n ≡ t → Classed n
+  other_classed : (t : Bool) → is_tp_type n ≡ t → Classed n
   other_classed true p =
       let k = other_class true p in
       record { name = a ∙ rw k; ty = b ∙ rw k; value = c ∙ rw k; access = d ∙ rw k; direction = e ∙ rw k; suffix = f ∙ rw k; tp = p ∙ rw k; below = omega (arith, k) }
@@ -56,11 +55,11 @@ classed n =
     by_key Classed n (bytes "access") (record { name = refl; ty = refl; value = refl; access = refl; direction = refl; suffix = refl; tp = refl; below = omega arith }) (λ d.
     by_key Classed n (bytes "direction") (record { name = refl; ty = refl; value = refl; access = refl; direction = refl; suffix = refl; tp = refl; below = omega arith }) (λ e.
     by_key Classed n (bytes "suffix") (record { name = refl; ty = refl; value = refl; access = refl; direction = refl; suffix = refl; tp = refl; below = omega arith }) (λ f.
-    other_classed n a b c d e f (is_tp_type_lem n) refl))))))
+    other_classed n a b c d e f (is_tp_type n) refl))))))
 
 -- ---- the class of a name, by what it is and is not
 
-module _ (n : List ℕ) {t : Bool} (p : t ≡ is_tp_type_lem n) where
+module _ (n : List ℕ) {t : Bool} (p : t ≡ is_tp_type n) where
   pub class_tp : t ≡ true → 6 ≡ class_of n
   class_tp e = sym (eqb-true (class_of n) 6 (sym (classed n).tp ∙ sym p ∙ e))
 

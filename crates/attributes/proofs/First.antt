@@ -1,5 +1,4 @@
 -- The first attribute that is asked for, and its value.
--- Assumes nothing.
 use Prim.Native.Nat.{ℕ, ◌+◌, ◌≤◌, ◌<◌}
 use mathlib.Core.Path.{◌≡◌, refl, sym, ap, ◌∙◌}
 use mathlib.Core.List.{List}
@@ -12,7 +11,7 @@ use lib.Seq.{drop-cons}
 use Rattle.slices.specs.Bytes.{bytes}
 use Rattle.document.specs.declared.Form.{Form}
 use Rattle.document.specs.declared.Value.{Value}
-use Rattle.attributes.specs.Lookup.{name_is, keyed, is_tp_lem, first_by, value_of, value_in, values_in, Picks, PicksAll}
+use Rattle.attributes.specs.Lookup.{name_is, keyed, is_tp, first_by, value_of, value_in, values_in, Picks, PicksAll}
 use Rattle.attributes.specs.declared.Attribute.{Attribute}
 
 -- ---- a loop: the first that is asked for is the first of those from a place on
@@ -50,6 +49,6 @@ abbrev named : List ℕ → List ℕ → Attribute → Bool
 named key doc a = name_is (keyed key) doc a
 
 module _ {doc : List ℕ} {xs : List Attribute} where
-  pub all_values : {a b c d e f g : Value} → Picks (named (bytes "name") doc) xs a → Picks (named (bytes "type") doc) xs b → Picks (named (bytes "value") doc) xs c → Picks (named (bytes "access") doc) xs d → Picks (named (bytes "direction") doc) xs e → Picks (named (bytes "suffix") doc) xs f → Picks is_tp_lem xs g → PicksAll doc xs (record { name = a; ty = b; value = c; access = d; direction = e; suffix = f; tp = g })
+  pub all_values : {a b c d e f g : Value} → Picks (named (bytes "name") doc) xs a → Picks (named (bytes "type") doc) xs b → Picks (named (bytes "value") doc) xs c → Picks (named (bytes "access") doc) xs d → Picks (named (bytes "direction") doc) xs e → Picks (named (bytes "suffix") doc) xs f → Picks is_tp xs g → PicksAll doc xs (record { name = a; ty = b; value = c; access = d; direction = e; suffix = f; tp = g })
   unfolding values_in
   all_values a b c d e f g = record { is = rw (a.is, b.is, c.is, d.is, e.is, f.is, g.is) }

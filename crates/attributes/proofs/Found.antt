@@ -1,5 +1,4 @@
 -- One attribute at a place: the end of its value, and the ways of looking for it.
--- Assumes nothing.
 use Prim.Native.Nat.{ℕ, suc, ◌+◌, ◌-◌, ◌≤◌, ◌<◌}
 use mathlib.Core.Path.{◌≡◌, refl, sym, ◌∙◌}
 use mathlib.Core.List.{List, []}
@@ -20,7 +19,7 @@ use Rattle.scan.specs.Classes.{white, name_byte}
 use Rattle.scan.specs.Ignorable.{quote}
 use Rattle.references.specs.Unescape.{special}
 use Rattle.document.specs.declared.Form.{Form}
-use Rattle.document.specs.Tags.{Found as Finding, attribute, equals, open_quote, is_tp_type_lem}
+use Rattle.document.specs.Tags.{Found as Finding, attribute, equals, open_quote, is_tp_type}
 use Rattle.attributes.specs.One.{part, form_from, Fit, Quotes, Named, Finds}
 use Rattle.attributes.specs.declared.Attribute.{Attribute}
 use Rattle.attributes.specs.declared.ValueEnd.{ValueEnd}
@@ -173,7 +172,7 @@ module _ {doc : List ℕ} {from name : ℕ} (w : Run white doc from name) where
       pub attribute_found : {r : Option Located} → Finds (equals name (part doc name (end - name))) doc at r → Finds attribute doc from r
       attribute_found {r} c = carries r (omega (arith, w.onward, n.onward, v.onward)) attribute_equals c
 
-pub named_before : {doc : List ℕ} {from name end at : ℕ} {tp : Bool} → length doc ≤ 1048576 → Run white doc from name → Run name_byte doc name end → Run white doc end at → tp ≡ is_tp_type_lem (part doc name (end - name)) → Named doc name (end - name) tp at
+pub named_before : {doc : List ℕ} {from name end at : ℕ} {tp : Bool} → length doc ≤ 1048576 → Run white doc from name → Run name_byte doc name end → Run white doc end at → tp ≡ is_tp_type (part doc name (end - name)) → Named doc name (end - name) tp at
 named_before s w n v e = record { small = s; inside = v.within; before = omega (arith, n.onward, v.onward); type = e }
 
 pub ruleset finds = (equals_ended, equals_other, equals_found, named_on, none_spaced, none_named, attribute_found, named_before, rules)

@@ -1,5 +1,4 @@
--- The attributes of a tag, gathered; the whole answer.
--- Assumes nothing.
+-- The attributes of a tag, gathered.
 use Prim.Native.Nat.{ℕ, zero, suc, ◌+◌, ◌-◌, ◌≤◌, ◌<◌}
 use mathlib.Core.Path.{◌≡◌, refl, sym, ap, ◌∙◌}
 use mathlib.Core.Bool.{Bool, true, false}
@@ -12,10 +11,9 @@ use lib.Seq.{length-take-le, get_or-take, take-take, take-suc-set, take-set-le, 
 use native.Mathlib.Decide.{dec_lt}
 use Rattle.std.specs.Prelude.{Result, Ok, Option, Some, None, Err}
 use Rattle.document.specs.Tags.{Attr, absent, attribute, Gathered, gathered, too_many, with, gather}
-use Rattle.document.specs.declared.Values.{Values}
 use Rattle.attributes.specs.One.{attr_of, Fit, Finds}
-use Rattle.attributes.specs.Lookup.{blank, PicksAll}
-use Rattle.attributes.specs.Outcome.{Fitted, Fresh, Checkable, attrs_of, listed, Checks, Finishes, Gathers}
+use Rattle.attributes.specs.Lookup.{blank}
+use Rattle.attributes.specs.Outcome.{Fitted, Fresh, Checkable, attrs_of, listed, Finishes, Gathers}
 use Rattle.attributes.specs.Twins.{mark}
 use Rattle.attributes.specs.declared.Attribute.{Attribute}
 use Rattle.attributes.proofs.Found.{fit_wide}
@@ -23,12 +21,6 @@ use Rattle.attributes.proofs.Picked.{values_fit, values_are}
 use Rattle.faults.specs.declared.Fault.{Fault}
 use Rattle.attributes.specs.declared.Located.{Located}
 use Rattle.attributes.specs.declared.TagValues.{TagValues}
-
--- ---- the end: the check, and the values
-
-module _ {doc : List ℕ} {xs : List Attribute} {at : ℕ} {v : Result (Unit {0}) Fault} (c : Checks doc xs v) where
-  pub finish_all : {w : Values} → v ≡ (Ok tt) → PicksAll doc xs w → Finishes doc xs at (Ok (record { end = at; values = w }))
-  finish_all e g = let d = (rw e at c).is in record { is = (d.0, d.1, refl, g.is) }
 
 -- ---- the loop
 

@@ -1,5 +1,4 @@
 -- Names that are a key, or that of a tp type.
--- Assumes nothing.
 use Prim.Native.Nat.{ℕ, suc, ◌+◌, ◌-◌, ◌≤◌, ◌<◌, ◌^◌}
 use mathlib.Core.Path.{◌≡◌, sym, ◌∙◌}
 use mathlib.Core.List.{List}
@@ -20,7 +19,7 @@ use Rattle.scan.specs.Colons.{Scanned}
 use Rattle.scan.specs.declared.Colons.{Colons}
 use Rattle.scan.specs.declared.Name.{Name}
 use Rattle.scan.proofs.Prefixes.{Within, colons_within, name_from}
-use Rattle.document.specs.Tags.{is_tp_type_lem}
+use Rattle.document.specs.Tags.{is_tp_type}
 use Rattle.document.specs.Prefixes.{tp_type_by}
 use Rattle.document.proofs.Prefixes.{tp_type}
 use Rattle.attributes.specs.Lookup.{part_is, keyed}
@@ -56,10 +55,10 @@ first_within : (p e : ℕ) (c : Option Colons) {q : Colons} → Within p e c →
 first_within p e c {q} w h = let v : Within p e (Some q) = rw h at w in (v.0, omega (arith, v.1, v.2))
 
 module _ {doc : List ℕ} {at : ℕ} {name : Name} (g : Scanned doc at name) where
-  by_colons : is_tp_type_lem (take (name.end - at) (drop at doc)) ≡ tp_type_by (span name_byte (drop at doc)) at name.colons
+  by_colons : is_tp_type (take (name.end - at) (drop at doc)) ≡ tp_type_by (span name_byte (drop at doc)) at name.colons
   by_colons = rw (← run_span g.run, g.colons) (tp_type (span name_byte (drop at doc)) at)
 
-  pub tp_none : name.colons ≡ None → false ≡ is_tp_type_lem (take (name.end - at) (drop at doc))
+  pub tp_none : name.colons ≡ None → false ≡ is_tp_type (take (name.end - at) (drop at doc))
   tp_none e = sym (by_colons ∙ rw e)
 
   module _ {q : Colons} (e : name.colons ≡ Some q) where
@@ -74,13 +73,13 @@ module _ {doc : List ℕ} {at : ℕ} {name : Name} (g : Scanned doc at name) whe
     pub tp_inside : q.first + 1 ≤ name.end
     tp_inside = omega (arith, inside.1)
 
-    pub tp_first : q.first ≡ at → false ≡ is_tp_type_lem (take (name.end - at) (drop at doc))
+    pub tp_first : q.first ≡ at → false ≡ is_tp_type (take (name.end - at) (drop at doc))
     tp_first f = sym (by_colons ∙ rw (e, eq-eqb q.first at f))
 
-    pub tp_rest : (q.first ≡ at → ⊥) → {r : Bool} → r ≡ same (take (name.end - (q.first + 1)) (drop (q.first + 1) doc)) (bytes "type") → r ≡ is_tp_type_lem (take (name.end - at) (drop at doc))
+    pub tp_rest : (q.first ≡ at → ⊥) → {r : Bool} → r ≡ same (take (name.end - (q.first + 1)) (drop (q.first + 1) doc)) (bytes "type") → r ≡ is_tp_type (take (name.end - at) (drop at doc))
     tp_rest f {r} h =
         let d : take (name.end - (q.first + 1)) (drop (q.first + 1) doc) ≡ drop (suc q.first - at) (span name_byte (drop at doc)) = name_from g (omega (arith, inside.0)) (omega (arith, inside.1)) ∙ rw add-one in
         h ∙ rw d (sym (by_colons ∙ rw (e, ne_eqb q.first at f)))
 
--- what answers every need of `is_tp_type`
+-- what answers every need of `is_tp_type_at`
 pub ruleset prefixes = (tp_none, tp_small, tp_inside, tp_first, tp_rest, rules)

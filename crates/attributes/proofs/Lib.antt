@@ -1,5 +1,4 @@
 -- The laws on attributes.
--- Assumes nothing.
 pub mod Found
 pub mod Keys
 pub mod First

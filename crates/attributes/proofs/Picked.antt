@@ -1,5 +1,4 @@
 -- The values of the first attributes: they are those of the definition's lookups, and they fit.
--- Assumes nothing.
 use Prim.Native.Nat.{ℕ, suc, ◌≤◌, ◌<◌}
 use mathlib.Core.Path.{◌≡◌, refl, sym, ap, ◌∙◌}
 use mathlib.Core.List.{List, [], ◌∷◌, map}
@@ -12,10 +11,10 @@ use Rattle.slices.specs.Bytes.{if, bytes}
 use Rattle.answers.specs.Text.{Text, text, wrong}
 use Rattle.references.specs.Unescape.{unescape}
 use Rattle.document.specs.declared.Form.{Form}
-use Rattle.document.specs.Tags.{Attr, Shown, Checked, good, fault, also, member, check, lookup, is_tp_type_lem, tp_type}
+use Rattle.document.specs.Tags.{Attr, Shown, Checked, good, fault, also, member, check, lookup, is_tp_type, tp_type}
 use Rattle.document.specs.Outcome.{Held, ValueIs, ValueFits, ValuesFit, ValuesAre}
 use Rattle.attributes.specs.One.{attr_of, form_from, Fit}
-use Rattle.attributes.specs.Lookup.{blank, name_is, keyed, is_tp_lem, first_by, value_of, value_in, values_in}
+use Rattle.attributes.specs.Lookup.{blank, name_is, keyed, is_tp, first_by, value_of, value_in, values_in}
 use Rattle.attributes.specs.Outcome.{Fitted, attrs_of}
 use Rattle.attributes.specs.declared.Attribute.{Attribute}
 use Rattle.attributes.proofs.Checking.{name_within}
@@ -30,7 +29,7 @@ lookup_shown : (key : List ℕ) (ss : List Shown) → lookup key ss ≡ shown_by
 lookup_shown key [] = refl
 lookup_shown key (s ∷ ss) = rw (lookup_shown key ss)
 
-tp_shown : (ss : List Shown) → tp_type ss ≡ shown_by is_tp_type_lem ss
+tp_shown : (ss : List Shown) → tp_type ss ≡ shown_by is_tp_type ss
 tp_shown [] = refl
 tp_shown (s ∷ ss) = rw (tp_shown ss)
 
@@ -113,7 +112,7 @@ module _ {doc : List ℕ} {from to : ℕ} {xs : List Attribute} {n : ℕ} (g : F
     access = fits_one (name_is (keyed (bytes "access")) doc) h;
     direction = fits_one (name_is (keyed (bytes "direction")) doc) h;
     suffix = fits_one (name_is (keyed (bytes "suffix")) doc) h;
-    tp = fits_one is_tp_lem h;
+    tp = fits_one is_tp h;
   }
 
   module _ {ss : List Shown} (c : check [] (attrs_of doc xs n) ≡ good ss) where
@@ -132,5 +131,5 @@ module _ {doc : List ℕ} {from to : ℕ} {xs : List Attribute} {n : ℕ} (g : F
       access = is_keyed (bytes "access");
       direction = is_keyed (bytes "direction");
       suffix = is_keyed (bytes "suffix");
-      tp = rw tp_shown (is_one is_tp_lem is_tp_type_lem (λ y f. f.tp));
+      tp = rw tp_shown (is_one is_tp is_tp_type (λ y f. f.tp));
     }

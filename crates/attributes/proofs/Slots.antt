@@ -1,5 +1,4 @@
 -- The slots of the usual tag: one value for each class, and no two names of a class.
--- Assumes nothing.
 use Prim.Native.Nat.{ℕ, zero, suc, ◌+◌, ◌-◌, ◌≤◌, ◌<◌}
 use mathlib.Core.Path.{◌≡◌, refl, sym, ap, ◌∙◌}
 use mathlib.Core.List.{List, [], ◌∷◌, ◌++◌, map, map-append, append_assoc, append-nil}
@@ -21,10 +20,10 @@ use Rattle.references.specs.Unescape.{plain, unescape}
 use Rattle.references.proofs.Shapes.{unescape_plain}
 use Rattle.document.specs.declared.Form.{Form}
 use Rattle.document.specs.Outcome.{is_absent}
-use Rattle.document.specs.Tags.{Attr, Shown, absent, attribute, is_tp_type_lem, check}
+use Rattle.document.specs.Tags.{Attr, Shown, absent, attribute, is_tp_type, check}
 use Rattle.document.specs.declared.Value.{Value}
 use Rattle.attributes.specs.One.{part, attr_of, Fit, Finds}
-use Rattle.attributes.specs.Lookup.{blank, name_is, keyed, is_tp_lem, first_by, value_of, value_in, values_in}
+use Rattle.attributes.specs.Lookup.{blank, name_is, keyed, is_tp, first_by, value_of, value_in, values_in}
 use Rattle.attributes.specs.Outcome.{attrs_of, listed, there, Gathers}
 use Rattle.attributes.specs.Slots.{class_of, Opened, Plain}
 use Rattle.attributes.specs.declared.Attribute.{Attribute}
@@ -131,9 +130,6 @@ module _ {doc : List ℕ} {at : ℕ} {s : Start} (g : Opened doc at s) where
   pub slot_within : s.value ≤ length doc
   slot_within = g.within
 
-  pub slot_after : at < s.value
-  slot_after = g.onward
-
   pub slot_low : s.quote ≤ 39
   slot_low = g.low
 
@@ -146,7 +142,7 @@ module _ {doc : List ℕ} {at : ℕ} {s : Start} (g : Opened doc at s) where
       value = s.value;
       value_len = end - s.value;
       form = Form.Plain;
-      tp = is_tp_type_lem (part doc g.name g.len);
+      tp = is_tp_type (part doc g.name g.len);
       twin = true;
     }
 
@@ -220,10 +216,10 @@ module _ {doc : List ℕ} {from : ℕ} {slots : List Value} {at : ℕ} (g : Slot
       g.each k b
       ∙ value_same (of_class doc k) (name_is (keyed key) doc) doc from at (λ y f. sym (name_within (keyed key) doc y (omega (arith, f.name, g.so.inside)) ∙ h (attr_of doc y).name)) (take g.n g.xs) fits
 
-  by_type : get_or slots 6 no_value ≡ value_in is_tp_lem (take g.n g.xs)
+  by_type : get_or slots 6 no_value ≡ value_in is_tp (take g.n g.xs)
   by_type =
       g.each 6 (omega arith)
-      ∙ value_same (of_class doc 6) is_tp_lem doc from at (λ y f. sym (f.tp ∙ (classed (attr_of doc y).name).tp)) (take g.n g.xs) fits
+      ∙ value_same (of_class doc 6) is_tp doc from at (λ y f. sym (f.tp ∙ (classed (attr_of doc y).name).tp)) (take g.n g.xs) fits
 
   pub slots_end : attribute (drop at doc) at ≡ absent → Gathers doc from (Ok (record { end = at; values = record { name = get_or slots 0 no_value; ty = get_or slots 1 no_value; value = get_or slots 2 no_value; access = get_or slots 3 no_value; direction = get_or slots 4 no_value; suffix = get_or slots 5 no_value; tp = get_or slots 6 no_value } }))
   unfolding values_in

@@ -1,5 +1,4 @@
 -- What the functions on attributes say.
--- Assumes nothing.
 pub mod One
 pub mod Lookup
 pub mod Outcome

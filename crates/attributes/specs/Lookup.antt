@@ -1,5 +1,4 @@
 -- The first attribute of a kind, its value, and the values of a tag.
--- Assumes nothing.
 use Rattle.std.specs.Prelude.{ℕ, ◌+◌, ◌≡◌, List, [], ◌∷◌, Bool, true, false, ◌&&◌, leb, length}
 use Rattle.std.proofs.Math.Option.{Option, none, some}
 use Rattle.slices.specs.Bytes.{if, bytes, same}
@@ -28,8 +27,8 @@ abbrev pub keyed : List ℕ → List ℕ → Bool
 keyed key n = same n key
 
 -- the attribute is a tp type
-abbrev pub is_tp_lem : Attribute → Bool
-is_tp_lem a = a.tp
+abbrev pub is_tp : Attribute → Bool
+is_tp a = a.tp
 
 -- what is asked of an attribute, by its name's place and length and whether it is a tp type: the key, or the tp type
 abbrev pub wanted_at : Sought → List ℕ → ℕ → ℕ → Bool → Bool
@@ -61,7 +60,7 @@ values_in doc xs = record {
   access = value_in (name_is (keyed (bytes "access")) doc) xs;
   direction = value_in (name_is (keyed (bytes "direction")) doc) xs;
   suffix = value_in (name_is (keyed (bytes "suffix")) doc) xs;
-  tp = value_in is_tp_lem xs;
+  tp = value_in is_tp xs;
 }
 
 -- what a lookup in the attributes says

@@ -1,11 +1,10 @@
 -- One attribute: what the struct stands for, and what looking for one at a place says.
--- Assumes nothing.
 use Rattle.std.specs.Prelude.{ℕ, ◌+◌, ◌≤◌, ◌<◌, ◌≡◌, List, Bool, true, length, take, drop, Option, Some, None}
 use Rattle.slices.specs.Bytes.{if, other, span, all}
 use Rattle.slices.specs.Run.{Run}
 use Rattle.references.specs.Unescape.{plain}
 use Rattle.document.specs.declared.Form.{Form}
-use Rattle.document.specs.Tags.{Attr, Found, absent, found, is_tp_type_lem}
+use Rattle.document.specs.Tags.{Attr, Found, absent, found, is_tp_type}
 use Rattle.attributes.specs.declared.Attribute.{Attribute}
 use Rattle.attributes.specs.declared.ValueEnd.{ValueEnd}
 use Rattle.attributes.specs.declared.Located.{Located}
@@ -33,7 +32,7 @@ pub record Fit (doc : List ℕ) (from to : ℕ) (a : Attribute) : Type 0 where
   pub value : a.value + a.value_len ≤ to
   pub short : from + a.value_len ≤ to
   pub form : a.form ≡ form_from Form.Plain (part doc a.value a.value_len)
-  pub tp : a.tp ≡ is_tp_type_lem (part doc a.name a.name_len)
+  pub tp : a.tp ≡ is_tp_type (part doc a.name a.name_len)
 
 -- the end of a value that begins at a place, which a quote closes
 pub record Quotes (q : ℕ) (doc : List ℕ) (from : ℕ) (r : ValueEnd) : Type 0 where
@@ -46,7 +45,7 @@ pub record Named (doc : List ℕ) (name n : ℕ) (tp : Bool) (at : ℕ) : Type 0
   pub small : length doc ≤ 1048576
   pub inside : at ≤ length doc
   pub before : name + n ≤ at
-  pub type : tp ≡ is_tp_type_lem (part doc name n)
+  pub type : tp ≡ is_tp_type (part doc name n)
 
 abbrev pub Onward : List ℕ → ℕ → Option Located → Type 0
 Onward doc from None = Unit {0}

@@ -1,5 +1,4 @@
 -- What gathering and checking the attributes of a tag say.
--- Assumes nothing.
 use Rattle.std.specs.Prelude.{ℕ, ◌+◌, ◌≤◌, ◌<◌, ◌≡◌, List, [], ◌∷◌, map, Bool, true, false, not, length, take, drop, get_or, Result, Ok, Err}
 use Rattle.slices.specs.Bytes.{if, span, past, same}
 use Rattle.scan.specs.Classes.{white}

@@ -1,10 +1,9 @@
 -- The usual tag: the class of a name, which is the slot of its value, and the start of an attribute.
--- Assumes nothing.
 use Rattle.std.specs.Prelude.{ℕ, ◌+◌, ◌*◌, ◌≤◌, ◌<◌, ◌≡◌, List, true, length, drop, get_or}
 use Rattle.slices.specs.Bytes.{if, bytes, other, span, past, all, same}
 use Rattle.scan.specs.Classes.{name_byte}
 use Rattle.document.specs.declared.Form.{Form}
-use Rattle.document.specs.Tags.{Found, close_quote, attribute, is_tp_type_lem}
+use Rattle.document.specs.Tags.{Found, close_quote, attribute, is_tp_type}
 use Rattle.attributes.specs.One.{part, Quotes}
 use Rattle.attributes.specs.declared.Start.{Start}
 use Rattle.attributes.specs.declared.Known.{Known}
@@ -17,7 +16,7 @@ key_class n =
 
 -- the class of a name
 unfoldable pub class_of : List ℕ → ℕ
-class_of n = if (is_tp_type_lem n) 6 (key_class n)
+class_of n = if (is_tp_type n) 6 (key_class n)
 
 -- the attribute of a name whose value begins at p, after a quote q
 abbrev pub valued : ℕ → List ℕ → ℕ → List ℕ → ℕ → Found

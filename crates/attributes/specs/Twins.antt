@@ -1,5 +1,4 @@
 -- The entry of a name in a table: equal names have equal entries. An attribute with another mark.
--- Assumes nothing.
 use Rattle.std.specs.Prelude.{ℕ, ◌%◌, ◌<◌, ◌≡◌, List, Bool}
 use Rattle.slices.specs.Hash.{hash_of}
 use Rattle.attributes.specs.One.{part}

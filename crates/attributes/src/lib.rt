@@ -5,7 +5,7 @@ ghost use Rattle.std.specs.Prelude.{◌≡◌, ◌+◌, ◌-◌, ◌≤◌, [], 
 ghost use Rattle.slices.specs.Bytes.{other, past};
 ghost use Rattle.scan.specs.Colons.{Scanned};
 ghost use Rattle.references.specs.Unescape.{special};
-ghost use Rattle.document.specs.Tags.{attribute, equals, open_quote, is_tp_type_lem};
+ghost use Rattle.document.specs.Tags.{attribute, equals, open_quote, is_tp_type};
 ghost use Rattle.attributes.specs.One.{Quotes, Named, Finds};
 ghost use Rattle.attributes.specs.Outcome.{References, Gathers};
 
@@ -167,10 +167,10 @@ fn equals_at(
 
 // Whether the name that begins at a place is a tp type's: a prefix that is not empty, the first colon, then exactly `type`.
 #[tactic(auto, using(crate::proofs::Keys::prefixes))]
-fn is_tp_type(doc: &[u8], at: usize, name: Name) -> bool
+fn is_tp_type_at(doc: &[u8], at: usize, name: Name) -> bool
     requires scanned { Scanned doc.now «at» name }
     requires small { length doc.now ≤ 1048576 }
-    ensures { result ≡ is_tp_type_lem (take (name.end - «at») (drop «at» doc.now)) }
+    ensures { result ≡ is_tp_type (take (name.end - «at») (drop «at» doc.now)) }
 {
     match name.colons {
         None => false,
@@ -197,7 +197,7 @@ pub fn attribute_at(doc: &[u8], classes: &ClassTable, from: usize) -> Option<Loc
     if end <= start {
         return None;
     }
-    let tp = is_tp_type(doc, start, name);
+    let tp = is_tp_type_at(doc, start, name);
     let at = scan::space_end(doc, classes, end);
     equals_at(doc, classes, start, end - start, tp, at)
 }

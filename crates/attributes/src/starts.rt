@@ -1,11 +1,11 @@
 // The start of an attribute: the class of its name, and where its value begins.
 ghost use Rattle.std.specs.Prelude.{◌≡◌, ◌+◌, ◌-◌, ◌≤◌, length, drop, IfSome, IfNone};
 ghost use Rattle.scan.specs.Colons.{Scanned};
-ghost use Rattle.document.specs.Tags.{absent, attribute, is_tp_type_lem};
+ghost use Rattle.document.specs.Tags.{absent, attribute, is_tp_type};
 ghost use Rattle.attributes.specs.One.{part};
 ghost use Rattle.attributes.specs.Slots.{class_of, Opened, Four, Key};
 
-use crate::{Known, Start, is_tp_type};
+use crate::{Known, Start, is_tp_type_at};
 use scan::{ClassTable, Name};
 
 // Four bytes as a number, the first byte the lowest: 0x656d616e is `name` read backwards.
@@ -94,7 +94,7 @@ fn quick(doc: &[u8], at: usize) -> Option<Start>
 // A class is the index of its slot in few.rt and nothing else: hence a number, and no enum.
 #[tactic(auto, using(crate::proofs::Classes::classes))]
 fn class_of(name: &[u8], tp: bool) -> usize
-    requires { tp ≡ is_tp_type_lem name.now }
+    requires { tp ≡ is_tp_type name.now }
     ensures { result ≡ class_of name.now }
 {
     if tp {
@@ -118,7 +118,7 @@ fn class_at(doc: &[u8], at: usize, name: Name) -> usize
     ensures { result ≡ class_of (part doc.now «at» (name.end - «at»)) }
 {
     let end = name.end;
-    let tp = is_tp_type(doc, at, name);
+    let tp = is_tp_type_at(doc, at, name);
     class_of(&doc[at..end], tp)
 }
 

@@ -1,5 +1,4 @@
 -- How far what is read reaches: the faults' numbers and places, and the room that rows, warnings and text take.
--- Assumes nothing.
 pub mod Texts
 pub mod States
 pub mod Folding

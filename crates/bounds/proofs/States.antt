@@ -1,7 +1,6 @@
 -- What holds of a state at a place: how many rows and warnings and how much text there are at most; and each step keeps it.
 -- A row or a warning comes with a start tag of 3 bytes at least, or of 4 where it is `/>`; any other is closed by a tag of its
 -- own. So 4 times their number is at most the place plus the number of open elements.
--- Assumes nothing.
 use Prim.Native.Nat.{ℕ, ◌+◌, ◌-◌, ◌*◌, ◌≤◌, ◌<◌}
 use mathlib.Core.Path.{◌≡◌, refl, ap, sym, ◌∙◌}
 use mathlib.Core.List.{List, [], ◌∷◌, ◌++◌}
@@ -150,8 +149,8 @@ module _ (doc : List ℕ) (top : ℕ) where
         let l : at ≤ q = omega (arith, g.long, g.since) in
         record {
           closes = closes (omega (arith, g.long)) g.within;
-          moves = λ fs u h. holds_on q l h;
-          row = λ k r fs u c b n e h.
+          moves = λ f fs u c h. holds_on q l h;
+          row = λ k r fs u c b n e d h.
               let o : t.at + length (row_text r) < q = rw e at (start_opens t g k (parent_of fs)) in
               row_holds q k t r (omega (arith, g.long, g.since)) (omega (arith, g.since)) h;
           own_row = λ k r fs u c b n e h.
@@ -159,10 +158,10 @@ module _ (doc : List ℕ) (top : ℕ) where
               row_holds (q - 1) k t r (omega (arith, g.self c, g.since)) (omega (arith, g.since)) h;
           refusal = λ k p x e. rw e at (start_opens t g k p);
           deep = record { number = refl; place = omega (arith, g.after, g.within) };
-          warning = λ fs u c h. warning_holds q 1 t.at t.name fs fs (omega (arith, g.self c, g.since)) l (λ i o. o) h;
-          skips = λ fs u h. warning_holds q 1 t.at t.name fs _ (omega (arith, g.long, g.since)) l (λ i o. o) h;
-          docstring = λ f fs u d h. record { few = omega (arith, h.few); text = omega (arith, h.text); owned = h.owned };
-          within = λ p ns fs u h. record { few = omega (arith, h.few); text = omega (arith, h.text); owned = h.owned };
+          warning = λ f fs u c h. warning_holds q 1 t.at t.name (f ∷ fs) (f ∷ fs) (omega (arith, g.self c, g.since)) l (λ i o. o) h;
+          skips = λ f fs u c r h. warning_holds q 1 t.at t.name (f ∷ fs) _ (omega (arith, g.long, g.since)) l (λ i o. o) h;
+          docstring = λ f fs u c d h. record { few = omega (arith, h.few); text = omega (arith, h.text); owned = h.owned };
+          within = λ p ns fs u c d h. record { few = omega (arith, h.few); text = omega (arith, h.text); owned = h.owned };
         }
 
     shuts : (lt : ℕ) (n : List ℕ) (p : ℕ) → nexts.Closes at top lt p q → Shuts whole doc (held top at) (held top q) lt n p
@@ -170,9 +169,9 @@ module _ (doc : List ℕ) (top : ℕ) where
         let m : at < q = omega (arith, g.since, g.long) in
         record {
           closes = closes m g.within;
-          passed = λ p ns fs u h. popped m h.owned h;
-          docstring = λ s r ns fs u h. docstring_holds lt s r fs u (popped m h.owned h);
-          within = λ p n ns fs u h. record { few = omega (arith, h.few); text = omega (arith, h.text); owned = h.owned };
+          passed = λ p ns fs u l h. popped m h.owned h;
+          docstring = λ s r ns fs u l e h. docstring_holds lt s r fs u (popped m h.owned h);
+          within = λ p n ns fs u l e h. record { few = omega (arith, h.few); text = omega (arith, h.text); owned = h.owned };
           another = λ f fs u h. record { number = refl; place = omega (arith, g.after, g.within) };
           none = record { number = refl; place = omega (arith, g.long, g.within) };
         }
@@ -187,7 +186,6 @@ module _ (doc : List ℕ) (top : ℕ) where
     one_step t l g = record {
       ways = ways t g;
       empty = λ h. record { few = omega arith; text = omega arith; owned = tt };
-      ended = λ u h. fits l h;
       done = λ u h. h;
       fault = λ x h. h;
     }
@@ -204,7 +202,6 @@ module _ (doc : List ℕ) (top : ℕ) where
   last_step at t l g = record {
     ways = last_ways at t g;
     empty = λ h. record { few = omega arith; text = omega arith; owned = tt };
-    ended = λ u h. fits l h;
     done = λ u h. h;
     fault = λ x h. h;
   }

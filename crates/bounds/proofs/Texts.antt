@@ -1,5 +1,4 @@
 -- The text of a row: no longer than the texts of all attributes of its tag together; and what a start tag comes to.
--- Assumes nothing.
 use Prim.Native.Nat.{ℕ, ◌+◌, ◌≤◌, ◌<◌}
 use mathlib.Core.Path.{◌≡◌, refl, ap}
 use mathlib.Core.List.{List, [], ◌∷◌}
@@ -10,7 +9,7 @@ use lib.ListN.{length, length-append}
 use Rattle.slices.specs.Bytes.{if, all, same}
 use Rattle.slices.proofs.Runs.{same_equal}
 use Rattle.references.specs.Unescape.{plain}
-use Rattle.document.specs.Tags.{Shown, lookup, is_tp_type_lem, tp_type}
+use Rattle.document.specs.Tags.{Shown, lookup, is_tp_type, tp_type}
 use Rattle.document.specs.Tokens.{Tag}
 use Rattle.document.specs.Rows.{text_of, row_text}
 use Rattle.document.specs.Elements.{attr, among, Opened, opens, refuses, kept, row, opens_as}
@@ -48,7 +47,7 @@ module _ (s : Shown) (o p q : Option Shown) (m : ℕ) (i : size o + size p + siz
   one_more false false true f g h = omega arith
   one_more false false false f g h = omega arith
 
-module _ (j k : List ℕ) (a : same j k ≡ false) (b : is_tp_type_lem j ≡ false) (c : is_tp_type_lem k ≡ false) where
+module _ (j k : List ℕ) (a : same j k ≡ false) (b : is_tp_type j ≡ false) (c : is_tp_type k ≡ false) where
   apart : (p : List ℕ → Bool) (key n : List ℕ) → p key ≡ false → same n key ≡ true → p n ≡ true → ⊥
   apart p key n f e g =
       let t : n ≡ key = same_equal n key e in
@@ -60,10 +59,10 @@ module _ (j k : List ℕ) (a : same j k ≡ false) (b : is_tp_type_lem j ≡ fal
   three_sizes [] = omega arith
   three_sizes (s ∷ xs) =
       let n = s.attr.name in
-      one_more s (lookup j xs) (lookup k xs) (tp_type xs) (text_total xs) (three_sizes xs) (same n j) (same n k) (is_tp_type_lem n)
+      one_more s (lookup j xs) (lookup k xs) (tp_type xs) (text_total xs) (three_sizes xs) (same n j) (same n k) (is_tp_type n)
       (apart (λ m. same m k) j n a)
-      (apart is_tp_type_lem j n b)
-      (apart is_tp_type_lem k n c)
+      (apart is_tp_type j n b)
+      (apart is_tp_type k n c)
 
 -- ---- what a start tag comes to
 

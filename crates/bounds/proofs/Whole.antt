@@ -1,6 +1,5 @@
 -- Of every document (docs/FORMAT.md, Tables and Answers): it is accepted or refused; the room that its tables take; the number
 -- and place of a refusal. Then the same of reading with the room lent, and how much room is always enough.
--- Assumes nothing.
 use Prim.Native.Nat.{ℕ, ◌*◌, ◌≤◌}
 use mathlib.Core.Path.{◌≡◌, refl}
 use mathlib.Core.List.{List, [], ◌∷◌, map}
@@ -32,9 +31,6 @@ module _ (doc : List ℕ) where
 
     pub read_room : {u : Tables Shown} → read doc r ≡ accepted u → Fits (length doc) u
     read_room e = rw e at read_told
-
-    pub read_refusal : {x : Refusal} → read doc r ≡ refused x → RefusedBy lent_refusals (length doc) x
-    read_refusal e = rw e at read_told
 
     pub room_enough : 4 * length doc ≤ r.rows → length doc ≤ r.warnings → length doc ≤ r.text → read doc r ≡ meaning doc
     unfolding read

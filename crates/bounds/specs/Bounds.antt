@@ -1,5 +1,4 @@
 -- What is said of every document of a length: the room that its tables take, and the number and place of its refusal.
--- Assumes nothing.
 use Rattle.std.specs.Prelude.{ℕ, ◌+◌, ◌*◌, ◌≤◌, ◌≡◌, List, ◌∷◌, true, length}
 use Rattle.document.specs.Tags.{Shown}
 use Rattle.document.specs.Rows.{Tables, texts}

@@ -1,5 +1,4 @@
 -- What is said of every file: the number of its refusal, and how much room is always enough, by its document's length and by its own.
--- Assumes nothing.
 use Rattle.std.specs.Prelude.{ℕ, ◌*◌, ◌≤◌, ◌≡◌, List, ◌∷◌, true, length}
 use Rattle.slices.specs.Bytes.{all}
 use Rattle.answers.specs.Text.{text}
@@ -24,25 +23,25 @@ Numbered (accepted u) = Unit {0}
 Numbered (refused x) = among x.number file_refusals ≡ true
 
 abbrev pub FilesNumbered : Type 0
-FilesNumbered = (raw : List ℕ) (r : Room) (decodedRoom : ℕ) → Numbered (read_file raw r decodedRoom)
+FilesNumbered = (raw : List ℕ) (r : Room) (decoding_room : ℕ) → Numbered (read_file raw r decoding_room)
 
 -- the room that is always enough for a document is enough for the file that it was decoded from
 abbrev pub DocumentRoom : Type 0
 DocumentRoom =
-    (raw t : List ℕ) (r : Room) (decodedRoom : ℕ) →
-    document_of raw decodedRoom ≡ text t →
+    (raw t : List ℕ) (r : Room) (decoding_room : ℕ) →
+    document_of raw decoding_room ≡ text t →
     4 * length t ≤ r.rows →
     length t ≤ r.warnings →
     length t ≤ r.text →
-    read_file raw r decodedRoom ≡ meaning t
+    read_file raw r decoding_room ≡ meaning t
 
 -- 3/2 of it is for every file of that length: no buffer is too small
 abbrev pub FileRoom : Type 0
 FileRoom =
-    (raw : List ℕ) (r : Room) (decodedRoom : ℕ) →
+    (raw : List ℕ) (r : Room) (decoding_room : ℕ) →
     all is_byte raw ≡ true →
     6 * length raw ≤ r.rows →
     3 * length raw ≤ 2 * r.warnings →
     3 * length raw ≤ 2 * r.text →
-    3 * length raw ≤ 2 * decodedRoom →
-    (x : Refusal) → read_file raw r decodedRoom ≡ refused x → x.number ≡ 18 → ⊥
+    3 * length raw ≤ 2 * decoding_room →
+    (x : Refusal) → read_file raw r decoding_room ≡ refused x → x.number ≡ 18 → ⊥

@@ -1,5 +1,4 @@
 -- The laws that the proofs cite.
--- Assumes nothing.
 pub mod Order
 pub mod Faults
 pub mod Comments

@@ -1,5 +1,4 @@
 -- The names of tags and attributes are UTF-8: they stand between bytes below 128.
--- Assumes nothing.
 use Prim.Native.Nat.{ℕ, suc, ◌+◌, ◌-◌, ◌≤◌, ◌<◌}
 use mathlib.Core.Path.{◌≡◌, refl, ◌∙◌}
 use mathlib.Core.List.{List, [], ◌∷◌}
@@ -12,7 +11,7 @@ use Rattle.std.specs.Prelude.{Option, Some}
 use Rattle.slices.specs.Bytes.{other, span, past, empty}
 use Rattle.slices.specs.Run.{Run}
 use Rattle.slices.proofs.Runs.{run_stop, past_at}
-use Rattle.slices.proofs.Ends.{run_span}
+use Rattle.slices.proofs.Ends.{run_span, not_empty}
 use Rattle.utf8.specs.WellFormed.{ill_formed}
 use Rattle.utf8.specs.Trim.{Boundary}
 use Rattle.utf8.proofs.Sequences.{below}
@@ -23,7 +22,7 @@ use Rattle.scan.proofs.Class.{name_small, white_small}
 use Rattle.document.specs.Tags.{Attr, Found, absent, found, close_quote, open_quote, equals, named, attribute}
 use Rattle.document.specs.Outcome.{Sound}
 use Rattle.document.proofs.Tests.{either}
-use Rattle.document.proofs.Branches.{span_past, not_empty, run-byte}
+use Rattle.document.proofs.Branches.{span_past, run-byte}
 use Rattle.attributes.specs.One.{part, attr_of, Finds}
 use Rattle.tags.specs.Outcome.{TagStart}
 use Rattle.breaches.specs.Outcome.{NameAt, AttributeAt}

@@ -1,5 +1,4 @@
 -- Past what is ignorable: the way to the next tag, and the comments on it.
--- Assumes nothing.
 use Prim.Native.Nat.{ℕ, suc, ◌-◌, ◌≤◌, ◌<◌}
 use mathlib.Core.Path.{◌≡◌, ap, sym, ◌∙◌}
 use mathlib.Core.List.{List, [], ◌∷◌, append-nil}

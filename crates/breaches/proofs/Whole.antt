@@ -1,5 +1,4 @@
 -- The root's name, and all rules together.
--- Assumes nothing.
 use Prim.Native.Nat.{ℕ, suc, ◌+◌, ◌-◌, ◌≤◌, ◌<◌, ◌^◌}
 use mathlib.Core.Path.{◌≡◌, refl, ap, sym, ◌∙◌}
 use mathlib.Core.List.{List, [], ◌∷◌, ◌++◌}
@@ -41,9 +40,9 @@ module _ {doc : List ℕ} (a : Accepted doc) {r : Result token.Token Refusal} (k
       let f = d.is in
       absurd (turned (sym (run_last whole doc 0 begun (fault f.0 f.1) f.2) ∙ a.reads))
 
-  pub root_end_lem : {p : ℕ} → r ≡ Ok (token.Token.End p) → None ≡ least (root_name (met_tags doc))
+  pub root_ended : {p : ℕ} → r ≡ Ok (token.Token.End p) → None ≡ least (root_name (met_tags doc))
   unfolding step
-  root_end_lem {p} e =
+  root_ended {p} e =
       let d : Tokenises doc 0 (Ok (token.Token.End p)) = rw e at k in
       absurd (turned (sym (run_last whole doc 0 begun (end p) d.is) ∙ a.reads))
 
@@ -85,7 +84,7 @@ module _ {doc : List ℕ} (a : Accepted doc) {r : Result token.Token Refusal} (k
       unfolding least lesser
       root_other f = sym (ap least rooted ∙ rw (is_node ∙ f))
 
-pub ruleset roots = (root_fault, root_end_lem, root_close, root_named, root_fits, root_node, root_other, rules)
+pub ruleset roots = (root_fault, root_ended, root_close, root_named, root_fits, root_node, root_other, rules)
 
 -- ---- all rules
 

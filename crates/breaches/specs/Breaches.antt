@@ -1,6 +1,5 @@
 -- The strict profile (docs/FORMAT.md, The strict profile): the breaches of a document that is accepted, rule by rule, by the productions of
 -- XML 1.0, fifth edition.
--- Assumes nothing.
 use Rattle.std.specs.Prelude.{ℕ, suc, ◌+◌, List, [], ◌∷◌, ◌++◌, map, Bool, ltb, length, take, drop}
 use Rattle.slices.specs.Bytes.{if, bytes, same, starts}
 use Rattle.document.specs.Tags.{Attr}

@@ -1,5 +1,4 @@
 -- Worked examples: documents that are accepted, and the least breach of each.
--- Assumes nothing.
 use Rattle.std.specs.Prelude.{ℕ, ◌≡◌, refl, List, [], ◌∷◌, ◌++◌, map, Option, Some, None}
 use Prim.Native.String as string
 use Rattle.slices.specs.Bytes.{bytes}

@@ -1,5 +1,4 @@
 -- The least of some places.
--- Assumes nothing.
 use Rattle.std.specs.Prelude.{ℕ, min, List, [], ◌∷◌, Option, Some, None}
 
 unfoldable pub lesser : Option ℕ → Option ℕ → Option ℕ

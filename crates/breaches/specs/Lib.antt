@@ -1,5 +1,4 @@
 -- The breaches of the strict profile, the least of them, and what the functions that look for them say.
--- Assumes nothing.
 pub mod Least
 pub mod Breaches
 pub mod Outcome

@@ -1,5 +1,4 @@
 -- What the functions that look for breaches say.
--- Assumes nothing.
 use Rattle.std.specs.Prelude.{ℕ, suc, ◌+◌, ◌-◌, ◌≤◌, ◌<◌, ◌≡◌, List, [], ◌++◌, length, take, drop, get_or, Ok, Option}
 use Rattle.utf8.specs.WellFormed.{ill_formed}
 use Rattle.scan.specs.Ignorable.{ignorable}

@@ -1,3 +1,2 @@
 -- The laws of the loop over children.
--- Assumes nothing.
 pub mod Loop

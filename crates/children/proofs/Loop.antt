@@ -1,5 +1,4 @@
 -- The rules of the loop over children: what it has read so far, and what a reader keeps.
--- Assumes nothing.
 use borrow.Author.Rules.{rules}
 use Rattle.document.proofs.Loops.{loops}
 use Rattle.document.proofs.Openings.{contents}

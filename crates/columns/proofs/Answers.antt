@@ -1,5 +1,4 @@
 -- What the entries answer, and the words that they leave, on each of their ways.
--- Assumes nothing.
 use Rattle.std.proofs.Common.{◌≡◌, ℕ, ◌*◌, ◌<◌, ◌≤◌, List, length, Result, Ok, Err, sym, refl, ◌∙◌, arith, rules, le-ltb, lt-ltb}
 use Rattle.tables.specs.Table.{Rep, Wiped}
 use Rattle.tables.proofs.Tables.{clear_all, clear_rest}

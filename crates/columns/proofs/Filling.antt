@@ -1,5 +1,4 @@
 -- The loops over the words of a block and over the blocks, and what they have put when they end.
--- Assumes nothing.
 use Rattle.std.proofs.Common.{◌≡◌, ℕ, suc, ◌+◌, ◌-◌, ◌<◌, ◌≤◌, List, ◌∙◌, arith, rules}
 use Rattle.tables.specs.Table.{Rep}
 use Rattle.columns.specs.Put.{Roomy, Block, Puts, Apart, Below, Lays}

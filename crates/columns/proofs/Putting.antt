@@ -1,5 +1,4 @@
 -- Words put into the output: one, those of a block's column, those of a block, those of all rows.
--- Assumes nothing.
 use Rattle.std.proofs.Common.{◌≡◌, ℕ, zero, suc, ◌+◌, ◌-◌, ◌*◌, ◌%◌, ◌^◌, ◌<◌, ◌≤◌, List, length, get_or, set, refl, ◌∙◌, add-one, arith, length-set, get_or-set_other, get_or-set_same, w64, Fits, rules}
 use native.Mathlib.Decide.{dec_lt}
 use Rattle.columns.specs.Words.{less, in_rows, in_columns, difference, restored}

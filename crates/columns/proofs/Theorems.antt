@@ -1,5 +1,4 @@
 -- Where the words stand, and that each of the two entries undoes the other.
--- Assumes nothing.
 use Rattle.std.proofs.Common.{◌≡◌, ℕ, zero, suc, ◌-◌, ◌*◌, ◌/◌, ◌%◌, ◌^◌, ◌<◌, ◌≤◌, List, ◌++◌, length, get_or, take, replicate, Result, Ok, Err, refl, sym, ap, ◌∙◌, arith, length-take-le, get_or-take, take_at, ext_get_or}
 use native.Mathlib.Decide.{dec_lt}
 use lib.ListN.{get_or-append}

@@ -1,5 +1,4 @@
 -- Worked values: three rows, their columns and the way back; each refusal; no rows; what follows the words.
--- Assumes nothing.
 use Rattle.std.specs.Prelude.{◌≡◌, ℕ, zero, suc, List, [], ◌∷◌, ◌++◌, replicate, refl}
 use Rattle.columns.specs.Words.{columns_of, rows_of}
 use Rattle.columns.specs.Entries.{refused, to_columns, to_rows, words_left}

@@ -1,5 +1,4 @@
 -- What the entries `columns` and `rows` answer and leave, for the room lent.
--- Assumes nothing.
 use Rattle.std.specs.Prelude.{◌≡◌, ℕ, ◌-◌, ◌*◌, ◌≤◌, ◌||◌, List, ◌++◌, length, replicate, nat_lt, Result, Ok, Err}
 use Rattle.slices.specs.Bytes.{if}
 use Rattle.tables.specs.Table.{Rep}

@@ -1,5 +1,4 @@
 -- Where the words stand: places are inside, differ, and are found again from a place by division.
--- Assumes nothing.
 use Rattle.std.proofs.Common.{◌≡◌, ℕ, zero, suc, ◌+◌, ◌*◌, ◌/◌, ◌%◌, ◌<◌, ◌≤◌, length, get_or, sym, refl, ap, ◌∙◌, add-zero, mul-le-mul_right, mod-lt, mod-eq_of_lt, mul_comm, div-lt_iff_lt-mul, div-add-mod', zero-add, arith}
 use native.Mathlib.Nat.{mul-add-div_right, div-eq_of_lt, mul-add-mod_self_right}
 use Rattle.tables.proofs.Tables.{row_more}

@@ -1,5 +1,4 @@
 -- What the functions that fill the output say.
--- Assumes nothing.
 use Rattle.std.specs.Prelude.{◌≡◌, ℕ, zero, suc, ◌*◌, ◌<◌, ◌≤◌, List, length, ◌≢◌, slice_index}
 use Rattle.tables.specs.Table.{Rep}
 use Rattle.columns.specs.Words.{in_rows, restored}

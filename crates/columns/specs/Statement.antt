@@ -1,5 +1,4 @@
 -- Where the words stand, and that each of the two entries undoes the other.
--- Assumes nothing.
 use Rattle.std.specs.Prelude.{◌≡◌, ℕ, ◌*◌, ◌^◌, ◌<◌, ◌≤◌, List, ◌++◌, length, take, slice_index, Result, Ok}
 use Rattle.columns.specs.Words.{in_rows, in_columns, difference, restored, columns_of, rows_of}
 use Rattle.columns.specs.Entries.{Outcome, to_columns, to_rows, Says}

@@ -1,6 +1,5 @@
 -- Content that is passed over, piece by piece: a byte of text, markup that is ignored, a tag. Wherever the pieces stand, and whatever
 -- follows them, they are the same tokens; if their tags open and close elements of their own alone, reading comes back to where it was.
--- Assumes nothing.
 use Prim.Native.Nat.{ℕ, suc, ◌+◌, ◌-◌, ◌≤◌, ◌<◌}
 use mathlib.Core.Path.{◌≡◌, refl, sym, ap, ◌∙◌}
 use mathlib.Core.List.{List, [], ◌∷◌, ◌++◌, append_assoc}
@@ -23,7 +22,7 @@ use Rattle.document.specs.Refusals.{bare}
 use Rattle.document.specs.Reading.{Name, Purpose, Frame, passing, State, reading, refused, step, fold}
 use Rattle.document.proofs.Runs.{taken}
 use Rattle.document.proofs.Ignorables.{Scanned, ignorable_within}
-use Rattle.document.proofs.Nexts.{Onward, next_reaches}
+use Rattle.document.proofs.Nexts.{next_reaches, moves_on}
 use Rattle.docstrings.proofs.Shifts.{far, far_is, later_token, later_next, later_markup, markup_later, tag_later}
 
 -- what follows a `<`, up to a `>` (62): markup that is ignored
@@ -66,14 +65,8 @@ Leads (token f (end q) h ∷ cs) ns ms = ⊥
 
 -- ---- tokens
 
-onward_bounds : (from top : ℕ) (t : Token) (q : ℕ) → Onward from top t q → (from < q) × (q ≤ top)
-onward_bounds from top (start t) q h = (omega (arith, h.since, h.long), h.within)
-onward_bounds from top (close lt n p) q h = (omega (arith, h.since, h.long), h.within)
-onward_bounds from top (fault n p) q h = absurd h
-onward_bounds from top (end p) q h = absurd h
-
 pub next_bounds : (l : List ℕ) (at : ℕ) (t : Token) (q : ℕ) → next l at ≡ more t q → (at < q) × (q ≤ at + length l)
-next_bounds l at t q e = onward_bounds at (at + length l) t q (rw e at (next_reaches l at))
+next_bounds l at t q e = moves_on at (at + length l) t q (rw e at (next_reaches l at))
 
 tokens_more : (l : List ℕ) (at : ℕ) (t : Token) (q : ℕ) → next l at ≡ more t q → tokens l at ≡ t ∷ tokens (drop (q - at) l) q
 unfolding tokens

@@ -1,5 +1,4 @@
 -- Laws of docstrings.
--- Assumes nothing.
 pub mod Shifts
 pub mod Ends
 pub mod Atoms

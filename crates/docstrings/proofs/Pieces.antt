@@ -1,5 +1,4 @@
 -- Content that is pieces, put together and cut: White_Space at its ends is text, so without it the content is pieces still.
--- Assumes nothing.
 use Prim.Native.Nat.{ℕ, ◌+◌, ◌-◌, ◌<◌}
 use mathlib.Core.Path.{◌≡◌, refl, sym, ap, ◌∙◌}
 use mathlib.Core.List.{List, [], ◌∷◌, ◌++◌, append_assoc, reverse, reverse-cons, reverse-append, reverse-reverse}
@@ -10,10 +9,11 @@ use lib.Dec.{eqb, ltb}
 use lib.ListN.{length, take, drop, length-append}
 use lib.Seq.{take-append_seam, drop-append_seam}
 use Rattle.slices.specs.Bytes.{if, empty}
+use Rattle.slices.proofs.Ends.{empty_some}
 use Rattle.utf8.specs.WellFormed.{ill_formed}
 use Rattle.utf8.specs.WhiteSpace.{characters, code_point, white_space, leading, trim_start, trim_end}
 use Rattle.utf8.proofs.Sequences.{Char, Followed, char_shape, ascii_first}
-use Rattle.utf8.proofs.Texts.{All, joined, joined_append, whole, characters_joined}
+use Rattle.utf8.proofs.Texts.{All, joined, joined_append, whole, characters_joined, reversed_long}
 use Rattle.document.specs.Tokens.{Token, start, close, fault, end}
 use Rattle.document.specs.Elements.{Keeping}
 use Rattle.document.proofs.Tests.{never}
@@ -205,12 +205,6 @@ white_reverse : (cs : List (List ℕ)) → White cs → White (reverse cs)
 white_reverse [] h = tt
 white_reverse (c ∷ cs) h = rw (reverse-cons c cs) (white_append (reverse cs) (c ∷ []) (white_reverse cs h.1) (h.0, tt))
 
-reversed_long : (cs : List (List ℕ)) → length (joined (reverse cs)) ≡ length (joined cs)
-reversed_long [] = refl
-reversed_long (c ∷ cs) =
-    let e : length (joined (c ∷ [])) ≡ length c = length-append c [] ∙ omega arith in
-    rw (reverse-cons c cs, joined_append (reverse cs) (c ∷ []), length-append (joined (reverse cs)) (joined (c ∷ [])), length-append c (joined cs), e, reversed_long cs) (omega arith)
-
 -- a text, trimmed
 record Trimmed (s : List ℕ) : Type 0 where
   before : List ℕ
@@ -289,10 +283,6 @@ trimmed s h =
 
 -- ---- trimmed content
 
-some_empty : (l : List ℕ) → 0 < length l → empty l ≡ false
-some_empty [] h = absurd (omega arith)
-some_empty (b ∷ l) h = refl
-
 module _ {A : Type 0} (keep : Keeping A) (xs : List Atom) (leads : Leads xs [] []) where
   pieces_passable : (s : List ℕ) → bytes_of xs ≡ s → trim_start s ≡ 0 → trim_end s ≡ length s → empty s ≡ false → Passable keep s
   pieces_passable s e b n f = record {
@@ -313,4 +303,4 @@ content_passable keep xs s e g h l =
     let m : drop (trim_start s) s ≡ t.middle ++ t.after = rw t.begins (ap (drop (length t.before)) t.is ∙ drop-append_seam t.before (t.middle ++ t.after)) in
     let k : take (trim_end s - trim_start s) (drop (trim_start s) s) ≡ t.middle = rw (n, m) (take-append_seam t.middle t.after) in
     let o : 0 < length t.middle = omega (arith, ltb-true (trim_start s) (trim_end s) l, t.begins, t.ends) in
-    rw k (pieces_passable keep d.atoms (d.leads [] [] (c.leads [] [] g)) t.middle d.is t.start t.end (some_empty t.middle o))
+    rw k (pieces_passable keep d.atoms (d.leads [] [] (c.leads [] [] g)) t.middle d.is t.start t.end (empty_some t.middle o))

@@ -1,5 +1,4 @@
 -- The docstrings of a document that is accepted are passable: while one is read, what was passed over of it is pieces.
--- Assumes nothing.
 use Prim.Native.Nat.{ℕ, zero, suc, ◌+◌, ◌-◌, ◌≤◌, ◌<◌}
 use mathlib.Core.Path.{◌≡◌, refl, sym, ap, ◌∙◌}
 use mathlib.Core.List.{List, [], ◌∷◌, ◌++◌, append_assoc}
@@ -22,13 +21,13 @@ use Rattle.document.specs.Tokens as tokens
 use Rattle.document.specs.Tokens.{Token, start, close, fault, end, Next, more, last, next}
 use Rattle.document.specs.Rows.{Doc, Row, Tables, documented}
 use Rattle.document.specs.Elements.{among, opens, opens_as, Keeping}
-use Rattle.document.specs.Reading.{Name, Purpose, ignored, captures, Frame, element, definition, passing, State, begun, reading, accepted, refused, name_of, parent_of, noted_in, noted, frame_of, closed, passed, shut, inner, turn, step, run}
+use Rattle.document.specs.Reading.{Name, tag_name, Purpose, ignored, captures, Frame, element, definition, passing, State, begun, accepted, parent_of, noted_in, noted, frame_of, step, run}
 use Rattle.document.specs.Outcome.{whole}
 use Rattle.document.proofs.Tests.{either}
 use Rattle.document.proofs.Places.{byte_left}
 use Rattle.document.proofs.Nexts.{Onward, Ended, next_reaches}
 use Rattle.document.proofs.Runs.{run_more, run_last}
-use Rattle.document.proofs.Steps.{Begins, Known, Kept, Closes, Shuts, Starts, Ways, step_kept}
+use Rattle.document.proofs.Steps.{Read, Begins, Known, Kept, Closes, content_at, captures_at, Shuts, Starts, Ways, step_kept}
 use Rattle.accepted.proofs.Folding.{meaning_accepts}
 use Rattle.accepted.proofs.Entries.{Entry, start_opens}
 use Rattle.accepted.proofs.Entering.{begins_kind}
@@ -123,9 +122,9 @@ module _ {A : Type 0} (keep : Keeping A) (doc : List ℕ) (formed : ill_formed d
       }
 
   -- the docstring
-  content_doc : (s lt : ℕ) (l : List ℕ) → drop lt doc ≡ 60 ∷ l → Content s lt [] → ltb (trim_start (take (lt - s) (drop s doc))) (trim_end (take (lt - s) (drop s doc))) ≡ true → PassableDoc keep doc (some (record { start = s + trim_start (take (lt - s) (drop s doc)); len = trim_end (take (lt - s) (drop s doc)) - trim_start (take (lt - s) (drop s doc)) }))
+  content_doc : (s lt : ℕ) (l : List ℕ) → drop lt doc ≡ 60 ∷ l → Content s lt [] → ltb (trim_start (content_at doc s lt)) (trim_end (content_at doc s lt)) ≡ true → PassableDoc keep doc (some (record { start = s + trim_start (content_at doc s lt); len = trim_end (content_at doc s lt) - trim_start (content_at doc s lt) }))
   content_doc s lt l e c g =
-      let x = take (lt - s) (drop s doc) in
+      let x = content_at doc s lt in
       let n : lt - s ≡ length (bytes_of c.atoms) = omega (arith, c.long) in
       let i : bytes_of c.atoms ≡ x = sym (rw n (ap (take (length (bytes_of c.atoms))) c.is ∙ take-append_seam (bytes_of c.atoms) (drop lt doc))) in
       let b = byte_left doc lt 60 l e in
@@ -143,83 +142,57 @@ module _ {A : Type 0} (keep : Keeping A) (doc : List ℕ) (formed : ill_formed d
 
   -- ---- what is known of a state
 
+  -- no content is passed over
   abbrev Plain : List Frame → Type 0
   Plain [] = Unit {0}
-  Plain (element k n r ∷ fs) = Plain fs
-  Plain (definition d ∷ fs) = Plain fs
-  Plain (passing p ns ∷ fs) = ⊥
+  Plain (f ∷ fs) = Read f × Plain fs
+
+  -- of the innermost element: a docstring is read up to the place
+  abbrev Over : ℕ → Frame → Type 0
+  Over at (element k n r) = Unit {0}
+  Over at (definition d) = Unit {0}
+  Over at (passing p []) = ⊥
+  Over at (passing ignored (n ∷ ns)) = Unit {0}
+  Over at (passing (captures s i) (n ∷ ns)) = Content s at (inner_of (n ∷ ns))
 
   -- content is passed over in the innermost element alone
   abbrev Top : ℕ → List Frame → Type 0
   Top at [] = Unit {0}
-  Top at (element k n r ∷ fs) = Plain fs
-  Top at (definition d ∷ fs) = Plain fs
-  Top at (passing ignored ns ∷ fs) = Plain fs
-  Top at (passing (captures s i) [] ∷ fs) = ⊥
-  Top at (passing (captures s i) (n ∷ ns) ∷ fs) = Content s at (inner_of (n ∷ ns)) × Plain fs
+  Top at (f ∷ fs) = Over at f × Plain fs
 
   abbrev known : ℕ → Known Shown
   known at = record { first = Unit {0}; inside = λ fs u. Top at fs × Docs u.rows; done = λ u. Docs u.rows; fault = λ x. Unit {0} }
-
-  abbrev plain : Known Shown
-  plain = record { first = Unit {0}; inside = λ fs u. Plain fs × Docs u.rows; done = λ u. Docs u.rows; fault = λ x. Unit {0} }
 
   plain_top : (at : ℕ) (fs : List Frame) → Plain fs → Top at fs
   plain_top at [] h = tt
   plain_top at (element k n r ∷ fs) h = h
   plain_top at (definition d ∷ fs) h = h
-  plain_top at (passing p ns ∷ fs) h = absurd h
+  plain_top at (passing p ns ∷ fs) h = absurd h.0
 
   plain_in : (k : ℕ) (t : tokens.Tag) (fs : List Frame) → Plain fs → Plain (noted_in k t fs)
   plain_in k t [] h = tt
   plain_in k t (element c n r ∷ fs) h = h
   plain_in k t (definition d ∷ fs) h = h
-  plain_in k t (passing p ns ∷ fs) h = absurd h
+  plain_in k t (passing p ns ∷ fs) h = absurd h.0
 
-  plain_noted : (k : ℕ) (t : tokens.Tag) (fs : List Frame) → Plain fs → Plain (noted k t fs)
-  plain_noted k t fs h = either Plain (among k kinds.parts) (λ c. plain_in k t fs h) (λ c. h)
+  -- where an element begins
+  plain_begins : (at n k : ℕ) (fs : List Frame) → Begins n k fs → Top at fs → Plain fs
+  plain_begins at n k [] b h = tt
+  plain_begins at n k (f ∷ fs) b h = (b.0, h.1)
 
-  plain_frame : (k : ℕ) (t : tokens.Tag) (i : ℕ) (fs : List Frame) → Plain fs → Plain (frame_of k t i ∷ fs)
-  plain_frame k t i fs h = either (λ (f : Frame). Plain (f ∷ fs)) (among k kinds.definitions) (λ c. h) (λ c. h)
+  top_frame : (at k : ℕ) (t : tokens.Tag) (i : ℕ) (fs : List Frame) → Plain fs → Top at (frame_of k t i ∷ noted k t fs)
+  top_frame at k t i fs h = (
+    either (Over at) (among k kinds.definitions) (λ c. tt) (λ c. tt),
+    either Plain (among k kinds.parts) (λ c. plain_in k t fs h) (λ c. h),
+  )
 
   module _ (at q : ℕ) where
-    -- ---- where no content is passed over
-
-    closes_plain : Closes whole doc plain (known q)
-    closes_plain = record {
-      element = λ k n r fs u h. (plain_top q fs h.0, h.1);
-      whole = λ d fs u e h. (plain_top q fs h.0, h.1);
-      broken = λ d fs u e h. (plain_top q fs h.0, docs_first d.row u.rows h.1);
+    closing : Closes whole doc (known at) (known q)
+    closing = record {
+      element = λ k n r fs u h. (plain_top q fs h.0.1, h.1);
+      whole = λ d fs u e h. (plain_top q fs h.0.1, h.1);
+      broken = λ d fs u e h. (plain_top q fs h.0.1, docs_first d.row u.rows h.1);
       root = λ u h. h.1;
-    }
-
-    starts_plain : (t : tokens.Tag) → t.after ≡ q → Boundary doc q → Starts whole doc plain plain (known q) t
-    starts_plain t e b = record {
-      closes = closes_plain;
-      moves = λ fs u h. (plain_top q fs h.0, h.1);
-      row = λ k r fs u c g n o h.
-          (plain_top q (frame_of k t (length u.rows) ∷ noted k t fs) (plain_frame k t (length u.rows) (noted k t fs) (plain_noted k t fs h.0)), docs_more u.rows r (bare k r fs u g o) h.1);
-      own_row = λ k r fs u c g n o h.
-          (plain_frame k t (length u.rows) (noted k t fs) (plain_noted k t fs h.0), docs_more u.rows r (bare k r fs u g o) h.1);
-      refusal = λ k p x o. tt;
-      deep = tt;
-      warning = λ fs u c h. (plain_top q fs h.0, h.1);
-      skips = λ fs u h. (h.0, h.1);
-      docstring = λ f fs u d h. ((rw e (record { atoms = []; is = refl; long = omega arith; leads = refl; cut = b }), h.0), h.1);
-      within = λ p ns fs u h. absurd h.0;
-    }
-      where
-        bare : (k : ℕ) (r : Row Shown) (fs : List Frame) (u : Tables Shown) → Begins (length u.rows) k fs → opens_as whole k (parent_of fs) t ≡ opens r → r.doc ≡ none
-        bare k r fs u g o = let x : Entry k (parent_of fs) t r = rw o at (start_opens (parent_of fs) t k (begins_kind (length u.rows) k fs g)) in x.doc
-
-    shuts_plain : (lt : ℕ) (n : List ℕ) (p : ℕ) → Shuts whole doc plain (known q) lt n p
-    shuts_plain lt n p = record {
-      closes = closes_plain;
-      passed = λ p ns fs u h. absurd h.0;
-      docstring = λ s r ns fs u h. absurd h.0;
-      within = λ p n ns fs u h. absurd h.0;
-      another = λ f fs u h. tt;
-      none = tt;
     }
 
     module _ (t : Token) (e : next (drop at doc) at ≡ more t q) where
@@ -237,20 +210,6 @@ module _ {A : Type 0} (keep : Keeping A) (doc : List ℕ) (formed : ill_formed d
           let n : w.place + suc (length w.body) + 1 ≡ q = omega (arith, w.after) in
           rw n at (cut_after_ascii doc (w.place + suc (length w.body)) formed b.0 (omega (arith, b.1)))
 
-      ways_plain : (k : Token) → t ≡ k → Onward at (at + length (drop at doc)) k q → Ways whole doc plain plain (known q) k
-      ways_plain (start x) f o = starts_plain x o.after ended_at
-      ways_plain (close lt n p) f o = shuts_plain lt n p
-      ways_plain (fault n p) f o = tt
-      ways_plain (end p) f o = (tt, λ f fs u h. tt)
-
-      step_plain : (s : State Shown) → Kept plain s → Kept (known q) (step whole doc s t)
-      step_plain s h =
-          step_kept whole doc plain plain (known q) s t
-          (record { ways = ways_plain t refl (rw e at (next_reaches (drop at doc) at)); empty = λ h. (tt, tt); ended = λ u h. h.1; done = λ u h. h; fault = λ x h. h })
-          h
-
-      -- ---- where content is passed over
-
       -- up to the token, and past it
       up_to : (s : ℕ) (ns : List (List ℕ)) → Content s at ns → Content s w.place ns
       up_to s ns c = grow s at ns w.quiet (60 ∷ (w.body ++ 62 ∷ w.rest)) w.place ns w.is w.before (w.leads ns) c
@@ -262,69 +221,91 @@ module _ {A : Type 0} (keep : Keeping A) (doc : List ℕ) (formed : ill_formed d
           (rw (length-append w.body (62 ∷ [])) (omega (arith, w.after)))
           g (up_to s ns c)
 
-      top_closed : (fs : List Frame) (u : Tables Shown) → Plain fs → Docs u.rows → Kept (known q) (closed fs u)
-      top_closed [] u h g = g
-      top_closed (f ∷ fs) u h g = (plain_top q (f ∷ fs) h, g)
+      -- the same of any content that is passed over
+      past : (p : Purpose) (n m : Name) (ns ms : List Name) → Leads (token w.body w.kind w.tags ∷ []) (inner_of (n ∷ ns)) (inner_of (m ∷ ms)) → Over at (passing p (n ∷ ns)) → Over q (passing p (m ∷ ms))
+      past ignored n m ns ms g h = h
+      past (captures s i) n m ns ms g h = beyond s (inner_of (n ∷ ns)) (inner_of (m ∷ ms)) g h
 
-      start_in : (p : Purpose) (ns : List Name) (fs : List Frame) (u : Tables Shown) (x : tokens.Tag) → t ≡ start x → Top at (passing p ns ∷ fs) → Docs u.rows → Kept (known q) (inner whole doc p ns x fs u)
-      start_in ignored ns fs u x f h g =
-          either (Kept (known q)) x.self (λ c. (h, g)) (λ c. either (Kept (known q)) (leb 1024 (length ns)) (λ d. tt) (λ d. (h, g)))
-      start_in (captures s i) [] fs u x f h g = absurd h
-      start_in (captures s i) (n ∷ ns) fs u x f h g =
-          either (Kept (known q)) x.self
-          (λ c. ((beyond s (inner_of (n ∷ ns)) (inner_of (n ∷ ns)) (alone w.body w.place w.kind w.tags x (w.later ∙ f) c (inner_of (n ∷ ns))) h.0, h.1), g))
-          (λ c. either (Kept (known q)) (leb 1024 (suc (length ns)))
-          (λ d. tt)
-          (λ d. ((beyond s (inner_of (n ∷ ns)) (x.name ∷ inner_of (n ∷ ns)) (begins w.body w.place w.kind w.tags x (w.later ∙ f) c (inner_of (n ∷ ns)) (omega (arith, inner_long n ns, leb-false 1024 (suc (length ns)) d))) h.0, h.1), g)))
+      -- ---- a start tag
 
-      close_in : (p : Purpose) (ns : List Name) (fs : List Frame) (u : Tables Shown) (lt : ℕ) (m : List ℕ) (y : ℕ) → t ≡ close lt m y → same m (name_of (passing p ns)).bytes ≡ true → Top at (passing p ns ∷ fs) → Docs u.rows → Kept (known q) (shut doc (passing p ns) fs u lt)
-      close_in ignored [] fs u lt m y f c h g = top_closed fs u h g
-      close_in ignored (n ∷ []) fs u lt m y f c h g = top_closed fs u h g
-      close_in ignored (n ∷ o ∷ ns) fs u lt m y f c h g = (h, g)
-      close_in (captures s i) [] fs u lt m y f c h g = absurd h
-      close_in (captures s i) (n ∷ []) fs u lt m y f c h g =
-          let z : lt ≡ w.place = closing_place (w.body ++ 62 ∷ w.rest) w.place lt m y q (w.came ∙ ap (λ k. more k q) f) in
-          let d : drop lt doc ≡ 60 ∷ (w.body ++ 62 ∷ w.rest) = rw z begun_at in
-          let o : Content s lt [] = rw z (up_to s [] h.0) in
-          top_closed fs (passed doc (captures s i) lt u) h.1
-          (either (λ (x : Tables Shown). Docs x.rows) (ltb (trim_start (take (lt - s) (drop s doc))) (trim_end (take (lt - s) (drop s doc))))
-          (λ l. docs_documented i _ u.rows (content_doc s lt (w.body ++ 62 ∷ w.rest) d o l) g)
-          (λ l. g))
-      close_in (captures s i) (n ∷ o ∷ ns) fs u lt m y f c h g =
-          ((beyond s (inner_of (n ∷ o ∷ ns)) (inner_of (o ∷ ns)) (closes w.body w.place w.kind w.tags lt m y (w.later ∙ f) n.bytes (inner_of (o ∷ ns)) c) h.0, h.1), g)
+      -- it ends with `/>`; it opens one element more in content that is passed over
+      moved : (x : tokens.Tag) → t ≡ start x → x.self ≡ true → (f : Frame) → Over at f → Over q f
+      moved x f c (element k n r) h = h
+      moved x f c (definition d) h = h
+      moved x f c (passing p []) h = absurd h
+      moved x f c (passing p (n ∷ ns)) h = past p n n ns ns (alone w.body w.place w.kind w.tags x (w.later ∙ f) c (inner_of (n ∷ ns))) h
 
-      turn_in : (p : Purpose) (ns : List Name) (fs : List Frame) (u : Tables Shown) (k : Token) → t ≡ k → Top at (passing p ns ∷ fs) → Docs u.rows → Kept (known q) (turn whole doc (passing p ns) fs u k)
-      turn_in p ns fs u (start x) f h g = start_in p ns fs u x f h g
-      turn_in p ns fs u (close lt m y) f h g = either (Kept (known q)) (same m (name_of (passing p ns)).bytes) (λ c. close_in p ns fs u lt m y f c h g) (λ c. tt)
-      turn_in p ns fs u (fault n y) f h g = tt
-      turn_in p ns fs u (end y) f h g = tt
+      deeper : (x : tokens.Tag) → t ≡ start x → x.self ≡ false → (p : Purpose) (ns : List Name) → leb 1024 (length ns) ≡ false → Over at (passing p ns) → Over q (passing p (tag_name x ∷ ns))
+      deeper x f c p [] d h = absurd h
+      deeper x f c p (n ∷ ns) d h =
+          past p n (tag_name x) ns (n ∷ ns)
+          (begins w.body w.place w.kind w.tags x (w.later ∙ f) c (inner_of (n ∷ ns)) (omega (arith, inner_long n ns, leb-false 1024 (suc (length ns)) d))) h
+
+      starts : (x : tokens.Tag) → t ≡ start x → x.after ≡ q → Starts whole doc (known at) (known at) (known q) x
+      starts x f g = record {
+        closes = closing;
+        moves = λ y fs u c h. ((moved x f c y h.0.0, h.0.1), h.1);
+        row = λ k r fs u c b n o d h. (top_frame q k x (length u.rows) fs (plain_begins at (length u.rows) k fs b h.0), docs_more u.rows r (bare k r fs u b o) h.1);
+        own_row = λ k r fs u c b n o h. (top_frame at k x (length u.rows) fs (plain_begins at (length u.rows) k fs b h.0), docs_more u.rows r (bare k r fs u b o) h.1);
+        refusal = λ k p x o. tt;
+        deep = tt;
+        warning = λ y fs u c h. ((moved x f c y h.0.0, h.0.1), h.1);
+        skips = λ y fs u c d h. ((tt, (d, h.0.1)), h.1);
+        docstring = λ y fs u c d h. ((rw g (record { atoms = []; is = refl; long = omega arith; leads = refl; cut = ended_at }), (d.0, h.0.1)), h.1);
+        within = λ p ns fs u c d h. ((deeper x f c p ns d h.0.0, h.0.1), h.1);
+      }
+        where
+          bare : (k : ℕ) (r : Row Shown) (fs : List Frame) (u : Tables Shown) → Begins (length u.rows) k fs → opens_as whole k (parent_of fs) x ≡ opens r → r.doc ≡ none
+          bare k r fs u b o = let y : Entry k (parent_of fs) x r = rw o at (start_opens (parent_of fs) x k (begins_kind (length u.rows) k fs b)) in y.doc
+
+      -- ---- a closing tag
+
+      shuts : (lt : ℕ) (m : List ℕ) (y : ℕ) → t ≡ close lt m y → Shuts whole doc (known at) (known q) lt m y
+      shuts lt m y f = record {
+        closes = closing;
+        passed = λ p ns fs u l h. (plain_top q fs h.0.1, h.1);
+        docstring = λ s i ns fs u l d h. (plain_top q fs h.0.1, filled s i ns u l d h.0.0 h.1);
+        within = λ p n ns fs u l c h. ((less p n ns l c h.0.0, h.0.1), h.1);
+        another = λ f fs u h. tt;
+        none = tt;
+      }
+        where
+          -- it closes the docstring; an element in content that is passed over
+          filled : (s i : ℕ) (ns : List Name) (u : Tables Shown) → length ns ≤ 1 → ltb (trim_start (content_at doc s lt)) (trim_end (content_at doc s lt)) ≡ true → Over at (passing (captures s i) ns) → Docs u.rows → Docs (captures_at whole doc lt s i u).rows
+          filled s i [] u l d h g = absurd h
+          filled s i (n ∷ []) u l d h g =
+              let z : lt ≡ w.place = closing_place (w.body ++ 62 ∷ w.rest) w.place lt m y q (w.came ∙ ap (λ k. more k q) f) in
+              let x : drop lt doc ≡ 60 ∷ (w.body ++ 62 ∷ w.rest) = rw z begun_at in
+              let o : Content s lt [] = rw z (up_to s [] h) in
+              docs_documented i _ u.rows (content_doc s lt (w.body ++ 62 ∷ w.rest) x o d) g
+          filled s i (n ∷ o ∷ ns) u l d h g = absurd (omega (arith, l))
+
+          less : (p : Purpose) (n : Name) (ns : List Name) → 1 ≤ length ns → same m n.bytes ≡ true → Over at (passing p (n ∷ ns)) → Over q (passing p ns)
+          less p n [] l c h = absurd (omega (arith, l))
+          less p n (o ∷ ns) l c h = past p n o (o ∷ ns) ns (closes w.body w.place w.kind w.tags lt m y (w.later ∙ f) n.bytes (inner_of (o ∷ ns)) c) h
+
+      ways : (k : Token) → t ≡ k → Onward at (at + length (drop at doc)) k q → Ways whole doc (known at) (known at) (known q) k
+      ways (start x) f o = starts x f o.after
+      ways (close lt n p) f o = shuts lt n p f
+      ways (fault n p) f o = tt
+      ways (end p) f o = (tt, λ f fs u h. tt)
 
       step_known : (s : State Shown) → Kept (known at) s → Kept (known q) (step whole doc s t)
-      unfolding step
-      step_known begun h = step_plain begun tt
-      step_known (reading [] u) h = step_plain (reading [] u) h
-      step_known (reading (element k n r ∷ fs) u) h = step_plain (reading (element k n r ∷ fs) u) h
-      step_known (reading (definition d ∷ fs) u) h = step_plain (reading (definition d ∷ fs) u) h
-      step_known (reading (passing p ns ∷ fs) u) h = turn_in p ns fs u t refl h.0 h.1
-      step_known (accepted u) h = h
-      step_known (refused x) h = tt
+      step_known s h =
+          step_kept whole doc (known at) (known at) (known q) s t
+          (record { ways = ways t refl (rw e at (next_reaches (drop at doc) at)); empty = λ h. (tt, tt); done = λ u h. h; fault = λ x h. h })
+          h
 
   -- ---- a token after which nothing is read
 
+  ended : (at top : ℕ) (t : Token) → Ended top t → Ways whole doc (known at) (known at) (known at) t
+  ended at top (start x) e = absurd e
+  ended at top (close lt n q) e = absurd e
+  ended at top (fault n p) e = tt
+  ended at top (end p) e = (tt, λ f fs u h. tt)
+
   step_last : (at top : ℕ) (t : Token) (s : State Shown) → Ended top t → Kept (known at) s → Kept (known at) (step whole doc s t)
-  unfolding step
-  step_last at top (start x) s e h = absurd e
-  step_last at top (close lt n q) s e h = absurd e
-  step_last at top (fault n p) begun e h = tt
-  step_last at top (fault n p) (reading [] u) e h = h.1
-  step_last at top (fault n p) (reading (f ∷ fs) u) e h = tt
-  step_last at top (fault n p) (accepted u) e h = h
-  step_last at top (fault n p) (refused x) e h = tt
-  step_last at top (end p) begun e h = tt
-  step_last at top (end p) (reading [] u) e h = h.1
-  step_last at top (end p) (reading (f ∷ fs) u) e h = tt
-  step_last at top (end p) (accepted u) e h = h
-  step_last at top (end p) (refused x) e h = tt
+  step_last at top t s e h = step_kept whole doc (known at) (known at) (known at) s t (record { ways = ended at top t e; empty = λ h. (tt, tt); done = λ u h. h; fault = λ x h. h }) h
 
   -- ---- all tokens
 

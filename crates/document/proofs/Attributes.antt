@@ -1,6 +1,5 @@
 -- The attributes of a tag: they lie in the document, one after another, so that the texts of all their values together are
 -- no longer than what has been read; and the faults in them.
--- Assumes nothing.
 use Prim.Native.Nat.{ℕ, zero, suc, ◌+◌, ◌≤◌}
 use mathlib.Core.Path.{◌≡◌, refl}
 use mathlib.Core.List.{List, [], ◌∷◌}

@@ -1,12 +1,11 @@
 -- Runs of a class of bytes: their lengths and bytes; and the numbers of faults.
--- Assumes nothing.
 use Prim.Native.Nat.{ℕ, zero, suc, ◌+◌, ◌<◌}
 use mathlib.Core.Path.{◌≡◌, refl, ap, sym, ◌∙◌}
 use mathlib.Core.List.{List, [], ◌∷◌, ◌++◌}
 use mathlib.Core.Bool.{Bool, true, false}
 use native.Mathlib.Omega.{arith}
 use lib.ListN.{length, get_or, length-append}
-use Rattle.slices.specs.Bytes.{if, span, past, empty}
+use Rattle.slices.specs.Bytes.{if, span, past}
 use Rattle.document.specs.Elements.{among}
 use Rattle.document.specs.Refusals.{faults}
 
@@ -25,10 +24,6 @@ span_and_past p (b ∷ l) = go (p b) (span_and_past p l)
 
 pub span_past : (p : ℕ → Bool) (l : List ℕ) → length (span p l) + length (past p l) ≡ length l
 span_past p l = sym (length-append (span p l) (past p l)) ∙ ap length (span_and_past p l)
-
-pub not_empty : (l : List ℕ) → empty l ≡ false → 0 < length l
-not_empty [] e = let z : ◌≡◌ {A = ℕ} 0 1 = cc in absurd (omega arith)
-not_empty (b ∷ l) e = omega arith
 
 -- the bytes of a run are of its class
 pub run-byte : (p : ℕ → Bool) (l : List ℕ) (i : ℕ) → i < length (span p l) → p (get_or l i 0) ≡ true

@@ -1,5 +1,4 @@
 -- Values of attributes: the form and the raw bytes of one that is there, and the text that it shows.
--- Assumes nothing.
 use Prim.Native.Nat.{ℕ, ◌+◌, ◌-◌}
 use mathlib.Core.Path.{◌≡◌, refl, ◌∙◌}
 use mathlib.Core.List.{List}

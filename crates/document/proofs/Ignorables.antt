@@ -1,5 +1,4 @@
 -- Where passing over what is ignorable comes to: further on, and no further than the end; so do the places of its faults.
--- Assumes nothing.
 use Prim.Native.Nat.{ℕ, zero, suc, ◌+◌, ◌-◌, ◌≤◌}
 use mathlib.Core.Path.{◌≡◌, refl}
 use mathlib.Core.List.{List, [], ◌∷◌}

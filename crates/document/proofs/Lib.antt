@@ -1,6 +1,5 @@
 -- The laws of prefixes, of runs, of values, of the loops over elements, and of one step, way by way; how far the next token reaches,
 -- and where its faults are.
--- Assumes nothing.
 pub mod Tests
 pub mod Prefixes
 pub mod Readers
@@ -17,4 +16,3 @@ pub mod Ignorables
 pub mod Unescapes
 pub mod Attributes
 pub mod Nexts
-pub mod Numbers

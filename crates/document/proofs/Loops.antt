@@ -1,9 +1,8 @@
 -- The loop over the children of an element: what it has read so far, and what each way of a turn makes of that.
--- Assumes nothing.
 use Prim.Native.Nat.{ℕ, ◌+◌, ◌-◌, ◌≤◌, ◌<◌}
 use mathlib.Core.Path.{◌≡◌, refl, sym, ◌∙◌}
 use mathlib.Core.List.{List, [], ◌∷◌}
-use mathlib.Core.Bool.{Bool, true, false, not, ◌&&◌}
+use mathlib.Core.Bool.{Bool, true, false, not, ◌&&◌, and-false}
 use borrow.Author.Rules.{rules}
 use borrow.Author.Tests.{ne_eqb}
 use native.Mathlib.Numerals.{add-one}
@@ -17,7 +16,7 @@ use Rattle.document.specs.Kinds as kinds
 use Rattle.document.specs.Tags.{Shown}
 use Rattle.document.specs.Tokens.{Tag}
 use Rattle.document.specs.Rows.{Row, Tables}
-use Rattle.document.specs.Elements.{kind_of, held_by_lem, may_hold, among}
+use Rattle.document.specs.Elements.{kind_of, held_by, may_hold, among}
 use Rattle.document.specs.Reading.{Frame, element, State, reading, child, noted, begins, unsupported}
 use Rattle.document.specs.Outcome.{Lent, lent, Stands, Bounded, Ready, Steps, Ends, Begins, Ignores, Captures, Others, Child, Children, name_at, runs, whole, moved}
 use Rattle.document.specs.declared.StartTag.{StartTag}
@@ -44,7 +43,7 @@ pub record Sofar (doc hs : List ℕ) (docs : Bool) (at len i : ℕ) (f₀ : Fill
   pub owner : i < f.rows
   pub leads :
       (k : ℕ) (fs : List Frame) (u : Tables Shown) →
-      held_by_lem k ≡ hs →
+      held_by k ≡ hs →
       not (eqb k kinds.annotation) ≡ docs →
       Stands u b₀ f₀ →
       (v : Tables Shown)
@@ -164,7 +163,7 @@ abbrev kept : (doc : List ℕ) (s s' : State Shown) (fs : List Frame) (n i : ℕ
 kept doc s s' fs n i u b (Err x) h q e = q ∙ e
 kept doc s s' fs n i u b (Ok g) h q e = (e.0, e.1, q ∙ e.2, rows-kept i n e.0.rows u h e.3)
 
-not_held : (doc : List ℕ) (at m i : ℕ) (t : Tag) (fs : List Frame) (u : Tables Shown) → (eqb (kind_of t.name) kinds.docstring && not (eqb m kinds.annotation)) ≡ false → among (kind_of t.name) (held_by_lem m) ≡ false → runs doc at (child whole doc m i t fs u) ≡ runs doc at (unsupported whole doc t fs u)
+not_held : (doc : List ℕ) (at m i : ℕ) (t : Tag) (fs : List Frame) (u : Tables Shown) → (eqb (kind_of t.name) kinds.docstring && not (eqb m kinds.annotation)) ≡ false → among (kind_of t.name) (held_by m) ≡ false → runs doc at (child whole doc m i t fs u) ≡ runs doc at (unsupported whole doc t fs u)
 unfolding may_hold
 not_held doc at m i t fs u j y = rw (j, y)
 
@@ -197,10 +196,6 @@ module _ {doc : List ℕ} {c : StartTag} {i : ℕ} {f : Fill} where
         (not_held doc c.end m i t (element m n i ∷ fs) u j (rw e))
         (h.ends t (element m n i ∷ fs) u rows bytes z s);
   }
-    where
-      and-false : (t : Bool) → (t && false) ≡ false
-      and-false true = refl
-      and-false false = refl
 
   pub child_other : {hs rows rows' w w' bytes : List ℕ} {r : Result Fill Refusal} → among c.kind hs ≡ false → Others doc c i f rows rows' w w' r → Child doc hs true c i f (lent rows w bytes) (lent rows' w' bytes) r
   child_other {bytes = bytes} a h = record {
@@ -217,7 +212,7 @@ module _ {doc hs : List ℕ} {docs : Bool} {c : StartTag} {i : ℕ} {f : Fill} w
     onward = h.onward;
     ends = λ j n t fs u e o z s.
         let q : kind_of t.name ≡ m = sym z.kind ∙ k in
-        let y : among m (held_by_lem j) ≡ true = rw e a in
+        let y : among m (held_by j) ≡ true = rw e a in
         kept doc (runs doc c.end (child whole doc j i t (element j n i ∷ fs) u)) (runs doc c.end (begins whole doc m t (element j n i ∷ fs) u)) (element j n i ∷ fs) f.rows i u.rows b' r (omega arith)
         (held j t (element j n i ∷ fs) u q y)
         (rw (alone t (element j n i ∷ fs)) at (h.ends t (element j n i ∷ fs) u z (rw add-one) s));
@@ -226,7 +221,7 @@ module _ {doc hs : List ℕ} {docs : Bool} {c : StartTag} {i : ℕ} {f : Fill} w
       no_docstring : eqb m kinds.docstring ≡ false
       no_docstring = (none_of m x).2
 
-      held : (j : ℕ) (t : Tag) (fs : List Frame) (u : Tables Shown) → kind_of t.name ≡ m → among m (held_by_lem j) ≡ true → runs doc c.end (child whole doc j i t fs u) ≡ runs doc c.end (begins whole doc m t fs u)
+      held : (j : ℕ) (t : Tag) (fs : List Frame) (u : Tables Shown) → kind_of t.name ≡ m → among m (held_by j) ≡ true → runs doc c.end (child whole doc j i t fs u) ≡ runs doc c.end (begins whole doc m t fs u)
       held j t fs u q y = rw (q, no_docstring, y)
 
       alone : (t : Tag) (fs : List Frame) → noted m t fs ≡ fs

@@ -1,5 +1,4 @@
 -- The next token from a place on: where it ends, how long it is at least, and how long the texts in it are at most.
--- Assumes nothing.
 use Prim.Native.Nat.{ℕ, suc, ◌+◌, ◌-◌, ◌≤◌, ◌<◌}
 use mathlib.Core.Path.{◌≡◌, refl}
 use mathlib.Core.List.{List, [], ◌∷◌}
@@ -10,6 +9,7 @@ use lib.ListN.{length, drop, length-drop}
 use Rattle.std.specs.Prelude.{Result, Ok, Err}
 use Rattle.faults.specs.declared.Fault.{Fault}
 use Rattle.slices.specs.Bytes.{span, past, empty}
+use Rattle.slices.proofs.Ends.{not_empty}
 use Rattle.scan.specs.Classes.{white, name_byte}
 use Rattle.scan.specs.Ignorable.{ignorable}
 use Rattle.document.specs.Tags.{Attr, Gathered, gathered, too_many, gather, Shown, Checked, good, check}
@@ -18,7 +18,7 @@ use Rattle.document.specs.Tokens.{Tag, Token, start, close, fault, end, Next, mo
 use Rattle.document.specs.Elements.{among}
 use Rattle.document.specs.Refusals.{faults}
 use Rattle.document.proofs.Tests.{either, among_all}
-use Rattle.document.proofs.Branches.{span_past, not_empty}
+use Rattle.document.proofs.Branches.{span_past}
 use Rattle.document.proofs.Ignorables.{Scanned, ignorable_within}
 use Rattle.document.proofs.Attributes.{Met, raw_total, text_total, Gathers, gather_within, Checks, check_within}
 
@@ -126,9 +126,9 @@ module _ (from top : ℕ) where
   tag_reaches (b ∷ l) at h e =
       either (Reaches from top) (eqb b 47) (λ t. closing_reaches l at h (omega arith)) (λ t. opening_reaches (b ∷ l) at h e)
 
-  tag_or_end_lem : (l : List ℕ) (p : ℕ) → from ≤ p → p + length l ≡ top → Reaches from top (tag_or_end l p)
-  tag_or_end_lem [] p h e = omega arith
-  tag_or_end_lem (b ∷ l) p h e = tag_reaches l p h (omega arith)
+  tag_or_end_reaches : (l : List ℕ) (p : ℕ) → from ≤ p → p + length l ≡ top → Reaches from top (tag_or_end l p)
+  tag_or_end_reaches [] p h e = omega arith
+  tag_or_end_reaches (b ∷ l) p h e = tag_reaches l p h (omega arith)
 
 pub next_reaches : (l : List ℕ) (at : ℕ) → Reaches at (at + length l) (next l at)
 unfolding next
@@ -136,4 +136,4 @@ next_reaches l at = go (ignorable l at) (ignorable_within l at)
   where
     go : (s : Result ℕ Fault) → Scanned at (at + length l) s → Reaches at (at + length l) (past_ignorable s l at)
     go (Err f) h = record { number = among_all (λ m. among m faults) f.number (22 ∷ 23 ∷ 24 ∷ 25 ∷ []) refl h.0; place = h.1 }
-    go (Ok p) h = tag_or_end_lem at (at + length l) (drop (p - at) l) p h.0 (rw length-drop (omega (arith, h)))
+    go (Ok p) h = tag_or_end_reaches at (at + length l) (drop (p - at) l) p h.0 (rw length-drop (omega (arith, h)))

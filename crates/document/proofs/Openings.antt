@@ -1,5 +1,4 @@
 -- From the row of an element to the whole element: refused, closed by its own tag, or with children.
--- Assumes nothing.
 use Prim.Native.Nat.{ℕ, ◌<◌}
 use mathlib.Core.Path.{◌≡◌, refl, sym, ◌∙◌, ap}
 use mathlib.Core.List.{List, [], ◌∷◌}
@@ -15,7 +14,7 @@ use Rattle.document.specs.Kinds as kinds
 use Rattle.document.specs.Tags.{Shown}
 use Rattle.document.specs.Tokens.{Tag}
 use Rattle.document.specs.Rows.{Row, Tables}
-use Rattle.document.specs.Elements.{held_by_lem, among}
+use Rattle.document.specs.Elements.{held_by, among}
 use Rattle.document.specs.Reading.{tag_name, Frame, element, State, reading, parent_of, closed, with_row, noted, entered, begins}
 use Rattle.document.specs.Outcome.{Lent, lent, Stands, Bounded, name_at, TagIs, Ends, Onward, Begins, Opening, Children, Contents, runs, whole}
 use Rattle.document.specs.declared.StartTag.{StartTag}
@@ -53,7 +52,7 @@ module _ {doc : List ℕ} {k : ℕ} {c : StartTag} {p : ℕ} {f : Fill} {rows ro
     at-end : g.at ≡ c.end
     at-end = done.onward.0 ∙ o.at
 
-    pub opening_contents : {w : List ℕ} {b : Lent} {r : Result Fill Refusal} → among k kinds.definitions ≡ false → eqb k kinds.node ≡ false → Contents doc (held_by_lem k) (not (eqb k kinds.annotation)) c f.rows g (lent rows' w bytes') b r → Begins doc k c p f (lent rows w bytes) b r
+    pub opening_contents : {w : List ℕ} {b : Lent} {r : Result Fill Refusal} → among k kinds.definitions ≡ false → eqb k kinds.node ≡ false → Contents doc (held_by k) (not (eqb k kinds.annotation)) c f.rows g (lent rows' w bytes') b r → Begins doc k c p f (lent rows w bytes) b r
     opening_contents {w} {b} {r} d y l = record {
       onward = further r l.onward;
       ends = λ t fs u z h s.

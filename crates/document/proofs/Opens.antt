@@ -1,6 +1,5 @@
 -- What a start tag comes to, way by way: the row of its kind, or a refusal. Whatever is to hold of it need be shown of each way only;
 -- of two readers at once, which keep different things of an attribute.
--- Assumes nothing.
 use Prim.Native.Nat.{ℕ, suc}
 use mathlib.Core.Path.{◌≡◌, refl}
 use mathlib.Core.List.{List, [], ◌∷◌}
@@ -11,7 +10,7 @@ use lib.Dec.{eqb}
 use Rattle.slices.specs.Bytes.{if, bytes, same}
 use Rattle.names.specs.Names.{interface_name, member_name, property_name}
 use Rattle.names.specs.Signature.{signature}
-use Rattle.document.specs.Tags.{Shown, is_tp_type_lem, tp_type}
+use Rattle.document.specs.Tags.{Shown, is_tp_type, tp_type}
 use Rattle.document.specs.Tokens.{Tag}
 use Rattle.document.specs.Elements.{among, access_of, direction_of, attr, Opened, opens, refuses, Keeping, row, required, valid, named_row, property_row, annotation_row, directed, arg_row, opens_as}
 use Rattle.document.specs.Refusals.{raw_of, bare, showing, lacking}
@@ -124,8 +123,8 @@ pub record Chosen (t : Tag) (n v o : Option Shown) : Type 0 where
   pub first : List ℕ
   pub second : List ℕ
   pub apart : same first second ≡ false
-  pub first_plain : is_tp_type_lem first ≡ false
-  pub second_plain : is_tp_type_lem second ≡ false
+  pub first_plain : is_tp_type first ≡ false
+  pub second_plain : is_tp_type second ≡ false
   pub name : From (attr first t) n
   pub value : From (attr second t) v
   pub tp : From (tp_type t.attrs) o
@@ -152,7 +151,7 @@ module _ {A B : Type 0} (keep : Keeping A) (seen : Keeping B) (p : ℕ) (t : Tag
         other = λ k c. named k;
       })
     where
-      chosen : {n v tp : Option Shown} (i j : List ℕ) → same i j ≡ false → is_tp_type_lem i ≡ false → is_tp_type_lem j ≡ false → From (attr i t) n → From (attr j t) v → From (tp_type t.attrs) tp → Chosen t n v tp
+      chosen : {n v tp : Option Shown} (i j : List ℕ) → same i j ≡ false → is_tp_type i ≡ false → is_tp_type j ≡ false → From (attr i t) n → From (attr j t) v → From (tp_type t.attrs) tp → Chosen t n v tp
       chosen i j a b c x y z = record { first = i; second = j; apart = a; first_plain = b; second_plain = c; name = x; value = y; tp = z }
 
       named : (k : ℕ) → P (opens (row keep t k p (attr (bytes "name") t) none none 0)) (opens (row seen t k p (attr (bytes "name") t) none none 0))

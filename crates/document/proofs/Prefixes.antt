@@ -1,9 +1,8 @@
 -- The local name and the tp type, by the colons of a name.
--- Assumes nothing.
 use Prim.Native.Nat.{ℕ, suc, ◌-◌, ◌≤◌}
 use mathlib.Core.Path.{◌≡◌, refl, ap}
 use mathlib.Core.List.{List, [], ◌∷◌}
-use mathlib.Core.Bool.{Bool, true, false, not, ◌&&◌}
+use mathlib.Core.Bool.{Bool, true, false, not, and-false}
 use borrow.Author.Tests.{eqb-true, eq-eqb, ne_eqb}
 use native.Mathlib.Omega.{arith}
 use lib.Dec.{eqb}
@@ -12,7 +11,7 @@ use Rattle.std.specs.Prelude.{Option, Some, None}
 use Rattle.slices.specs.Bytes.{if, other, span, past, all, empty}
 use Rattle.scan.specs.Colons.{colons, colon_at, colons_from}
 use Rattle.scan.specs.declared.Colons.{Colons}
-use Rattle.document.specs.Tags.{is_tp_type_lem}
+use Rattle.document.specs.Tags.{is_tp_type}
 use Rattle.document.specs.Elements.{local_name}
 use Rattle.document.specs.Prefixes.{local_start, tp_type_by, LocalNames, TpTypes}
 
@@ -49,8 +48,8 @@ local_by (b ∷ n) p = go (eqb b 58) refl (colons_from n (suc p)) (local_by n (s
     go false e (Some q) h =
         (rw (e, h.0), omega (arith, h.1), rw (e, h.0, drop_more b n p (suc q.last) (omega (arith, h.1))) h.2)
 
-pub local_name_lem : LocalNames
-local_name_lem n p = go (colons_from n p) (local_by n p)
+pub local_names : LocalNames
+local_names n p = go (colons_from n p) (local_by n p)
   where
     go : (c : Option Colons) → LocalBy n p c → local_name n ≡ drop (local_start p c - p) n
     go None h = rw (drop_none n p) (whole n h)
@@ -81,13 +80,9 @@ first_by (b ∷ n) p = go (eqb b 58) refl (colons_from n (suc p)) (first_by n (s
       rw (e, drop_more b n p (suc q.first) (omega (arith, h.0))) h.2,
     )
 
-and-false : (t : Bool) → (t && false) ≡ false
-and-false true = refl
-and-false false = refl
-
 pub tp_type : TpTypes
 tp_type n p = go (colons_from n p) (first_by n p)
   where
-    go : (c : Option Colons) → FirstBy n p c → is_tp_type_lem n ≡ tp_type_by n p c
+    go : (c : Option Colons) → FirstBy n p c → is_tp_type n ≡ tp_type_by n p c
     go None h = rw h (and-false (not (empty (span (other 58) n))))
     go (Some q) h = rw (h.1, h.2)

@@ -1,5 +1,4 @@
 -- What a reader keeps: over several steps, and what is known of its document.
--- Assumes nothing.
 use Prim.Native.Nat.{ℕ}
 use mathlib.Core.Path.{refl, ap, ◌∙◌}
 use mathlib.Core.List.{List}

@@ -1,5 +1,4 @@
 -- One token of a run at a place of a document; what a run that has ended absorbs.
--- Assumes nothing.
 use Prim.Native.Nat.{ℕ, zero, suc, ◌+◌, ◌-◌, ◌≤◌, ◌<◌}
 use native.Mathlib.Omega.{arith}
 use native.Mathlib.Nat.{add-zero, sub_self}

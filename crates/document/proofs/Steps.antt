@@ -1,11 +1,12 @@
 -- One step of reading, way by way: what a state is known to have, the next one has, if each way of a step keeps it. What is known may
--- differ before a token, between the row of a tag `/>` and the end of its element, and after the token, so that it can speak of places.
--- Assumes nothing.
-use Prim.Native.Nat.{ℕ, suc, ◌+◌, ◌-◌}
+-- differ before a token, between the row of a tag `/>` and the end of its element, and after the token, so that it can speak of places. A way is told what
+-- the step tests there, where a theorem asks for it.
+use Prim.Native.Nat.{ℕ, suc, ◌+◌, ◌-◌, ◌≤◌}
 use mathlib.Core.Path.{◌≡◌, refl}
 use mathlib.Core.List.{List, [], ◌∷◌}
 use mathlib.Core.Bool.{Bool, true, false, not, ◌&&◌}
 use borrow.Author.Tests.{eqb-true}
+use native.Mathlib.Omega.{arith}
 use lib.Dec.{eqb, leb, ltb}
 use lib.ListN.{length, take, drop}
 use Rattle.slices.specs.Bytes.{same}
@@ -19,28 +20,33 @@ use Rattle.document.specs.Refusals.{excerpt, bare, showing, showing_both, fault_
 use Rattle.document.specs.declared.Refusal.{Refusal}
 use Rattle.document.proofs.Tests.{either}
 
--- the kind of an open element, 0 where its content is passed over; whether it takes docstrings
+-- an open element whose content is read, not passed over; its kind, 0 of another
+abbrev pub Read : Frame → Type 0
+Read (element k n r) = Unit {0}
+Read (definition d) = Unit {0}
+Read (passing p ns) = ⊥
+
 abbrev pub kind_in : Frame → ℕ
 kind_in (element k n r) = k
 kind_in (definition d) = d.kind
 kind_in (passing p ns) = 0
 
-abbrev pub takes_docs : Frame → Bool
-takes_docs (element k n r) = not (eqb k kinds.annotation)
-takes_docs (definition d) = not (eqb d.kind kinds.annotation)
-takes_docs (passing p ns) = false
+-- it takes docstrings
+abbrev pub TakesDocs : Frame → Type 0
+TakesDocs f = Read f × (not (eqb (kind_in f) kinds.annotation) ≡ true)
 
 -- an element of kind k may begin, when there are n rows: the root, or what the innermost element may hold
 abbrev pub Begins : ℕ → ℕ → List Frame → Type 0
 Begins n k [] = (n ≡ 0) × (k ≡ kinds.node)
-Begins n k (f ∷ fs) = may_hold (kind_in f) k ≡ true
+Begins n k (f ∷ fs) = Read f × (may_hold (kind_in f) k ≡ true)
 
 -- its kind is that of its name, unless it is the root
 abbrev pub Named : Tag → ℕ → List Frame → Type 0
 Named t k [] = Unit {0}
 Named t k (f ∷ fs) = kind_of t.name ≡ k
 
--- what is known: before the root, while elements are open, after the root, after a refusal
+-- what is known: before the root, of the open elements, after the root, after a refusal. None are open only within a step: before the
+-- row of the root, and after its end
 pub record Known (A : Type 0) : Type 1 where
   pub first : Type 0
   pub inside : List Frame → Tables A → Type 0
@@ -49,9 +55,14 @@ pub record Known (A : Type 0) : Type 1 where
 
 abbrev pub Kept : {A : Type 0} → Known A → State A → Type 0
 Kept i begun = i.first
-Kept i (reading fs u) = i.inside fs u
+Kept i (reading [] u) = ⊥
+Kept i (reading (f ∷ fs) u) = i.inside (f ∷ fs) u
 Kept i (accepted u) = i.done u
 Kept i (refused x) = i.fault x
+
+-- the content from s to the `<` of its closing tag
+abbrev pub content_at : List ℕ → ℕ → ℕ → List ℕ
+content_at doc s lt = take (lt - s) (drop s doc)
 
 module _ {A : Type 0} (keep : Keeping A) (doc : List ℕ) where
   -- the innermost element is closed: an element, a definition that is kept, one that is dropped; and if it was the root
@@ -64,27 +75,28 @@ module _ {A : Type 0} (keep : Keeping A) (doc : List ℕ) where
   -- a closing tag whose `<` stands at lt: also content that is passed over, a docstring, an element in such content; or another tag
   abbrev pub captures_at : ℕ → ℕ → ℕ → Tables A → Tables A
   captures_at lt s r u =
-      let content = take (lt - s) (drop s doc) in
+      let content = content_at doc s lt in
       record { rows = documented r (record { start = s + trim_start content; len = trim_end content - trim_start content }) u.rows; warnings = u.warnings }
 
   pub record Shuts (i j : Known A) (lt : ℕ) (name : List ℕ) (q : ℕ) : Type 0 where
     pub closes : Closes i j
-    pub passed : (p : Purpose) (ns : List Name) (fs : List Frame) (u : Tables A) → i.inside (passing p ns ∷ fs) u → j.inside fs u
-    pub docstring : (s r : ℕ) (ns : List Name) (fs : List Frame) (u : Tables A) → i.inside (passing (captures s r) ns ∷ fs) u → j.inside fs (captures_at lt s r u)
-    pub within : (p : Purpose) (n : Name) (ns : List Name) (fs : List Frame) (u : Tables A) → i.inside (passing p (n ∷ ns) ∷ fs) u → j.inside (passing p ns ∷ fs) u
+    pub passed : (p : Purpose) (ns : List Name) (fs : List Frame) (u : Tables A) → length ns ≤ 1 → i.inside (passing p ns ∷ fs) u → j.inside fs u
+    pub docstring : (s r : ℕ) (ns : List Name) (fs : List Frame) (u : Tables A) → length ns ≤ 1 → ltb (trim_start (content_at doc s lt)) (trim_end (content_at doc s lt)) ≡ true → i.inside (passing (captures s r) ns ∷ fs) u → j.inside fs (captures_at lt s r u)
+    pub within : (p : Purpose) (n : Name) (ns : List Name) (fs : List Frame) (u : Tables A) → 1 ≤ length ns → same name n.bytes ≡ true → i.inside (passing p (n ∷ ns) ∷ fs) u → j.inside (passing p ns ∷ fs) u
     pub another : (f : Frame) (fs : List Frame) (u : Tables A) → i.inside (f ∷ fs) u → j.fault (showing_both 6 q (excerpt (suc (suc lt)) name) (name_shown (name_of f)))
     pub none : j.fault (bare 4 (suc lt))
 
   -- a start tag; the second is what is known between the row of a tag `/>` and the end of its element
   pub record Starts (i m j : Known A) (t : Tag) : Type 0 where
     pub closes : Closes m j
-    pub moves : (fs : List Frame) (u : Tables A) → i.inside fs u → j.inside fs u
+    pub moves : (f : Frame) (fs : List Frame) (u : Tables A) → t.self ≡ true → i.inside (f ∷ fs) u → j.inside (f ∷ fs) u
     pub row :
         (k : ℕ) (r : Row A) (fs : List Frame) (u : Tables A) →
         t.self ≡ false →
         Begins (length u.rows) k fs →
         Named t k fs →
         opens_as keep k (parent_of fs) t ≡ opens r →
+        too_deep keep doc k fs ≡ false →
         i.inside fs u →
         j.inside (frame_of k t (length u.rows) ∷ noted k t fs) (with_row r u)
     pub own_row :
@@ -97,10 +109,10 @@ module _ {A : Type 0} (keep : Keeping A) (doc : List ℕ) where
         m.inside (frame_of k t (length u.rows) ∷ noted k t fs) (with_row r u)
     pub refusal : (k p : ℕ) (x : Refusal) → opens_as keep k p t ≡ refuses x → j.fault x
     pub deep : j.fault (bare 7 t.after)
-    pub warning : (fs : List Frame) (u : Tables A) → t.self ≡ true → i.inside fs u → j.inside fs (with_warning 1 t.at t.name u)
-    pub skips : (fs : List Frame) (u : Tables A) → i.inside fs u → j.inside (passing ignored (tag_name t ∷ []) ∷ fs) (with_warning 1 t.at t.name u)
-    pub docstring : (f : Frame) (fs : List Frame) (u : Tables A) → takes_docs f ≡ true → i.inside (f ∷ fs) u → j.inside (passing (captures t.after (row_of f)) (tag_name t ∷ []) ∷ f ∷ fs) u
-    pub within : (p : Purpose) (ns : List Name) (fs : List Frame) (u : Tables A) → i.inside (passing p ns ∷ fs) u → j.inside (passing p (tag_name t ∷ ns) ∷ fs) u
+    pub warning : (f : Frame) (fs : List Frame) (u : Tables A) → t.self ≡ true → i.inside (f ∷ fs) u → j.inside (f ∷ fs) (with_warning 1 t.at t.name u)
+    pub skips : (f : Frame) (fs : List Frame) (u : Tables A) → t.self ≡ false → Read f → i.inside (f ∷ fs) u → j.inside (passing ignored (tag_name t ∷ []) ∷ f ∷ fs) (with_warning 1 t.at t.name u)
+    pub docstring : (f : Frame) (fs : List Frame) (u : Tables A) → t.self ≡ false → TakesDocs f → i.inside (f ∷ fs) u → j.inside (passing (captures t.after (row_of f)) (tag_name t ∷ []) ∷ f ∷ fs) u
+    pub within : (p : Purpose) (ns : List Name) (fs : List Frame) (u : Tables A) → t.self ≡ false → leb 1024 (length ns) ≡ false → i.inside (passing p ns ∷ fs) u → j.inside (passing p (tag_name t ∷ ns) ∷ fs) u
 
   abbrev pub Ways : Known A → Known A → Known A → Token → Type 0
   Ways i m j (start t) = Starts i m j t
@@ -111,7 +123,6 @@ module _ {A : Type 0} (keep : Keeping A) (doc : List ℕ) where
   pub record Steps (i m j : Known A) (t : Token) : Type 0 where
     pub ways : Ways i m j t
     pub empty : i.first → i.inside [] (record { rows = []; warnings = [] })
-    pub ended : (u : Tables A) → i.inside [] u → j.done u
     pub done : (u : Tables A) → i.done u → j.done u
     pub fault : (x : Refusal) → i.fault x → j.fault x
 
@@ -134,20 +145,20 @@ module _ {A : Type 0} (keep : Keeping A) (doc : List ℕ) where
         (λ e h. closed_kept fs u (c.element k (tag_name t) n fs u h))
 
   module _ {i j : Known A} {lt : ℕ} {name : List ℕ} {q : ℕ} (c : Shuts i j lt name q) where
-    passed_kept : (p : Purpose) (ns : List Name) (fs : List Frame) (u : Tables A) → i.inside (passing p ns ∷ fs) u → Kept j (closed fs (passed doc p lt u))
-    passed_kept ignored ns fs u h = closed_kept c.closes fs u (c.passed ignored ns fs u h)
-    passed_kept (captures s r) ns fs u h =
+    passed_kept : (p : Purpose) (ns : List Name) (fs : List Frame) (u : Tables A) → length ns ≤ 1 → i.inside (passing p ns ∷ fs) u → Kept j (closed fs (passed doc p lt u))
+    passed_kept ignored ns fs u l h = closed_kept c.closes fs u (c.passed ignored ns fs u l h)
+    passed_kept (captures s r) ns fs u l h =
         closed_kept c.closes fs (passed doc (captures s r) lt u)
-        (either (j.inside fs) (ltb (trim_start (take (lt - s) (drop s doc))) (trim_end (take (lt - s) (drop s doc))))
-        (λ e. c.docstring s r ns fs u h)
-        (λ e. c.passed (captures s r) ns fs u h))
+        (either (j.inside fs) (ltb (trim_start (content_at doc s lt)) (trim_end (content_at doc s lt)))
+        (λ e. c.docstring s r ns fs u l e h)
+        (λ e. c.passed (captures s r) ns fs u l h))
 
-    shut_kept : (f : Frame) (fs : List Frame) (u : Tables A) → i.inside (f ∷ fs) u → Kept j (shut doc f fs u lt)
-    shut_kept (element k n r) fs u h = closed_kept c.closes fs u (c.closes.element k n r fs u h)
-    shut_kept (definition d) fs u h = judged_kept c.closes d fs u h
-    shut_kept (passing p []) fs u h = passed_kept p [] fs u h
-    shut_kept (passing p (n ∷ [])) fs u h = passed_kept p (n ∷ []) fs u h
-    shut_kept (passing p (n ∷ m ∷ ns)) fs u h = c.within p n (m ∷ ns) fs u h
+    shut_kept : (f : Frame) (fs : List Frame) (u : Tables A) → same name (name_of f).bytes ≡ true → i.inside (f ∷ fs) u → Kept j (shut doc f fs u lt)
+    shut_kept (element k n r) fs u e h = closed_kept c.closes fs u (c.closes.element k n r fs u h)
+    shut_kept (definition d) fs u e h = judged_kept c.closes d fs u h
+    shut_kept (passing p []) fs u e h = passed_kept p [] fs u (omega arith) h
+    shut_kept (passing p (n ∷ [])) fs u e h = passed_kept p (n ∷ []) fs u (omega arith) h
+    shut_kept (passing p (n ∷ m ∷ ns)) fs u e h = c.within p n (m ∷ ns) fs u (omega arith) e h
 
   -- ---- start tags
 
@@ -160,24 +171,23 @@ module _ {A : Type 0} (keep : Keeping A) (doc : List ℕ) where
         go (opens r) e =
             either (Kept j) t.self
             (λ c. own_kept s.closes k t (length u.rows) (noted k t fs) (with_row r u) (s.own_row k r fs u c b n e h))
-            (λ c. either (Kept j) (too_deep keep doc k fs) (λ d. s.deep) (λ d. s.row k r fs u c b n e h))
+            (λ c. either (Kept j) (too_deep keep doc k fs) (λ d. s.deep) (λ d. s.row k r fs u c b n e d h))
         go (refuses x) e = s.refusal k (parent_of fs) x e
 
-    unsupported_kept : (fs : List Frame) (u : Tables A) → i.inside fs u → Kept j (unsupported keep doc t fs u)
+    unsupported_kept : (f : Frame) (fs : List Frame) (u : Tables A) → Read f → i.inside (f ∷ fs) u → Kept j (unsupported keep doc t (f ∷ fs) u)
     unfolding unsupported
-    unsupported_kept fs u h =
-        either (Kept j) t.self (λ c. closed_kept s.closes fs _ (s.warning fs u c h)) (λ c. s.skips fs u h)
+    unsupported_kept f fs u r h = either (Kept j) t.self (λ c. s.warning f fs u c h) (λ c. s.skips f fs u c r h)
 
-    docstring_kept : (f : Frame) (fs : List Frame) (u : Tables A) → takes_docs f ≡ true → i.inside (f ∷ fs) u → Kept j (docstring_in keep doc t (f ∷ fs) (row_of f) u)
+    docstring_kept : (f : Frame) (fs : List Frame) (u : Tables A) → TakesDocs f → i.inside (f ∷ fs) u → Kept j (docstring_in keep doc t (f ∷ fs) (row_of f) u)
     unfolding docstring_in
-    docstring_kept f fs u d h = either (Kept j) t.self (λ c. s.moves (f ∷ fs) u h) (λ c. s.docstring f fs u d h)
+    docstring_kept f fs u d h = either (Kept j) t.self (λ c. s.moves f fs u c h) (λ c. s.docstring f fs u c d h)
 
-    child_kept : (f : Frame) (fs : List Frame) (u : Tables A) → (not (eqb (kind_in f) kinds.annotation) ≡ true → takes_docs f ≡ true) → i.inside (f ∷ fs) u → Kept j (child keep doc (kind_in f) (row_of f) t (f ∷ fs) u)
-    child_kept f fs u d h =
+    child_kept : (f : Frame) (fs : List Frame) (u : Tables A) → Read f → i.inside (f ∷ fs) u → Kept j (child keep doc (kind_in f) (row_of f) t (f ∷ fs) u)
+    child_kept f fs u r h =
         let c = kind_of t.name in
         either (Kept j) (eqb c kinds.docstring && not (eqb (kind_in f) kinds.annotation))
-        (λ e. docstring_kept f fs u (d (second (eqb c kinds.docstring) (not (eqb (kind_in f) kinds.annotation)) e)) h)
-        (λ e. either (Kept j) (may_hold (kind_in f) c) (λ b. begins_kept c (f ∷ fs) u b refl h) (λ b. unsupported_kept (f ∷ fs) u h))
+        (λ e. docstring_kept f fs u (r, second (eqb c kinds.docstring) (not (eqb (kind_in f) kinds.annotation)) e) h)
+        (λ e. either (Kept j) (may_hold (kind_in f) c) (λ b. begins_kept c (f ∷ fs) u (r, b) refl h) (λ b. unsupported_kept f fs u r h))
       where
         second : (x y : Bool) → (x && y) ≡ true → y ≡ true
         second true y e = e
@@ -185,19 +195,19 @@ module _ {A : Type 0} (keep : Keeping A) (doc : List ℕ) where
         second false false e = e
 
     started_kept : (f : Frame) (fs : List Frame) (u : Tables A) → i.inside (f ∷ fs) u → Kept j (started keep doc f fs u t)
-    started_kept (element k n r) fs u h = child_kept (element k n r) fs u (λ e. e) h
-    started_kept (definition d) fs u h = child_kept (definition d) fs u (λ e. e) h
+    started_kept (element k n r) fs u h = child_kept (element k n r) fs u tt h
+    started_kept (definition d) fs u h = child_kept (definition d) fs u tt h
     started_kept (passing p ns) fs u h =
         either (Kept j) t.self
-        (λ c. s.moves (passing p ns ∷ fs) u h)
-        (λ c. either (Kept j) (leb 1024 (length ns)) (λ d. s.deep) (λ d. s.within p ns fs u h))
+        (λ c. s.moves (passing p ns) fs u c h)
+        (λ c. either (Kept j) (leb 1024 (length ns)) (λ d. s.deep) (λ d. s.within p ns fs u c d h))
 
   -- ---- tokens
 
   module _ (i m j : Known A) where
     turn_kept : (t : Token) → Ways i m j t → (f : Frame) (fs : List Frame) (u : Tables A) → i.inside (f ∷ fs) u → Kept j (turn keep doc f fs u t)
     turn_kept (start t) w f fs u h = started_kept w f fs u h
-    turn_kept (close lt n q) w f fs u h = either (Kept j) (same n (name_of f).bytes) (λ c. shut_kept w f fs u h) (λ c. w.another f fs u h)
+    turn_kept (close lt n q) w f fs u h = either (Kept j) (same n (name_of f).bytes) (λ c. shut_kept w f fs u c h) (λ c. w.another f fs u h)
     turn_kept (fault n p) w f fs u h = w
     turn_kept (end p) w f fs u h = w.1 f fs u h
 
@@ -207,7 +217,7 @@ module _ {A : Type 0} (keep : Keeping A) (doc : List ℕ) where
     step_kept begun (close lt n q) k h = k.ways.none
     step_kept begun (fault n p) k h = k.ways
     step_kept begun (end p) k h = k.ways.0
-    step_kept (reading [] u) t k h = k.ended u h
+    step_kept (reading [] u) t k h = absurd h
     step_kept (reading (f ∷ fs) u) t k h = turn_kept t k.ways f fs u h
     step_kept (accepted u) t k h = k.done u h
     step_kept (refused x) t k h = k.fault x h

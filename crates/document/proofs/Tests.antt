@@ -1,8 +1,7 @@
--- Tests in definitions: what holds of both ways, and of each of some numbers.
--- Assumes nothing.
+-- Tests in definitions: what holds of both ways, what is among some numbers, and what holds of each of them.
 use Prim.Native.Nat.{ℕ}
 use mathlib.Core.Path.{◌≡◌, refl, subst, sym}
-use mathlib.Core.List.{List, [], ◌∷◌}
+use mathlib.Core.List.{List, [], ◌∷◌, ◌++◌}
 use mathlib.Core.Bool.{Bool, true, false}
 use borrow.Author.Tests.{eqb-true}
 use native.Mathlib.Omega.{arith}
@@ -22,6 +21,18 @@ either P false f g = g refl
 pub pairwise : {A B : Type 0} (P : A → B → Type 0) (t : Bool) {x y : A} {z w : B} → (t ≡ true → P x z) → (t ≡ false → P y w) → P (if t x y) (if t z w)
 pairwise P true f g = f refl
 pairwise P false f g = g refl
+
+-- one among some numbers is among more, and one among two lists
+pub among_there : (k x : ℕ) (xs : List ℕ) → among k xs ≡ true → among k (x ∷ xs) ≡ true
+among_there k x xs e = either (λ (t : Bool). t ≡ true) (eqb k x) (λ t. refl) (λ t. e)
+
+pub among_append : (k : ℕ) (xs ys : List ℕ) → among k (xs ++ ys) ≡ if (among k xs) true (among k ys)
+among_append k [] ys = refl
+among_append k (x ∷ xs) ys = go (eqb k x) (among_append k xs ys)
+  where
+    go : (t : Bool) → among k (xs ++ ys) ≡ if (among k xs) true (among k ys) → if t true (among k (xs ++ ys)) ≡ if (if t true (among k xs)) true (among k ys)
+    go true i = refl
+    go false i = i
 
 abbrev pub Each : (ℕ → Type 0) → List ℕ → Type 0
 Each P [] = Unit {0}

@@ -1,5 +1,4 @@
 -- The faults of a value: their numbers, and their places, which lie in the value; a reference that is bad has its `;`.
--- Assumes nothing.
 use Prim.Native.Nat.{ℕ, zero, suc, ◌<◌}
 use mathlib.Core.Path.{◌≡◌, refl}
 use mathlib.Core.List.{List, [], ◌∷◌}
@@ -9,13 +8,14 @@ use native.Mathlib.Omega.{arith}
 use lib.Dec.{eqb}
 use lib.ListN.{length, drop, get_or}
 use Rattle.slices.specs.Bytes.{bytes, other, span, past, all, empty, same}
+use Rattle.slices.proofs.Ends.{not_empty}
 use Rattle.answers.specs.Text.{Text, text, wrong}
 use Rattle.references.specs.Characters.{xml_char}
 use Rattle.references.specs.Unescape.{Reference, character, fault, of_digits, number, hex_digit, decimal_digit, of_number, char_reference, reference, Piece, shows, bad, referred, after_cr, piece, before, joined, shown_from, unescape}
 use Rattle.document.specs.Elements.{among}
 use Rattle.document.specs.Refusals.{faults}
 use Rattle.document.proofs.Tests.{either, among_all}
-use Rattle.document.proofs.Branches.{Number, span_past, not_empty}
+use Rattle.document.proofs.Branches.{Number, span_past}
 use Rattle.document.proofs.Places.{next-left, byte_left}
 
 -- the number of a bad reference

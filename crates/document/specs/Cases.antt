@@ -1,6 +1,5 @@
 -- Worked cases: documents, each with what reading it comes to (the refusal, or the words and text of the tables), and a value
 -- with what it is escaped to.
--- Assumes nothing.
 use Rattle.std.specs.Prelude.{ℕ, ◌≡◌, refl, List, [], ◌∷◌, ◌++◌, map, replicate}
 use Rattle.slices.specs.Bytes.{bytes}
 use Rattle.utf8.specs.WellFormed.{sequence, ill_formed}
@@ -14,7 +13,7 @@ use Rattle.references.specs.Escape.{escape}
 use Rattle.references.specs.Unescape.{reference, piece, unescape}
 use Rattle.document.specs.Tags.{attribute, gather, Shown}
 use Rattle.document.specs.Tokens.{opening, closing, next, tokens}
-use Rattle.document.specs.Rows.{row_words_lem, words_from, texts, warned}
+use Rattle.document.specs.Rows.{row_words, words_from, texts, warned}
 use Rattle.document.specs.Refusals.{excerpt, nothing, bare, showing, showing_both, fault_in}
 use Rattle.document.specs.declared.Refusal.{Refusal}
 use Rattle.document.specs.Elements.{kind_of, may_hold, opens_as}
@@ -75,5 +74,5 @@ cases =
     ∷ []
 
 pub worked : map (λ c. result_for c.0) cases ≡ map (λ c. c.1) cases
-unfolding meaning fault_in escape ill_formed sequence run step begins unsupported docstring_in opens_as kind_of may_hold tokens next opening closing gather attribute unescape piece reference xml_char utf8 ignorable row_words_lem trim_start trim_end characters interface_name member_name signature
+unfolding meaning fault_in escape ill_formed sequence run step begins unsupported docstring_in opens_as kind_of may_hold tokens next opening closing gather attribute unescape piece reference xml_char utf8 ignorable row_words trim_start trim_end characters interface_name member_name signature
 worked = refl

@@ -1,5 +1,4 @@
 -- Elements (docs/FORMAT.md, Elements): which name is which kind, what may stand in what, and what a start tag needs.
--- Assumes nothing.
 use Rattle.std.specs.Prelude.{ℕ, suc, List, [], ◌∷◌, Bool, true, false, not, ◌&&◌, eqb}
 use Rattle.std.proofs.Math.Option.{Option, none, some}
 use Rattle.slices.specs.Bytes.{if, bytes, other, all, empty, same}
@@ -45,8 +44,8 @@ among k [] = false
 among k (x ∷ xs) = let r = among k xs in if (eqb k x) true r
 
 -- what an element of a kind holds, besides docstrings
-abbrev pub held_by_lem : ℕ → List ℕ
-held_by_lem k =
+abbrev pub held_by : ℕ → List ℕ
+held_by k =
     if (eqb k kinds.node) kinds.in_node
     (if (eqb k kinds.interface) kinds.in_interface
     (if (among k kinds.callables) kinds.in_callable
@@ -55,7 +54,7 @@ held_by_lem k =
     (if (among k (kinds.struct ∷ kinds.mapping ∷ [])) (kinds.member ∷ []) [])))))
 
 unfoldable pub may_hold : ℕ → ℕ → Bool
-may_hold k c = among c (held_by_lem k)
+may_hold k c = among c (held_by k)
 
 -- property 1 read, 2 write, 3 readwrite; arg 1 in, 2 out; 0 is none of these
 abbrev pub access_of : List ℕ → ℕ

@@ -1,6 +1,5 @@
 -- The kinds of elements and of their rows (docs/FORMAT.md, Tables), and the lists of kinds that definitions use. `document::kinds` has the
 -- same numbers for the code.
--- Assumes nothing.
 use Rattle.std.specs.Prelude.{ℕ, List, [], ◌∷◌}
 
 abbrev pub node : ℕ

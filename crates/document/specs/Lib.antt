@@ -1,5 +1,4 @@
 -- The definition of reading: kinds, tags and tokens, rows, refusals, elements, the fold over the tokens, the whole document.
--- Assumes nothing.
 pub mod Kinds
 pub mod Tags
 pub mod Tokens

@@ -1,5 +1,4 @@
 -- What the reader's functions say: what the structs stand for, and how a run goes on after each answer.
--- Assumes nothing.
 use Rattle.std.specs.Prelude.{ℕ, suc, ◌+◌, ◌-◌, ◌*◌, ◌≤◌, ◌<◌, ◌≡◌, List, ◌∷◌, Bool, true, false, not, eqb, length, take, drop, get_or, Result, Ok, Err}
 use Rattle.std.proofs.Math.Option.{Option, none, some}
 use denote.Ref.{at_last}
@@ -14,7 +13,7 @@ use Rattle.document.specs.Tokens as tokens
 use Rattle.document.specs.Tokens.{Tag, start, close, fault, end, more, last, next}
 use Rattle.document.specs.Refusals.{fault_in}
 use Rattle.document.specs.Rows.{Row, Tables, words_from, texts, warned}
-use Rattle.document.specs.Elements.{kind_of, among, held_by_lem, opens, refuses, opens_as}
+use Rattle.document.specs.Elements.{kind_of, among, held_by, opens, refuses, opens_as}
 use Rattle.document.specs.Reading as reading
 use Rattle.document.specs.Reading.{Purpose, Frame, element, State, refused, name_of, parent_of, closed, with_row, shut, started, child, noted, begins, unsupported, docstring_in, passing, run, Name, tag_name}
 use Rattle.document.specs.declared.Form.{Form}
@@ -241,7 +240,7 @@ pub record Others (doc : List ℕ) (c : StartTag) (i : ℕ) (f : Fill) (rows row
   pub onward : Onward doc f r
   pub ends :
       (k : ℕ) (t : Tag) (fs : List Frame) (u : Tables Shown) (bytes : List ℕ) →
-      among c.kind (held_by_lem k) ≡ false →
+      among c.kind (held_by k) ≡ false →
       not (eqb k kinds.annotation) ≡ true →
       TagIs doc c t →
       Stands u (lent rows w bytes) f →
@@ -252,7 +251,7 @@ pub record Child (doc : List ℕ) (hs : List ℕ) (docs : Bool) (c : StartTag) (
   pub onward : Onward doc f r
   pub ends :
       (k : ℕ) (n : Name) (t : Tag) (fs : List Frame) (u : Tables Shown) →
-      held_by_lem k ≡ hs →
+      held_by k ≡ hs →
       not (eqb k kinds.annotation) ≡ docs →
       TagIs doc c t →
       Stands u b f →
@@ -263,7 +262,7 @@ pub record Children (doc : List ℕ) (hs : List ℕ) (docs : Bool) (at len i : �
   pub onward : Onward doc f r
   pub ends :
       (k : ℕ) (fs : List Frame) (u : Tables Shown) →
-      held_by_lem k ≡ hs →
+      held_by k ≡ hs →
       not (eqb k kinds.annotation) ≡ docs →
       Stands u b f →
       Ends doc (runs doc f.at (reading.reading (element k (name_at doc at len) i ∷ fs) u)) fs i (take i u.rows) b' r
@@ -273,7 +272,7 @@ pub record Contents (doc : List ℕ) (hs : List ℕ) (docs : Bool) (c : StartTag
   pub onward : Onward doc f r
   pub ends :
       (k : ℕ) (t : Tag) (fs : List Frame) (u : Tables Shown) →
-      held_by_lem k ≡ hs →
+      held_by k ≡ hs →
       not (eqb k kinds.annotation) ≡ docs →
       TagIs doc c t →
       Stands u b f →

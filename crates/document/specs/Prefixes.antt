@@ -1,11 +1,10 @@
 -- What the prefix of a name decides, by the colons that the name scanner tells: where the local name of an element begins, and whether
--- an attribute is a tp type. That these are `localName` and `isTpType` are two laws.
--- Assumes nothing.
+-- an attribute is a tp type. That these are `local_name` and `is_tp_type` are two laws.
 use Rattle.std.specs.Prelude.{ℕ, suc, ◌-◌, ◌≡◌, List, Bool, false, not, ◌&&◌, eqb, drop, Option, Some, None}
 use Rattle.slices.specs.Bytes.{bytes, same}
 use Rattle.scan.specs.Colons.{colons_from}
 use Rattle.scan.specs.declared.Colons.{Colons}
-use Rattle.document.specs.Tags.{is_tp_type_lem}
+use Rattle.document.specs.Tags.{is_tp_type}
 use Rattle.document.specs.Elements.{local_name}
 
 -- where the local name begins in a name from p on: past the last colon, or at p
@@ -23,4 +22,4 @@ abbrev pub LocalNames : Type 0
 LocalNames = (n : List ℕ) (p : ℕ) → local_name n ≡ drop (local_start p (colons_from n p) - p) n
 
 abbrev pub TpTypes : Type 0
-TpTypes = (n : List ℕ) (p : ℕ) → is_tp_type_lem n ≡ tp_type_by n p (colons_from n p)
+TpTypes = (n : List ℕ) (p : ℕ) → is_tp_type n ≡ tp_type_by n p (colons_from n p)

@@ -1,5 +1,4 @@
 -- Refusals (docs/FORMAT.md, Messages): number, place, and what the message shows: up to two excerpts of the document, and a key.
--- Assumes nothing.
 use Rattle.std.specs.Prelude.{ℕ, suc, List, [], ◌∷◌, ◌||◌, eqb, length, drop}
 use Rattle.slices.specs.Bytes.{if, other, span}
 use Rattle.scan.specs.Classes.{name_byte}

@@ -1,5 +1,4 @@
 -- Rows and warnings, and the words and text that they are in the tables (docs/FORMAT.md, Tables).
--- Assumes nothing.
 use Rattle.std.specs.Prelude.{ℕ, zero, suc, ◌+◌, List, [], ◌∷◌, ◌++◌, length}
 use Rattle.std.proofs.Math.Option.{Option, none, some}
 use Rattle.slices.specs.Bytes.{if, all}
@@ -61,8 +60,8 @@ doc_triple (some d) = 1 ∷ d.start ∷ d.len ∷ []
 abbrev pub row_text : Row Shown → List ℕ
 row_text r = text_of r.name ++ text_of r.value ++ text_of r.tp
 
-unfoldable pub row_words_lem : ℕ → Row Shown → List ℕ
-row_words_lem n r =
+unfoldable pub row_words : ℕ → Row Shown → List ℕ
+row_words n r =
     r.kind ∷ r.parent
     ∷ triple n r.name
     ++ triple (n + length (text_of r.name)) r.value
@@ -73,7 +72,7 @@ row_words_lem n r =
 -- the words of rows before which n bytes of text stand, and their text
 abbrev pub words_from : ℕ → List (Row Shown) → List ℕ
 words_from n [] = []
-words_from n (r ∷ rs) = row_words_lem n r ++ words_from (n + length (row_text r)) rs
+words_from n (r ∷ rs) = row_words n r ++ words_from (n + length (row_text r)) rs
 
 abbrev pub texts : List (Row Shown) → List ℕ
 texts [] = []

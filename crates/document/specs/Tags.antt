@@ -1,6 +1,5 @@
 -- What stands in a tag (docs/FORMAT.md, Tags): well_formed attributes are gathered first; then, one by one, duplicate
 -- before reference. Each function has what is left of the document and the place where that begins.
--- Assumes nothing.
 use Rattle.std.specs.Prelude.{ℕ, zero, suc, ◌+◌, List, [], ◌∷◌, Bool, true, false, not, ◌&&◌, eqb, length}
 use Rattle.std.proofs.Math.Option.{Option, none, some}
 use Rattle.slices.specs.Bytes.{if, bytes, other, span, past, empty, same}
@@ -102,10 +101,10 @@ lookup key [] = none
 lookup key (s ∷ ss) = let r = lookup key ss in if (same s.attr.name key) (some s) r
 
 -- a nonempty prefix, the first colon (58), then exactly `type`
-abbrev pub is_tp_type_lem : List ℕ → Bool
-is_tp_type_lem n = not (empty (span (other 58) n)) && same (past (other 58) n) (bytes ":type")
+abbrev pub is_tp_type : List ℕ → Bool
+is_tp_type n = not (empty (span (other 58) n)) && same (past (other 58) n) (bytes ":type")
 
 -- the first attribute that is a tp type
 abbrev pub tp_type : List Shown → Option Shown
 tp_type [] = none
-tp_type (s ∷ ss) = let r = tp_type ss in if (is_tp_type_lem s.attr.name) (some s) r
+tp_type (s ∷ ss) = let r = tp_type ss in if (is_tp_type s.attr.name) (some s) r

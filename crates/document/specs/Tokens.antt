@@ -1,6 +1,5 @@
 -- The tokens of a document (docs/FORMAT.md, Tags): what is ignorable is passed over; then comes a start tag, a closing
 -- tag, a fault or the end.
--- Assumes nothing.
 use Rattle.std.specs.Prelude.{ℕ, zero, suc, ◌+◌, ◌-◌, List, [], ◌∷◌, Bool, true, false, eqb, length, drop, Result, Ok, Err}
 use Rattle.faults.specs.declared.Fault.{Fault}
 use Rattle.slices.specs.Bytes.{if, span, past, empty}

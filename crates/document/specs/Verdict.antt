@@ -1,5 +1,4 @@
 -- The verdict on a document: how much was read, or why it is refused.
--- Assumes nothing.
 use Rattle.std.specs.Prelude.{ℕ, Result}
 use Rattle.document.specs.declared.Counts.{Counts}
 use Rattle.document.specs.declared.Refusal.{Refusal}

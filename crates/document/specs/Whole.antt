@@ -1,5 +1,4 @@
 -- A whole document and the room lent (docs/FORMAT.md, Answers): the answer, and every word and byte of rows, warnings and text.
--- Assumes nothing.
 use Rattle.std.specs.Prelude.{ℕ, ◌-◌, ◌/◌, ◌≡◌, List, ◌++◌, ◌||◌, ltb, length, replicate, Ok, Err}
 use Rattle.slices.specs.Bytes.{if}
 use Rattle.utf8.specs.WellFormed.{ill_formed}
@@ -53,8 +52,8 @@ left_in room f (reading fs t) = replicate room 0
 left_in room f (accepted t) = filled room (f t)
 left_in room f (refused x) = replicate room 0
 
-abbrev pub rows_left_lem : Room → State Shown → List ℕ
-rows_left_lem r s = left_in r.rows (λ t. words_from 0 t.rows) s
+abbrev pub rows_left : Room → State Shown → List ℕ
+rows_left r s = left_in r.rows (λ t. words_from 0 t.rows) s
 
 abbrev pub warnings_left : Room → State Shown → List ℕ
 warnings_left r s = left_in r.warnings (λ t. warned t.warnings) s
@@ -69,6 +68,6 @@ room_of rows warnings text = record { rows = length rows; warnings = length warn
 -- what reading a document with that room answers, and what it leaves in the buffers
 pub record Says (doc : List ℕ) (room : Room) (rows warnings text : List ℕ) (v : Verdict) : Type 0 where
   pub verdict : v ≡ verdict_of (read doc room)
-  pub rows_left : rows ≡ rows_left_lem room (read doc room)
-  pub warnings_left_lem : warnings ≡ warnings_left room (read doc room)
-  pub text_left_lem : text ≡ text_left room (read doc room)
+  pub of_rows : rows ≡ rows_left room (read doc room)
+  pub of_warnings : warnings ≡ warnings_left room (read doc room)
+  pub of_text : text ≡ text_left room (read doc room)

@@ -44,7 +44,7 @@ pub struct Refusal {
 }
 
 // Nothing is shown.
-pub const NOTHING: Excerpt = Excerpt { at: 0, len: 0 };
+const NOTHING: Excerpt = Excerpt { at: 0, len: 0 };
 
 // A refusal whose message shows nothing.
 pub fn bare(number: u32, place: usize) -> Refusal

@@ -1,3 +1,2 @@
 -- The laws of the rows of elements.
--- Assumes nothing.
 pub mod Rows

@@ -1,3 +1,2 @@
 -- What the functions say that put the rows of elements.
--- Assumes nothing.
 pub mod Outcome

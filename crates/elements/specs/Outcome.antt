@@ -1,5 +1,4 @@
 -- The steps of what a start tag comes to, and the kinds that need a good name and nothing else.
--- Assumes nothing.
 use Rattle.std.specs.Prelude.{ℕ, suc, ◌≡◌, List, Bool, not, eqb, Result, Ok, Err}
 use Rattle.std.proofs.Math.Option.{none}
 use Rattle.slices.specs.Bytes.{bytes}

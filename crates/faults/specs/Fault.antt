@@ -1,5 +1,4 @@
 -- A fault by its number and its place.
--- Assumes nothing.
 use Rattle.std.specs.Prelude.{ℕ}
 use Rattle.faults.specs.declared.Fault.{Fault}
 

@@ -1,3 +1,2 @@
 -- Faults: a number and a place.
--- Assumes nothing.
 pub mod Fault

@@ -1,5 +1,4 @@
 -- The document of a file and its decoded length, by what decoding answers; and what reading it says, by what reading the document says.
--- Assumes nothing.
 use Prim.Native.Nat.{ℕ, ◌-◌, ◌≤◌}
 use mathlib.Core.Path.{◌≡◌, refl, sym, ap}
 use mathlib.Core.List.{List, ◌++◌}
@@ -94,10 +93,10 @@ module _ {raw rows warnings x decoded : List ℕ} {r : Room} {room n : ℕ} {v :
   unfolding read_file
   reads_document t e s = record {
     verdict = rw e s.verdict;
-    rows_left = rw e s.rows_left;
-    warnings_left_lem = rw e s.warnings_left_lem;
-    text_left_lem = rw e s.text_left_lem;
-    decoded_left = l;
+    of_rows = rw e s.of_rows;
+    of_warnings = rw e s.of_warnings;
+    of_text = rw e s.of_text;
+    of_decoded = l;
     length = k;
   }
 
@@ -105,9 +104,9 @@ module _ {raw rows warnings x decoded : List ℕ} {r : Room} {room n : ℕ} {v :
   unfolding read_file
   reads_refused m p e f a b c = record {
     verdict = rw e f;
-    rows_left = rw e a;
-    warnings_left_lem = rw e b;
-    text_left_lem = rw e c;
-    decoded_left = l;
+    of_rows = rw e a;
+    of_warnings = rw e b;
+    of_text = rw e c;
+    of_decoded = l;
     length = k;
   }

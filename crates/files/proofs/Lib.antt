@@ -1,4 +1,3 @@
 -- What reading a file comes to, by what decoding it answers; and what is promised of it.
--- Assumes nothing.
 pub mod Documents
 pub mod Promises

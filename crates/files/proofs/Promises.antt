@@ -1,5 +1,4 @@
 -- What is promised of every file that is read.
--- Assumes nothing.
 use Prim.Native.Nat.{ℕ, ◌%◌, ◌<◌}
 use mathlib.Core.Path.{◌≡◌, refl, sym, ap, ◌∙◌}
 use mathlib.Core.List.{List, [], ◌∷◌}
@@ -33,11 +32,11 @@ of_no_mark raw room e = rw e
 
 pub read_as_document : ReadAsDocument
 unfolding read_file
-read_as_document raw t rows warnings x decoded room decodedRoom r e s = record {
+read_as_document raw t rows warnings x decoded room decoding_room r e s = record {
   verdict = rw e at s.verdict;
-  rows_left = rw e at s.rows_left;
-  warnings_left_lem = rw e at s.warnings_left_lem;
-  text_left_lem = rw e at s.text_left_lem;
+  of_rows = rw e at s.of_rows;
+  of_warnings = rw e at s.of_warnings;
+  of_text = rw e at s.of_text;
 }
 
 -- ---- the document of everything that follows
@@ -48,9 +47,9 @@ unfolding read meaning ill_formed run step tokens next ignorable
 nothing_read r = refl
 
 -- of a document that is something
-pub document_left_lem : (raw : List ℕ) (room : ℕ) (t : List ℕ) → document_of raw room ≡ text t → (length t ≡ 0 → ⊥) → document_left raw (left raw room) (decoded_length raw room) ≡ t
+pub document_is_left : (raw : List ℕ) (room : ℕ) (t : List ℕ) → document_of raw room ≡ text t → (length t ≡ 0 → ⊥) → document_left raw (left raw room) (decoded_length raw room) ≡ t
 unfolding document_of decoded_length
-document_left_lem raw room t = go (marked raw) refl
+document_is_left raw room t = go (marked raw) refl
   where
     go : (m : Bool) → marked raw ≡ m → document_of raw room ≡ text t → (length t ≡ 0 → ⊥) → document_left raw (left raw room) (decoded_length raw room) ≡ t
     go false m e h =
@@ -63,12 +62,12 @@ document_left_lem raw room t = go (marked raw) refl
 
 pub accepted_document : AcceptedDocument
 unfolding read_file
-accepted_document raw rows warnings x decoded room decodedRoom r n m k s a = go (document_of raw decodedRoom) refl (sym s.verdict ∙ a)
+accepted_document raw rows warnings x decoded room decoding_room r n m k s a = go (document_of raw decoding_room) refl (sym s.verdict ∙ a)
   where
-    left_is : (t : List ℕ) → document_of raw decodedRoom ≡ text t → (length t ≡ 0 → ⊥) → document_left raw decoded r.decoded ≡ t
-    left_is t e h = rw (s.decoded_left, s.length) (document_left_lem raw decodedRoom t e h)
+    left_is : (t : List ℕ) → document_of raw decoding_room ≡ text t → (length t ≡ 0 → ⊥) → document_left raw decoded r.decoded ≡ t
+    left_is t e h = rw (s.of_decoded, s.length) (document_is_left raw decoding_room t e h)
 
-    go : (o : Text) → document_of raw decodedRoom ≡ o → verdict_of (read_text o room) ≡ Ok (counts n m k) → o ≡ text (document_left raw decoded r.decoded)
+    go : (o : Text) → document_of raw decoding_room ≡ o → verdict_of (read_text o room) ≡ Ok (counts n m k) → o ≡ text (document_left raw decoded r.decoded)
     go (text []) e f = let q = rw (nothing_read room) at f in let z : ◌≡◌ {A = ℕ} 0 1 = cc in absurd (omega arith)
     go (text (b ∷ t)) e f = ap text (sym (left_is (b ∷ t) e (λ h. absurd (omega arith))))
     go (wrong p q) e f = let z : ◌≡◌ {A = ℕ} 0 1 = cc in absurd (omega arith)

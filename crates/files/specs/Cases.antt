@@ -1,5 +1,4 @@
 -- Worked cases: files, each with the room for its text, and what reading it comes to: the refusal or the counts, and the decoded length.
--- Assumes nothing.
 use Rattle.std.specs.Prelude.{ℕ, ◌≡◌, refl, List, [], ◌∷◌, map, Ok, Err}
 use Rattle.utf8.specs.WellFormed.{sequence, ill_formed}
 use Rattle.utf8.specs.Encoding.{utf8}

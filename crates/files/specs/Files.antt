@@ -1,5 +1,4 @@
 -- A file and the room lent (docs/FORMAT.md, Files in UTF-16): its document, the answer, and every word and byte of the four buffers.
--- Assumes nothing.
 use Rattle.std.specs.Prelude.{ℕ, ◌≡◌, List, eqb, length, take}
 use Rattle.slices.specs.Bytes.{if}
 use Rattle.answers.specs.Text.{Text, text, wrong}
@@ -7,7 +6,7 @@ use Rattle.utf16.specs.Entry.{marked, decoding, left}
 use Rattle.document.specs.Tags.{Shown}
 use Rattle.document.specs.Refusals.{bare}
 use Rattle.document.specs.Reading.{State, refused}
-use Rattle.document.specs.Whole.{Room, read, verdict_of, rows_left_lem, warnings_left, text_left}
+use Rattle.document.specs.Whole.{Room, read, verdict_of, rows_left, warnings_left, text_left}
 use Rattle.files.specs.declared.Reading.{Reading}
 
 -- the document of a file: what it decodes to with so much room for the text if it begins with a mark, else the file itself
@@ -31,13 +30,13 @@ unfoldable pub decoded_length : List ℕ → ℕ → ℕ
 decoded_length raw room = let n = length_of (decoding raw room) in if (marked raw) n 0
 
 -- what reading a file with that room answers, and what it leaves in the buffers: after a refusal of the decoded text that text stands
-pub record Reads (raw : List ℕ) (room : Room) (decodedRoom : ℕ) (rows warnings text decoded : List ℕ) (r : Reading) : Type 0 where
-  pub verdict : r.verdict ≡ verdict_of (read_file raw room decodedRoom)
-  pub rows_left : rows ≡ rows_left_lem room (read_file raw room decodedRoom)
-  pub warnings_left_lem : warnings ≡ warnings_left room (read_file raw room decodedRoom)
-  pub text_left_lem : text ≡ text_left room (read_file raw room decodedRoom)
-  pub decoded_left : decoded ≡ left raw decodedRoom
-  pub length : r.decoded ≡ decoded_length raw decodedRoom
+pub record Reads (raw : List ℕ) (room : Room) (decoding_room : ℕ) (rows warnings text decoded : List ℕ) (r : Reading) : Type 0 where
+  pub verdict : r.verdict ≡ verdict_of (read_file raw room decoding_room)
+  pub of_rows : rows ≡ rows_left room (read_file raw room decoding_room)
+  pub of_warnings : warnings ≡ warnings_left room (read_file raw room decoding_room)
+  pub of_text : text ≡ text_left room (read_file raw room decoding_room)
+  pub of_decoded : decoded ≡ left raw decoding_room
+  pub length : r.decoded ≡ decoded_length raw decoding_room
 
 -- the document of everything that follows: the decoded bytes that were counted; the file itself where none were
 abbrev pub document_left : List ℕ → List ℕ → ℕ → List ℕ

@@ -1,5 +1,4 @@
 -- What is promised of every file that is read: its document is the one that what follows is handed, and how much room is always enough.
--- Assumes nothing.
 use Rattle.std.specs.Prelude.{ℕ, ◌*◌, ◌≤◌, ◌≡◌, List, [], ◌∷◌, true, false, length, Ok}
 use Rattle.slices.specs.Bytes.{all}
 use Rattle.answers.specs.Text.{text, wrong}
@@ -18,18 +17,18 @@ Unmarked = (raw : List ℕ) (room : ℕ) → marked raw ≡ false → document_o
 -- reading a file is reading its document: the same verdict, rows, warnings and text
 abbrev pub ReadAsDocument : Type 0
 ReadAsDocument =
-    (raw t rows warnings x decoded : List ℕ) (room : Room) (decodedRoom : ℕ) (r : Reading) →
-    document_of raw decodedRoom ≡ text t →
-    Reads raw room decodedRoom rows warnings x decoded r →
+    (raw t rows warnings x decoded : List ℕ) (room : Room) (decoding_room : ℕ) (r : Reading) →
+    document_of raw decoding_room ≡ text t →
+    Reads raw room decoding_room rows warnings x decoded r →
     Says t room rows warnings x r.verdict
 
 -- what follows an acceptance is handed that document
 abbrev pub AcceptedDocument : Type 0
 AcceptedDocument =
-    (raw rows warnings x decoded : List ℕ) (room : Room) (decodedRoom : ℕ) (r : Reading) (n m k : ℕ) →
-    Reads raw room decodedRoom rows warnings x decoded r →
+    (raw rows warnings x decoded : List ℕ) (room : Room) (decoding_room : ℕ) (r : Reading) (n m k : ℕ) →
+    Reads raw room decoding_room rows warnings x decoded r →
     r.verdict ≡ Ok (counts n m k) →
-    document_of raw decodedRoom ≡ text (document_left raw decoded r.decoded)
+    document_of raw decoding_room ≡ text (document_left raw decoded r.decoded)
 
 -- a file that cannot be decoded is refused by one of four numbers
 abbrev pub DecodingRefused : Type 0

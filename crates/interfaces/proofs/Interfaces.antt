@@ -1,21 +1,21 @@
 -- The laws of the children of an interface.
--- Assumes nothing.
 use Prim.Native.Nat.{ℕ, ◌+◌, ◌<◌}
 use mathlib.Core.Path.{◌≡◌, refl, sym, ◌∙◌}
 use mathlib.Core.List.{List, [], ◌∷◌}
 use mathlib.Core.Bool.{Bool, true, false}
 use borrow.Author.Rules.{rules}
-use borrow.Author.Tests.{eq-eqb, ne_eqb, eqb-true}
+use borrow.Author.Tests.{eq-eqb, ne_eqb}
 use lib.Dec.{eqb}
 use Rattle.std.specs.Prelude.{Result}
 use Rattle.slices.specs.Bytes.{if}
-use Rattle.document.specs.Kinds.{simple_type, enum, struct, mapping, definitions, in_interface}
+use Rattle.document.specs.Kinds.{definitions, in_interface}
 use Rattle.document.specs.Elements.{among}
 use Rattle.document.specs.Outcome.{Lent, Begins, Child}
 use Rattle.document.specs.declared.StartTag.{StartTag}
 use Rattle.document.specs.declared.Fill.{Fill}
 use Rattle.document.specs.declared.Refusal.{Refusal}
 use Rattle.document.proofs.Readers.{keeping}
+use Rattle.document.proofs.Tests.{among_each}
 use Rattle.document.proofs.Loops.{child_begins, parts_and_docstring}
 use Rattle.telepathy.specs.Outcome.{DefinitionKind}
 use Rattle.members.proofs.Members.{NoneOf, none_more, child_else, child_parent, child_taken, method_callable, signal_callable}
@@ -61,23 +61,8 @@ holds_more {x} h = record { is = λ k e. rw (h.is k e) (always (eqb k x)) }
 pub interface_holds : HoldsDefinitions in_interface
 interface_holds = holds_more (holds_more (holds_more (holds_more holds_definitions)))
 
--- what holds of each of these kinds
-pick : (P : ℕ → Type 0) (k x : ℕ) (ks : List ℕ) → P x → (among k ks ≡ true → P k) → among k (x ∷ ks) ≡ true → P k
-pick P k x ks h rest e = go (eqb k x) refl e
-  where
-    go : (t : Bool) → eqb k x ≡ t → if t true (among k ks) ≡ true → P k
-    go true q e = rw (eqb-true k x q) h
-    go false q e = rest e
-
-abbrev NoPart : ℕ → Type 0
-NoPart k = among k parts_and_docstring ≡ false
-
 no_part : (k : ℕ) → among k definitions ≡ true → among k parts_and_docstring ≡ false
-no_part k =
-    pick NoPart k simple_type (enum ∷ struct ∷ mapping ∷ []) refl
-    (pick NoPart k enum (struct ∷ mapping ∷ []) refl
-    (pick NoPart k struct (mapping ∷ []) refl
-    (pick NoPart k mapping [] refl (λ e. cc))))
+no_part k e = among_each (λ j. among j parts_and_docstring ≡ false) k definitions e (refl, (refl, (refl, (refl, tt))))
 
 pub child_definition : {doc hs : List ℕ} {docs : Bool} {c : StartTag} {i : ℕ} {f : Fill} {b b' : Lent} {t : Bool} {r : Result Fill Refusal} → i < f.rows → HoldsDefinitions hs → Among c.kind definitions t → t ≡ true → Begins doc c.kind c (i + 1) f b b' r → Child doc hs docs c i f b b' r
 child_definition {c = c} l d a e h = let y = sym a.is ∙ e in child_begins l refl (d.is c.kind y) (no_part c.kind y) h

@@ -1,3 +1,2 @@
 -- The laws of interfaces.
--- Assumes nothing.
 pub mod Interfaces

@@ -1,5 +1,4 @@
 -- Whether a kind is one of some.
--- Assumes nothing.
 use Rattle.std.specs.Prelude.{ℕ, ◌≡◌, List, Bool}
 use Rattle.document.specs.Elements.{among}
 

@@ -1,11 +1,10 @@
 -- The words of an answer, on each way of the code.
--- Assumes nothing.
 use Prim.Native.Nat.{ℕ}
 use mathlib.Core.Path.{◌≡◌, refl, ap, ◌∙◌}
 use mathlib.Core.List.{List}
 use mathlib.Core.Bool.{Bool}
 use borrow.Author.Rules.{rules}
-use lib.ListN.{length, replicate, get_or}
+use lib.ListN.{length, get_or}
 use Rattle.std.specs.Prelude.{Result}
 use Rattle.tables.specs.declared.Triple.{Triple}
 use Rattle.tables.specs.Triple.{inside, resolved}
@@ -22,92 +21,77 @@ use Rattle.strict.specs.Strict as strict
 use Rattle.items.specs.Several.{several_writing, several_ends, WritesSeveral}
 use Rattle.items.specs.Writing.{writing, Writes}
 use Rattle.trees.specs.Writing.{tree_writing, WritesTree}
-use Rattle.introspection.specs.Words.{verdict_words, answer_words, columns_words, Reads, ReadsStrictly, text_words, outcome_words, part_words, lookup_words, told_by, message_by, warning_message_by, order_words, ordering_words}
+use Rattle.introspection.specs.Words.{verdict_words, answer_words, columns_words, Reads, ReadsStrictly, MakesText, MakesWords, MakesOrder, MakesItems, part_words, lookup_words, told_by, message_by, warning_message_by, order_words}
 use Rattle.order.specs.Ordering as ordering
-use Rattle.order.specs.Steps.{Orders}
+use Rattle.order.specs.Ordering.{OrdersTypes}
 
 module _ {raw rows warnings text decoded ws : List ℕ} {room : Room} {k : ℕ} {r : Reading} where
   pub reads : files.Reads raw room k rows warnings text decoded r → ws ≡ verdict_words r.verdict r.decoded → Reads raw room k rows warnings text decoded ws
   reads s h = record {
     words = h ∙ rw (s.verdict, s.length) refl;
-    rows_left = s.rows_left;
-    warnings_left_lem = s.warnings_left_lem;
-    text_left_lem = s.text_left_lem;
-    decoded_left = s.decoded_left;
+    of_rows = s.of_rows;
+    of_warnings = s.of_warnings;
+    of_text = s.of_text;
+    of_decoded = s.of_decoded;
   }
 
   pub reads-strictly : strict.ReadsStrictly raw room k rows warnings text decoded r → ws ≡ verdict_words r.verdict r.decoded → ReadsStrictly raw room k rows warnings text decoded ws
   reads-strictly s h = record {
     words = h ∙ rw (s.verdict, s.length) refl;
-    rows_left = s.rows_left;
-    warnings_left_lem = s.warnings_left_lem;
-    text_left_lem = s.text_left_lem;
-    decoded_left = s.decoded_left;
+    of_rows = s.of_rows;
+    of_warnings = s.of_warnings;
+    of_text = s.of_text;
+    of_decoded = s.of_decoded;
   }
 
-module _ {a : Result ℕ Fault} where
-  pub text-words : (t : Text) {ws : List ℕ} → ws ≡ answer_words a → a ≡ answer_of t → ws ≡ text_words t
-  text-words t h e = h ∙ ap answer_words e
+-- of a text that was made
+module _ {lent out rs : List ℕ} {a : Result ℕ Fault} (h : rs ≡ answer_words a) where
+  pub text_made : (t : ℕ → Text) → a ≡ answer_of (t (length lent)) → out ≡ left_of (length lent) (t (length lent)) → MakesText t lent out rs
+  text_made t e l = record { words = h ∙ ap answer_words e; of_output = l }
 
-module _ {a : Result (Unit {0}) Fault} where
-  pub outcome-words : (o : Outcome) {ws : List ℕ} → ws ≡ columns_words a → a ≡ entries-of.answer_of o → ws ≡ outcome_words o
-  outcome-words o h e = h ∙ ap columns_words e
+  pub text_said : (t : ℕ → Text) → Says (t (length lent)) (length lent) out a → MakesText t lent out rs
+  text_said t s = text_made t s.answer s.left
+
+  -- of a row that was written, and of a tree
+  pub item_made : {document x ws : List ℕ} {n i : ℕ} → Writes document x ws n i (length lent) out a → MakesText (writing document x ws n i) lent out rs
+  item_made {document} {x} {ws} {n} {i} w = text_said (writing document x ws n i) w.says
+
+  pub tree_made : {document x ws : List ℕ} {n i : ℕ} → WritesTree document x ws n i (length lent) out a → MakesText (tree_writing document x ws n i) lent out rs
+  tree_made {document} {x} {ws} {n} {i} w = text_said (tree_writing document x ws n i) w.says
+
+  -- of a message
+  pub message_made : (document ws : List ℕ) → Says (message_of document (told_by ws) (length lent)) (length lent) out a → MakesText (message_by document ws) lent out rs
+  unfolding message_by
+  message_made document ws s = text_said (message_by document ws) s
+
+  pub warning_made :
+      (document ws : List ℕ) →
+      Says (warning_message_of document (get_or ws 0 0) (get_or ws 2 0) (get_or ws 3 0) (length lent)) (length lent) out a →
+      MakesText (warning_message_by document ws) lent out rs
+  unfolding warning_message_by
+  warning_made document ws s = text_said (warning_message_by document ws) s
+
+  -- of several rows
+  pub items_made :
+      {document x ws is lent_ends ends : List ℕ} {n : ℕ} →
+      WritesSeveral document x ws n is (length lent) (length lent_ends) out ends a →
+      MakesItems (several_writing document x ws n is) (several_ends document x ws n is) lent lent_ends out ends rs
+  items_made w = record { words = h ∙ ap answer_words w.says.answer; of_output = w.says.left; of_ends = w.of_ends }
+
+-- of words that were made
+module _ {lent out rs : List ℕ} {a : Result (Unit {0}) Fault} where
+  pub words_made : (o : ℕ → Outcome) → rs ≡ columns_words a → a ≡ entries-of.answer_of (o (length lent)) → out ≡ entries-of.words_left (length lent) (o (length lent)) → MakesWords o lent out rs
+  words_made o h e l = record { words = h ∙ ap columns_words e; of_output = l }
 
 -- of definitions that were ordered
-module _ {document x ws work out work' : List ℕ} {n room : ℕ} {a : Result Ordered Fault} (w : Orders document x ws n room work out work' a) where
-  pub ordered_words : {rs : List ℕ} → rs ≡ order_words a → rs ≡ ordering_words (ordering.ordering document x ws n room)
-  ordered_words h = h ∙ ap order_words w.says.answer
-
-  pub ordered-left : out ≡ ordering.left_of room (ordering.ordering document x ws n room)
-  ordered-left = w.says.left
-
-  pub ordered-idle : work' ≡ replicate (length work) 0
-  ordered-idle = w.idle
+pub order_made :
+    {document x ws lent work out work' rs : List ℕ} {n : ℕ} {a : Result Ordered Fault} →
+    OrdersTypes document x ws n (length lent) work out work' a →
+    rs ≡ order_words a →
+    MakesOrder (ordering.ordering document x ws n) lent work out work' rs
+order_made w h = record { words = h ∙ ap order_words w.says.answer; of_output = w.says.left; of_work = w.idle }
 
 pub lookup-words : (document text : List ℕ) (t : Triple) {p : Triple} {b : Bool} {ws : List ℕ} → ws ≡ part_words b p → b ≡ inside document text t → p ≡ resolved document text t → ws ≡ lookup_words document text t
 lookup-words document text t h e f = h ∙ rw (e, f) refl
 
--- of a row that was written
-pub write-words : {document x ws out : List ℕ} {n i room : ℕ} {a : Result ℕ Fault} {rs : List ℕ} → rs ≡ answer_words a → Writes document x ws n i room out a → rs ≡ text_words (writing document x ws n i room)
-write-words h w = h ∙ ap answer_words w.says.answer
-
-pub write-left : {document x ws out : List ℕ} {n i room : ℕ} {a : Result ℕ Fault} → Writes document x ws n i room out a → out ≡ left_of room (writing document x ws n i room)
-write-left w = w.says.left
-
--- of a tree that was written
-pub tree-words : {document x ws out : List ℕ} {n i room : ℕ} {a : Result ℕ Fault} {rs : List ℕ} → rs ≡ answer_words a → WritesTree document x ws n i room out a → rs ≡ text_words (tree_writing document x ws n i room)
-tree-words h w = h ∙ ap answer_words w.says.answer
-
-pub tree_left : {document x ws out : List ℕ} {n i room : ℕ} {a : Result ℕ Fault} → WritesTree document x ws n i room out a → out ≡ left_of room (tree_writing document x ws n i room)
-tree_left w = w.says.left
-
--- of several rows
-module _ {document x ws is out ends : List ℕ} {n room slots : ℕ} {a : Result ℕ Fault} (w : WritesSeveral document x ws n is room slots out ends a) where
-  pub several-words : {rs : List ℕ} → rs ≡ answer_words a → rs ≡ text_words (several_writing document x ws n is room slots)
-  several-words h = h ∙ ap answer_words w.says.answer
-
-  pub several-left : out ≡ left_of room (several_writing document x ws n is room slots)
-  several-left = w.says.left
-
-  pub several-ends : ends ≡ several_ends document x ws n is room slots
-  several-ends = w.ends_left_lem
-
--- of a message
-module _ (document ws : List ℕ) (room : ℕ) {out : List ℕ} {a : Result ℕ Fault} where
-  pub message-words : {rs : List ℕ} → rs ≡ answer_words a → Says (message_of document (told_by ws) room) room out a → rs ≡ text_words (message_by document ws room)
-  unfolding message_by
-  message-words h s = h ∙ ap answer_words s.answer
-
-  pub message-left : Says (message_of document (told_by ws) room) room out a → out ≡ left_of room (message_by document ws room)
-  unfolding message_by
-  message-left s = s.left
-
-  pub warning_words : {rs : List ℕ} → rs ≡ answer_words a → Says (warning_message_of document (get_or ws 0 0) (get_or ws 2 0) (get_or ws 3 0) room) room out a → rs ≡ text_words (warning_message_by document ws room)
-  unfolding warning_message_by
-  warning_words h s = h ∙ ap answer_words s.answer
-
-  pub warning-left : Says (warning_message_of document (get_or ws 0 0) (get_or ws 2 0) (get_or ws 3 0) room) room out a → out ≡ left_of room (warning_message_by document ws room)
-  unfolding warning_message_by
-  warning-left s = s.left
-
-pub ruleset entries = (reads, reads-strictly, text-words, outcome-words, write-words, write-left, tree-words, tree_left, several-words, several-left, several-ends, lookup-words, message-words, message-left, warning_words, warning-left, ordered_words, ordered-left, ordered-idle, rules)
+pub ruleset entries = (reads, reads-strictly, text_made, item_made, tree_made, message_made, warning_made, items_made, words_made, order_made, lookup-words, rules)

@@ -1,3 +1,2 @@
 -- The laws of the answer words.
--- Assumes nothing.
 pub mod Answers

@@ -1,3 +1,2 @@
 -- The answer words of the functions for C.
--- Assumes nothing.
 pub mod Words

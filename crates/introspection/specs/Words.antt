@@ -1,12 +1,11 @@
 -- The words of each answer, in the order of include/introspection.h.
--- Assumes nothing.
-use Rattle.std.specs.Prelude.{ℕ, suc, ◌≡◌, List, [], ◌∷◌, ◌++◌, Bool, ltb, replicate, get_or, Result, Ok, Err}
+use Rattle.std.specs.Prelude.{ℕ, suc, ◌≡◌, List, [], ◌∷◌, ◌++◌, Bool, ltb, length, replicate, get_or, Result, Ok, Err}
 use Rattle.slices.specs.Bytes.{if}
 use Rattle.tables.specs.Triple.{inside, resolved}
 use Rattle.tables.specs.declared.Triple.{Triple}
 use Rattle.columns.specs.Entries.{Outcome}
 use Rattle.columns.specs.Entries as entries
-use Rattle.answers.specs.Text.{Text, answer_of}
+use Rattle.answers.specs.Text.{Text, answer_of, left_of}
 use Rattle.messages.specs.Message.{message_of, warning_message_of}
 use Rattle.messages.specs.declared.Wide.{Wide}
 use Rattle.messages.specs.declared.Told.{Told}
@@ -16,7 +15,7 @@ use Rattle.faults.specs.declared.Fault.{Fault}
 use Rattle.document.specs.Tags.{Shown}
 use Rattle.document.specs.Reading.{State}
 use Rattle.document.specs.Refusals.{shown_by}
-use Rattle.document.specs.Whole.{Room, verdict_of, rows_left_lem, warnings_left, text_left}
+use Rattle.document.specs.Whole.{Room, verdict_of, rows_left, warnings_left, text_left}
 use Rattle.document.specs.declared.Refusal.{Refusal}
 use Rattle.document.specs.Verdict.{Verdict}
 use Rattle.utf16.specs.Entry.{left}
@@ -61,19 +60,19 @@ abbrev pub read_words : State Shown → ℕ → List ℕ
 read_words s d = verdict_words (verdict_of s) d
 
 -- what is answered for a file whose reading comes to a state, and what is left in the buffers
-pub record Answers (s : State Shown) (raw : List ℕ) (room : Room) (decodedRoom : ℕ) (rows warnings text decoded answer : List ℕ) : Type 0 where
-  pub words : answer ≡ read_words s (decoded_length raw decodedRoom)
-  pub rows_left : rows ≡ rows_left_lem room s
-  pub warnings_left_lem : warnings ≡ warnings_left room s
-  pub text_left_lem : text ≡ text_left room s
-  pub decoded_left : decoded ≡ left raw decodedRoom
+pub record Answers (s : State Shown) (raw : List ℕ) (room : Room) (decoding_room : ℕ) (rows warnings text decoded answer : List ℕ) : Type 0 where
+  pub words : answer ≡ read_words s (decoded_length raw decoding_room)
+  pub of_rows : rows ≡ rows_left room s
+  pub of_warnings : warnings ≡ warnings_left room s
+  pub of_text : text ≡ text_left room s
+  pub of_decoded : decoded ≡ left raw decoding_room
 
 -- `introspection_read`, and `introspection_read_strict`
 abbrev pub Reads : List ℕ → Room → ℕ → List ℕ → List ℕ → List ℕ → List ℕ → List ℕ → Type 0
-Reads raw room decodedRoom = Answers (read_file raw room decodedRoom) raw room decodedRoom
+Reads raw room decoding_room = Answers (read_file raw room decoding_room) raw room decoding_room
 
 abbrev pub ReadsStrictly : List ℕ → Room → ℕ → List ℕ → List ℕ → List ℕ → List ℕ → List ℕ → Type 0
-ReadsStrictly raw room decodedRoom = Answers (strict_file raw room decodedRoom) raw room decodedRoom
+ReadsStrictly raw room decoding_room = Answers (strict_file raw room decoding_room) raw room decoding_room
 
 -- of a text that was made
 abbrev pub text_words : Text → List ℕ
@@ -86,6 +85,28 @@ outcome_words o = columns_words (entries.answer_of o)
 -- of definitions that were ordered
 abbrev pub ordering_words : ordering.Outcome → List ℕ
 ordering_words o = order_words (ordering.answer_of o)
+
+-- `made` is what comes of a room. Text is made in the room of the buffer lent: the answer's words, and what is left in the buffer
+pub record MakesText (made : ℕ → Text) (lent output answer : List ℕ) : Type 0 where
+  pub words : answer ≡ text_words (made (length lent))
+  pub of_output : output ≡ left_of (length lent) (made (length lent))
+
+-- so are words
+pub record MakesWords (made : ℕ → Outcome) (lent output answer : List ℕ) : Type 0 where
+  pub words : answer ≡ outcome_words (made (length lent))
+  pub of_output : output ≡ entries.words_left (length lent) (made (length lent))
+
+-- so is an order of definitions, over words lent for work, which are zero afterwards
+pub record MakesOrder (made : ℕ → ordering.Outcome) (lent lent_work output work answer : List ℕ) : Type 0 where
+  pub words : answer ≡ ordering_words (made (length lent))
+  pub of_output : output ≡ ordering.left_of (length lent) (made (length lent))
+  pub of_work : work ≡ replicate (length lent_work) 0
+
+-- so are several items, with the words lent for their ends
+pub record MakesItems (made : ℕ → ℕ → Text) (ends_made : ℕ → ℕ → List ℕ) (lent lent_ends output ends answer : List ℕ) : Type 0 where
+  pub words : answer ≡ text_words (made (length lent) (length lent_ends))
+  pub of_output : output ≡ left_of (length lent) (made (length lent) (length lent_ends))
+  pub of_ends : ends ≡ ends_made (length lent) (length lent_ends)
 
 -- 1 or 0; source, start and length of the part
 abbrev pub part_words : Bool → Triple → List ℕ

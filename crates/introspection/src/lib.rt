@@ -2,16 +2,15 @@
 // exported by introspection_c.
 #![tactic(auto)]
 
-ghost use Rattle.std.specs.Prelude.{◌≡◌, length, replicate};
+ghost use Rattle.std.specs.Prelude.{◌≡◌, length};
 ghost use Rattle.tables.specs.declared.Triple.{Triple};
-ghost use Rattle.columns.specs.Entries.{to_columns, to_rows, words_left};
-ghost use Rattle.answers.specs.Text.{left_of};
+ghost use Rattle.columns.specs.Entries.{to_columns, to_rows};
 ghost use Rattle.references.specs.Entries.{escaping, unescaping};
 ghost use Rattle.document.specs.Whole.{room_of};
 ghost use Rattle.items.specs.Several.{several_writing, several_ends};
 ghost use Rattle.items.specs.Writing.{writing};
 ghost use Rattle.trees.specs.Writing.{tree_writing};
-ghost use Rattle.introspection.specs.Words.{verdict_words, answer_words, columns_words, part_words, Reads, ReadsStrictly, text_words, outcome_words, lookup_words, message_by, warning_message_by, refusal_words, order_words, ordering_words};
+ghost use Rattle.introspection.specs.Words.{verdict_words, answer_words, columns_words, part_words, Reads, ReadsStrictly, MakesText, MakesWords, MakesOrder, MakesItems, lookup_words, message_by, warning_message_by, refusal_words, order_words};
 ghost use Rattle.order.specs.Ordering as order;
 
 use answers::TextAnswer;
@@ -158,10 +157,8 @@ pub fn introspection_message(
     output: &mut [u8],
     answer: &mut [u64; 3],
 )
-    ensures answer { answer.new ≡ text_words
-        (message_by document.now refusal.now (length output.old)) }
-    ensures output { output.new ≡ left_of (length output.old)
-        (message_by document.now refusal.now (length output.old)) }
+    ensures { MakesText (message_by document.now refusal.now)
+        output.old output.new answer.new }
 {
     let first = Wide {
         source: refusal[5],
@@ -190,10 +187,8 @@ pub fn introspection_warning_message(
     output: &mut [u8],
     answer: &mut [u64; 3],
 )
-    ensures answer { answer.new ≡ text_words
-        (warning_message_by document.now warning.now (length output.old)) }
-    ensures output { output.new ≡ left_of (length output.old)
-        (warning_message_by document.now warning.now (length output.old)) }
+    ensures { MakesText (warning_message_by document.now warning.now)
+        output.old output.new answer.new }
 {
     let a = messages::warning_message(document, warning[0], warning[2], warning[3], output);
     *answer = answer_words(a);
@@ -201,9 +196,8 @@ pub fn introspection_warning_message(
 
 // Escapes a value.
 pub fn introspection_escape(value: &[u8], output: &mut [u8], answer: &mut [u64; 3])
-    ensures answer { answer.new ≡ text_words (escaping value.now (length output.old)) }
-    ensures output { output.new ≡ left_of (length output.old)
-        (escaping value.now (length output.old)) }
+    ensures { MakesText (escaping value.now)
+        output.old output.new answer.new }
 {
     let a = references::escape(value, output);
     *answer = answer_words(a);
@@ -211,9 +205,8 @@ pub fn introspection_escape(value: &[u8], output: &mut [u8], answer: &mut [u64; 
 
 // Unescapes a value.
 pub fn introspection_unescape(value: &[u8], output: &mut [u8], answer: &mut [u64; 3])
-    ensures answer { answer.new ≡ text_words (unescaping value.now (length output.old)) }
-    ensures output { output.new ≡ left_of (length output.old)
-        (unescaping value.now (length output.old)) }
+    ensures { MakesText (unescaping value.now)
+        output.old output.new answer.new }
 {
     let a = references::unescape(value, output);
     *answer = answer_words(a);
@@ -229,10 +222,8 @@ pub fn introspection_write<'a>(
     output: &mut [u8],
     answer: &mut [u64; 3],
 )
-    ensures answer { answer.new ≡ text_words
-        (writing document.now text.now rows.now claimed row (length output.old)) }
-    ensures output { output.new ≡ left_of (length output.old)
-        (writing document.now text.now rows.now claimed row (length output.old)) }
+    ensures { MakesText (writing document.now text.now rows.now claimed row)
+        output.old output.new answer.new }
 {
     let a = writers::write(document, text, rows, claimed as usize, row as usize, output);
     *answer = answer_words(a);
@@ -248,10 +239,8 @@ pub fn introspection_write_tree<'a>(
     output: &mut [u8],
     answer: &mut [u64; 3],
 )
-    ensures answer { answer.new ≡ text_words
-        (tree_writing document.now text.now rows.now claimed row (length output.old)) }
-    ensures output { output.new ≡ left_of (length output.old)
-        (tree_writing document.now text.now rows.now claimed row (length output.old)) }
+    ensures { MakesText (tree_writing document.now text.now rows.now claimed row)
+        output.old output.new answer.new }
 {
     let a = trees::write_tree(document, text, rows, claimed as usize, row as usize, output);
     *answer = answer_words(a);
@@ -277,10 +266,8 @@ pub fn introspection_lookup(
 
 // Puts rows down as columns.
 pub fn introspection_columns(rows: &[u32], count: u64, columns: &mut [u32], answer: &mut [u64; 2])
-    ensures answer { answer.new ≡ outcome_words
-        (to_columns count rows.now (length columns.old)) }
-    ensures columns { columns.new ≡ words_left (length columns.old)
-        (to_columns count rows.now (length columns.old)) }
+    ensures { MakesWords (to_columns count rows.now)
+        columns.old columns.new answer.new }
 {
     let a = columns::columns(rows, count, columns);
     *answer = columns_words(a);
@@ -288,10 +275,8 @@ pub fn introspection_columns(rows: &[u32], count: u64, columns: &mut [u32], answ
 
 // Puts columns down as rows again.
 pub fn introspection_rows(columns: &[u32], count: u64, rows: &mut [u32], answer: &mut [u64; 2])
-    ensures answer { answer.new ≡ outcome_words
-        (to_rows count columns.now (length rows.old)) }
-    ensures rows { rows.new ≡ words_left (length rows.old)
-        (to_rows count columns.now (length rows.old)) }
+    ensures { MakesWords (to_rows count columns.now)
+        rows.old rows.new answer.new }
 {
     let a = columns::rows(columns, count, rows);
     *answer = columns_words(a);
@@ -307,11 +292,8 @@ pub fn introspection_order<'a>(
     output: &mut [u32],
     answer: &mut [u64; 4],
 )
-    ensures answer { answer.new ≡ ordering_words
-        (order.ordering document.now text.now rows.now claimed (length output.old)) }
-    ensures output { output.new ≡ order.left_of (length output.old)
-        (order.ordering document.now text.now rows.now claimed (length output.old)) }
-    ensures work { work.new ≡ replicate (length work.old) 0 }
+    ensures { MakesOrder (order.ordering document.now text.now rows.now claimed)
+        output.old work.old output.new work.new answer.new }
 {
     let a = order::order_types(document, text, rows, claimed as usize, work, output);
     *answer = order_words(a);
@@ -328,14 +310,10 @@ pub fn introspection_write_items<'a>(
     ends: &mut [u32],
     answer: &mut [u64; 3],
 )
-    ensures answer { answer.new ≡ text_words
-        (several_writing document.now text.now rows.now claimed asked.now
-        (length output.old) (length ends.old)) }
-    ensures output { output.new ≡ left_of (length output.old)
-        (several_writing document.now text.now rows.now claimed asked.now
-        (length output.old) (length ends.old)) }
-    ensures ends { ends.new ≡ several_ends document.now text.now
-        rows.now claimed asked.now (length output.old) (length ends.old) }
+    ensures { MakesItems
+        (several_writing document.now text.now rows.now claimed asked.now)
+        (several_ends document.now text.now rows.now claimed asked.now)
+        output.old ends.old output.new ends.new answer.new }
 {
     let a = writers::write_items(document, text, rows, claimed as usize, asked, output, ends);
     *answer = answer_words(a);

@@ -3,15 +3,14 @@
 // of each name.
 #![tactic(auto)]
 
-ghost use Rattle.std.specs.Prelude.{◌≡◌, length, replicate};
-ghost use Rattle.columns.specs.Entries.{to_columns, to_rows, words_left};
-ghost use Rattle.answers.specs.Text.{left_of};
+ghost use Rattle.std.specs.Prelude.{◌≡◌, length};
+ghost use Rattle.columns.specs.Entries.{to_columns, to_rows};
 ghost use Rattle.references.specs.Entries.{escaping, unescaping};
 ghost use Rattle.document.specs.Whole.{room_of};
 ghost use Rattle.items.specs.Several.{several_writing, several_ends};
 ghost use Rattle.items.specs.Writing.{writing};
 ghost use Rattle.trees.specs.Writing.{tree_writing};
-ghost use Rattle.introspection.specs.Words.{Reads, ReadsStrictly, text_words, outcome_words, lookup_words, message_by, warning_message_by, ordering_words};
+ghost use Rattle.introspection.specs.Words.{Reads, ReadsStrictly, MakesText, MakesWords, MakesOrder, MakesItems, lookup_words, message_by, warning_message_by};
 ghost use Rattle.order.specs.Ordering as order;
 
 // Reads a file into the tables lent; one in UTF-16 is decoded into the fourth buffer.
@@ -56,10 +55,8 @@ pub extern "C" fn introspection_message(
     output: &mut [u8],
     answer: &mut [u64; 3],
 )
-    ensures answer { answer.new ≡ text_words
-        (message_by document.now refusal.now (length output.old)) }
-    ensures output { output.new ≡ left_of (length output.old)
-        (message_by document.now refusal.now (length output.old)) }
+    ensures { MakesText (message_by document.now refusal.now)
+        output.old output.new answer.new }
 {
     introspection::introspection_message(document, refusal, output, answer);
 }
@@ -72,10 +69,8 @@ pub extern "C" fn introspection_warning_message(
     output: &mut [u8],
     answer: &mut [u64; 3],
 )
-    ensures answer { answer.new ≡ text_words
-        (warning_message_by document.now warning.now (length output.old)) }
-    ensures output { output.new ≡ left_of (length output.old)
-        (warning_message_by document.now warning.now (length output.old)) }
+    ensures { MakesText (warning_message_by document.now warning.now)
+        output.old output.new answer.new }
 {
     introspection::introspection_warning_message(document, warning, output, answer);
 }
@@ -83,9 +78,8 @@ pub extern "C" fn introspection_warning_message(
 // Escapes a value.
 #[unsafe(no_mangle)]
 pub extern "C" fn introspection_escape(value: &[u8], output: &mut [u8], answer: &mut [u64; 3])
-    ensures answer { answer.new ≡ text_words (escaping value.now (length output.old)) }
-    ensures output { output.new ≡ left_of (length output.old)
-        (escaping value.now (length output.old)) }
+    ensures { MakesText (escaping value.now)
+        output.old output.new answer.new }
 {
     introspection::introspection_escape(value, output, answer);
 }
@@ -93,9 +87,8 @@ pub extern "C" fn introspection_escape(value: &[u8], output: &mut [u8], answer: 
 // Unescapes a value.
 #[unsafe(no_mangle)]
 pub extern "C" fn introspection_unescape(value: &[u8], output: &mut [u8], answer: &mut [u64; 3])
-    ensures answer { answer.new ≡ text_words (unescaping value.now (length output.old)) }
-    ensures output { output.new ≡ left_of (length output.old)
-        (unescaping value.now (length output.old)) }
+    ensures { MakesText (unescaping value.now)
+        output.old output.new answer.new }
 {
     introspection::introspection_unescape(value, output, answer);
 }
@@ -111,10 +104,8 @@ pub extern "C" fn introspection_write<'a>(
     output: &mut [u8],
     answer: &mut [u64; 3],
 )
-    ensures answer { answer.new ≡ text_words
-        (writing document.now text.now rows.now claimed row (length output.old)) }
-    ensures output { output.new ≡ left_of (length output.old)
-        (writing document.now text.now rows.now claimed row (length output.old)) }
+    ensures { MakesText (writing document.now text.now rows.now claimed row)
+        output.old output.new answer.new }
 {
     introspection::introspection_write(document, text, rows, claimed, row, output, answer);
 }
@@ -130,10 +121,8 @@ pub extern "C" fn introspection_write_tree<'a>(
     output: &mut [u8],
     answer: &mut [u64; 3],
 )
-    ensures answer { answer.new ≡ text_words
-        (tree_writing document.now text.now rows.now claimed row (length output.old)) }
-    ensures output { output.new ≡ left_of (length output.old)
-        (tree_writing document.now text.now rows.now claimed row (length output.old)) }
+    ensures { MakesText (tree_writing document.now text.now rows.now claimed row)
+        output.old output.new answer.new }
 {
     introspection::introspection_write_tree(document, text, rows, claimed, row, output, answer);
 }
@@ -162,10 +151,8 @@ pub extern "C" fn introspection_columns(
     columns: &mut [u32],
     answer: &mut [u64; 2],
 )
-    ensures answer { answer.new ≡ outcome_words
-        (to_columns count rows.now (length columns.old)) }
-    ensures columns { columns.new ≡ words_left (length columns.old)
-        (to_columns count rows.now (length columns.old)) }
+    ensures { MakesWords (to_columns count rows.now)
+        columns.old columns.new answer.new }
 {
     introspection::introspection_columns(rows, count, columns, answer);
 }
@@ -178,10 +165,8 @@ pub extern "C" fn introspection_rows(
     rows: &mut [u32],
     answer: &mut [u64; 2],
 )
-    ensures answer { answer.new ≡ outcome_words
-        (to_rows count columns.now (length rows.old)) }
-    ensures rows { rows.new ≡ words_left (length rows.old)
-        (to_rows count columns.now (length rows.old)) }
+    ensures { MakesWords (to_rows count columns.now)
+        rows.old rows.new answer.new }
 {
     introspection::introspection_rows(columns, count, rows, answer);
 }
@@ -197,11 +182,8 @@ pub extern "C" fn introspection_order<'a>(
     output: &mut [u32],
     answer: &mut [u64; 4],
 )
-    ensures answer { answer.new ≡ ordering_words
-        (order.ordering document.now text.now rows.now claimed (length output.old)) }
-    ensures output { output.new ≡ order.left_of (length output.old)
-        (order.ordering document.now text.now rows.now claimed (length output.old)) }
-    ensures work { work.new ≡ replicate (length work.old) 0 }
+    ensures { MakesOrder (order.ordering document.now text.now rows.now claimed)
+        output.old work.old output.new work.new answer.new }
 {
     introspection::introspection_order(document, text, rows, claimed, work, output, answer);
 }
@@ -218,14 +200,10 @@ pub extern "C" fn introspection_write_items<'a>(
     ends: &mut [u32],
     answer: &mut [u64; 3],
 )
-    ensures answer { answer.new ≡ text_words
-        (several_writing document.now text.now rows.now claimed asked.now
-        (length output.old) (length ends.old)) }
-    ensures output { output.new ≡ left_of (length output.old)
-        (several_writing document.now text.now rows.now claimed asked.now
-        (length output.old) (length ends.old)) }
-    ensures ends { ends.new ≡ several_ends document.now text.now
-        rows.now claimed asked.now (length output.old) (length ends.old) }
+    ensures { MakesItems
+        (several_writing document.now text.now rows.now claimed asked.now)
+        (several_ends document.now text.now rows.now claimed asked.now)
+        output.old ends.old output.new ends.new answer.new }
 {
     introspection::introspection_write_items(
         document, text, rows, claimed, asked, output, ends, answer,

@@ -1,5 +1,4 @@
 -- The children of a row, in rows one after another.
--- Assumes nothing.
 use Prim.Native.Nat.{ℕ, suc, ◌+◌}
 use native.Mathlib.Omega.{arith}
 use native.Mathlib.Nat.{add-zero}

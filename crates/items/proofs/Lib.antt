@@ -1,5 +1,4 @@
 -- Laws of the definitions.
--- Assumes nothing.
 pub mod Rows
 pub mod Children
 pub mod Words

@@ -1,6 +1,5 @@
 -- Rows in document order: parents come before their rows, and what stands in a row is a run that ends at the first row whose parent
 -- is not after it.
--- Assumes nothing.
 use Prim.Native.Nat.{ℕ, zero, suc, ◌≤◌, ◌<◌}
 use mathlib.Core.Path.{◌≡◌, refl, sym, subst}
 use mathlib.Core.List.{List}

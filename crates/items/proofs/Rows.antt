@@ -1,5 +1,4 @@
 -- Rows of a lent table: the row at a place, and what sound rows are.
--- Assumes nothing.
 use Prim.Native.Nat.{ℕ, zero, suc, ◌+◌, ◌*◌, ◌-◌, ◌/◌, ◌≤◌, ◌<◌}
 use mathlib.Core.Path.{◌≡◌, refl, sym, ap, ◌∙◌}
 use mathlib.Core.List.{List, [], ◌∷◌}
@@ -44,12 +43,12 @@ rows_past (suc n) ws = rows_past n (drop 16 ws)
 pub row_word : (i k : ℕ) (ws : List ℕ) → get_or (drop (i * 16) ws) k 0 ≡ get_or ws (i * 16 + k) 0
 row_word i k ws = get_or-drop (i * 16) ws k 0
 
-pub kind_at_lem : (n i : ℕ) (ws : List ℕ) → i < n → kind_at (rows_of n ws) i ≡ get_or ws (i * 16) 0
-kind_at_lem zero i ws h = absurd (omega arith)
-kind_at_lem (suc n) zero ws h = refl
-kind_at_lem (suc n) (suc i) ws h =
+pub kind_word : (n i : ℕ) (ws : List ℕ) → i < n → kind_at (rows_of n ws) i ≡ get_or ws (i * 16) 0
+kind_word zero i ws h = absurd (omega arith)
+kind_word (suc n) zero ws h = refl
+kind_word (suc n) (suc i) ws h =
     let e : 16 + i * 16 ≡ suc i * 16 = omega arith in
-    kind_at_lem n i (drop 16 ws) (omega arith) ∙ get_or-drop 16 ws (i * 16) 0 ∙ ap (λ (k : ℕ). get_or ws k 0) e
+    kind_word n i (drop 16 ws) (omega arith) ∙ get_or-drop 16 ws (i * 16) 0 ∙ ap (λ (k : ℕ). get_or ws k 0) e
 
 -- ---- sound rows
 
@@ -132,11 +131,11 @@ module _ (d x : List ℕ) where
     pub sound_held : n * 16 ≤ length ws
     sound_held = omega (arith, parts.1, div-mul-le_self (length ws) 16)
 
-    pub sound_row_lem : (i : ℕ) → i < n → sound_row d x (rows_of n ws) i (row_of (drop (i * 16) ws)) ≡ true
-    sound_row_lem i h =
+    pub row_is_sound : (i : ℕ) → i < n → sound_row d x (rows_of n ws) i (row_of (drop (i * 16) ws)) ≡ true
+    row_is_sound i h =
         rw zero-add at
         (all_sound (rows_of n ws) 0 (rows_of n ws) (omega (arith, parts.2, length_rows_of n ws)) i (row_of (drop (i * 16) ws)) (drop (suc i) (rows_of n ws)) (row-at n i ws h))
 
     -- the parent's row plus one is at most the row's number
     pub sound_parent : (i : ℕ) → i < n → get_or ws (i * 16 + 1) 0 ≤ i
-    sound_parent i h = rw (← row_word i 1 ws) (before_it (rows_of n ws) i (row_of (drop (i * 16) ws)) (row_parts d x (rows_of n ws) i (row_of (drop (i * 16) ws)) (sound_row_lem i h)).placed)
+    sound_parent i h = rw (← row_word i 1 ws) (before_it (rows_of n ws) i (row_of (drop (i * 16) ws)) (row_parts d x (rows_of n ws) i (row_of (drop (i * 16) ws)) (row_is_sound i h)).placed)

@@ -1,5 +1,4 @@
 -- The words of a row, and what its triples show.
--- Assumes nothing.
 use Prim.Native.Nat.{ℕ, ◌*◌}
 use mathlib.Core.Path.{◌≡◌, sym, ◌∙◌, refl}
 use mathlib.Core.List.{List, []}

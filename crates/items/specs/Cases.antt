@@ -1,5 +1,4 @@
 -- Worked cases: tables, each with what checking it says, or what writing one of its rows answers.
--- Assumes nothing.
 use Rattle.std.specs.Prelude.{ℕ, ◌≡◌, refl, List, [], ◌∷◌, ◌++◌, map, replicate}
 use Rattle.slices.specs.Bytes.{bytes}
 use Rattle.utf8.specs.WellFormed.{sequence, ill_formed}

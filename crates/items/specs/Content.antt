@@ -1,5 +1,4 @@
 -- The written content of a row of a table: its children are all rows with that parent, in row order, also with others between.
--- Assumes nothing.
 use Rattle.std.specs.Prelude.{ℕ, zero, suc, List, [], ◌∷◌, eqb, drop}
 use Rattle.std.proofs.Math.Option.{Option, none, some}
 use Rattle.slices.specs.Bytes.{if}

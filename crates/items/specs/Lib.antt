@@ -1,5 +1,4 @@
 -- Sound rows, the content of an item, its bytes, and what the writers answer.
--- Assumes nothing.
 pub mod Words
 pub mod Order
 pub mod View

@@ -1,10 +1,10 @@
 -- Rows in order (docs/DECISIONS.md, What writing costs, Members and document order).
--- Assumes nothing.
-use Rattle.std.specs.Prelude.{ℕ, suc, ◌+◌, ◌*◌, ◌≤◌, ◌<◌, ◌≡◌, List, get_or}
+use Rattle.std.specs.Prelude.{ℕ, suc, ◌≤◌, ◌<◌, ◌≡◌, List}
+use Rattle.items.specs.Words.{word_at}
 
 -- the parent's row plus one of row i
 abbrev pub parent_at : List ℕ → ℕ → ℕ
-parent_at ws i = get_or ws (i * 16 + 1) 0
+parent_at ws i = word_at ws i 1
 
 -- among n rows, what stands in a child of row i stands before the next child
 abbrev pub InOrder : List ℕ → ℕ → ℕ → Type 0

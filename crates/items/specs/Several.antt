@@ -1,5 +1,4 @@
 -- What writing several items answers and leaves (docs/FORMAT.md, Answers), for the room lent.
--- Assumes nothing.
 use Rattle.std.specs.Prelude.{ℕ, ◌+◌, ◌-◌, ◌≡◌, List, [], ◌∷◌, ◌++◌, map, Bool, true, false, ◌||◌, ltb, length, replicate, Result}
 use Rattle.std.proofs.Math.Option.{Option, none, some}
 use Rattle.faults.specs.declared.Fault.{Fault}
@@ -68,4 +67,4 @@ several_ends document x ws n is room slots =
 -- what writing several rows answers, and what it leaves in the bytes and the words lent
 pub record WritesSeveral (document x ws : List ℕ) (n : ℕ) (is : List ℕ) (room slots : ℕ) (out ends : List ℕ) (r : Result ℕ Fault) : Type 0 where
   pub says : Says (several_writing document x ws n is room slots) room out r
-  pub ends_left_lem : ends ≡ several_ends document x ws n is room slots
+  pub of_ends : ends ≡ several_ends document x ws n is room slots

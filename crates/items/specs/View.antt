@@ -1,5 +1,4 @@
 -- Rows and states seen through a function on what rows keep of an attribute; the places of their elements are left out.
--- Assumes nothing.
 use Rattle.std.specs.Prelude.{ℕ, List, map}
 use Rattle.std.proofs.Math.Option.{Option, none, some}
 use Rattle.document.specs.Tags.{Shown}

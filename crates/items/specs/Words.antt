@@ -1,5 +1,4 @@
 -- The rows of a lent table, by their words (docs/FORMAT.md, Tables), and what they show.
--- Assumes nothing.
 use Rattle.std.specs.Prelude.{ℕ, zero, suc, ◌+◌, ◌*◌, ◌≡◌, List, [], ◌∷◌, map, Bool, ◌&&◌, eqb, drop, get_or}
 use Rattle.std.proofs.Math.Option.{Option, none, some}
 use Rattle.slices.specs.Bytes.{if}

@@ -1,5 +1,4 @@
 -- What the writers answer and leave (docs/FORMAT.md, Answers), for the room lent.
--- Assumes nothing.
 use Rattle.std.specs.Prelude.{ℕ, List, ◌||◌, ltb, length, Result}
 use Rattle.std.proofs.Math.Option.{Option, none, some}
 use Rattle.faults.specs.declared.Fault.{Fault}

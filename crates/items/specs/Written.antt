@@ -1,5 +1,4 @@
 -- What is written (the crate zbus_xml 6.0.0, `write_xml` of Annotation, Arg, Method and Signal): contents and their bytes.
--- Assumes nothing.
 use Rattle.std.specs.Prelude.{ℕ, List, [], ◌∷◌, ◌++◌, map, Bool, true, false}
 use Rattle.std.proofs.Math.Option.{Option, none, some}
 use Rattle.slices.specs.Bytes.{bytes}

@@ -56,7 +56,7 @@ impl Element for InValue {
 
 // An arg.
 #[tactic(auto, using(crate::proofs::Members::elements))]
-pub fn arg(r: &mut Reader, c: &StartTag, parent: usize, f: Fill) -> Result<Fill, Refusal>
+fn arg(r: &mut Reader, c: &StartTag, parent: usize, f: Fill) -> Result<Fill, Refusal>
     requires ready { Ready r.old.doc.now c.now f }
     requires parent_small { parent ≤ 1048576 }
     ensures keeps { Keeps r.old r.new }

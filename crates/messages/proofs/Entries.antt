@@ -1,9 +1,8 @@
 -- What the entries answer, and the bytes that they leave, on each of their ways.
--- Assumes nothing.
 use Prim.Native.Nat.{ℕ, ◌≤◌, ◌<◌}
-use mathlib.Core.Path.{◌≡◌, refl, sym}
+use mathlib.Core.Path.{◌≡◌, sym}
 use mathlib.Core.List.{List}
-use mathlib.Core.Bool.{Bool, true, false, ◌&&◌}
+use mathlib.Core.Bool.{and-false}
 use borrow.Author.Rules.{rules}
 use borrow.Author.Tests.{lt-ltb, le-ltb, ne_eqb}
 use native.Mathlib.Omega.{arith}
@@ -17,10 +16,6 @@ use Rattle.messages.specs.Message.{message_of, warned, warning_message_of}
 use Rattle.messages.specs.Steps.{Plainly, Turned, Warned}
 use Rattle.messages.specs.declared.Wide.{Wide}
 use Rattle.messages.specs.declared.Told.{Told}
-
-and-false : (a : Bool) → a && false ≡ false
-and-false true = refl
-and-false false = refl
 
 other_than : {m n : ℕ} → (m < n) → m ≡ n → ⊥
 other_than h e = omega arith

@@ -1,9 +1,8 @@
 -- What a triple shows.
--- Assumes nothing.
 use Prim.Native.Nat.{ℕ, ◌+◌, ◌-◌, ◌≤◌, ◌<◌, ◌^◌}
-use mathlib.Core.Path.{◌≡◌, refl, sym, ◌∙◌}
+use mathlib.Core.Path.{◌≡◌, sym, ◌∙◌}
 use mathlib.Core.List.{List}
-use mathlib.Core.Bool.{Bool, true, false, ◌&&◌}
+use mathlib.Core.Bool.{Bool, true, false, ◌&&◌, and-false}
 use borrow.Author.Rules.{rules}
 use borrow.Author.Tests.{ne_eqb, le-leb, lt-leb, leb-true}
 use native.Mathlib.Omega.{arith}
@@ -16,10 +15,6 @@ use Rattle.answers.specs.Text.{text, wrong}
 use Rattle.messages.specs.Message.{is_shown, excerpt, excerpt_of}
 use Rattle.messages.specs.declared.Wide.{Wide}
 
-no_middle : (a c : Bool) → (a && false) && c ≡ false
-no_middle true c = refl
-no_middle false c = refl
-
 module _ (doc : List ℕ) (t : Wide) where
   pub shown_other : (t.source ≡ 1 → ⊥) → false ≡ is_shown doc t
   unfolding is_shown
@@ -27,7 +22,7 @@ module _ (doc : List ℕ) (t : Wide) where
 
   past_end : length doc < t.start + t.len → false ≡ is_shown doc t
   unfolding is_shown
-  past_end h = sym (rw (lt-leb (t.start + t.len) (length doc) h) (no_middle (eqb t.source 1) (well_formed (excerpt doc t))))
+  past_end h = sym (rw (lt-leb (t.start + t.len) (length doc) h, and-false (eqb t.source 1)))
 
   pub shown_start : length doc < t.start → false ≡ is_shown doc t
   shown_start h = past_end (omega arith)

@@ -1,5 +1,4 @@
 -- The laws on messages.
--- Assumes nothing.
 pub mod Excerpts
 pub mod Framed
 pub mod Numbers

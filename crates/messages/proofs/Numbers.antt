@@ -1,30 +1,19 @@
 -- Which text a number, a key and a reason have.
--- Assumes nothing.
 use Prim.Native.Nat.{ℕ, ◌<◌}
 use mathlib.Core.Path.{◌≡◌, refl, sym, ap, subst, ◌∙◌}
 use mathlib.Core.List.{List, [], ◌∷◌, ◌++◌, append-nil, append_assoc}
 use borrow.Author.Rules.{rules}
-use borrow.Author.Tests.{ne_eqb}
 use lib.ListN.{length}
 use Rattle.std.specs.Prelude.{Result}
 use Rattle.faults.specs.declared.Fault.{Fault}
 use Rattle.slices.specs.Bytes.{bytes}
 use Rattle.answers.specs.Text.{Text, text, wrong, roomy, Says}
 use Rattle.answers.proofs.Answers.{told}
-use Rattle.messages.specs.Texts.{Entry, words, pieces_of, refusals, warnings, key_name}
+use Rattle.messages.specs.Texts.{words, pieces_of, refusals, warnings, key_name}
 use Rattle.messages.specs.Message.{excerpt_of, present, joined, framed, message_by}
-use Rattle.messages.specs.Steps.{NoneOf, PlainText, NoText, Plainly, Missing, NoKey, Lacking, Turned, Malformed, NoReason, Warned}
+use Rattle.messages.specs.Steps.{PlainText, NoText, Plainly, Missing, NoKey, Lacking, Turned, Malformed, NoReason, Warned}
 use Rattle.messages.specs.declared.Wide.{Wide}
 use Rattle.messages.specs.declared.Told.{Told}
-
--- the numbers of a table, and one that is none of them
-abbrev numbers_of : List Entry → List ℕ
-numbers_of [] = []
-numbers_of (e ∷ es) = e.number ∷ numbers_of es
-
-unknown : (es : List Entry) (n : ℕ) → NoneOf n (numbers_of es) → pieces_of es n ≡ []
-unknown [] n h = refl
-unknown (e ∷ es) n h = rw (ne_eqb n e.number h.0) (unknown es n h.1)
 
 -- words after words
 words_joined : (a b c : List ℕ) (t : Text) → joined (text a) (joined (text b) (joined (text c) t)) ≡ joined (text (a ++ (b ++ c))) t

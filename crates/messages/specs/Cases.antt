@@ -1,5 +1,4 @@
 -- Worked messages: every number, key and reason once, and words of whatever content.
--- Assumes nothing.
 use Rattle.std.specs.Prelude.{ℕ, ◌≡◌, refl, List, [], ◌∷◌, ◌++◌, map}
 use Rattle.slices.specs.Bytes.{bytes}
 use Rattle.utf8.specs.WellFormed.{ill_formed, sequence}

@@ -1,5 +1,4 @@
 -- Messages: their texts, and the message of a refusal or a warning.
--- Assumes nothing.
 pub mod Texts
 pub mod Message
 pub mod Steps

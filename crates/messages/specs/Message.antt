@@ -1,5 +1,4 @@
 -- The message of a refusal or a warning, with its document (docs/FORMAT.md, Messages): the bytes, or a refusal by 2, 19 at 0 or 21.
--- Assumes nothing.
 use Rattle.std.specs.Prelude.{ℕ, ◌+◌, List, [], ◌∷◌, ◌++◌, Bool, not, ◌&&◌, eqb, leb, ltb, length, take, drop}
 use Rattle.slices.specs.Bytes.{if, empty}
 use Rattle.utf8.specs.WellFormed.{well_formed}

@@ -1,6 +1,5 @@
 -- The texts of messages (docs/FORMAT.md, Messages): a line for each message of xml.rs and lib.rs of zbus_xml 6.0.0, and for each number
 -- whose text is not there a word for what is wrong.
--- Assumes nothing.
 use Rattle.std.specs.Prelude.{ℕ, List, [], ◌∷◌, eqb}
 use Rattle.slices.specs.Bytes.{if, bytes}
 

@@ -1,5 +1,4 @@
 -- The comments on the way to the next tag, from a `<` to the next.
--- Assumes nothing.
 use Prim.Native.Nat.{ℕ, zero, suc, ◌+◌, ◌-◌, ◌≤◌, ◌<◌}
 use mathlib.Core.Path.{◌≡◌, ◌∙◌}
 use mathlib.Core.List.{List, [], ◌∷◌}
@@ -9,7 +8,7 @@ use native.Mathlib.Omega.{arith}
 use lib.Dec.{eqb}
 use lib.ListN.{length, drop, get_or, length-drop, drop_of_length-le}
 use lib.Seq.{drop-cons, drop-drop}
-use Rattle.std.specs.Prelude.{Result, Ok, Err}
+use Rattle.std.specs.Prelude.{Result, Ok}
 use Rattle.faults.specs.declared.Fault.{Fault}
 use Rattle.slices.specs.Bytes.{other}
 use Rattle.slices.specs.Run.{Run}
@@ -45,9 +44,6 @@ module _ (s : List ℕ) (at : ℕ) where
 
     pub passed_tag : m ≡ Ok Tag → passed_over (drop at s) at ≡ []
     passed_tag e = at_mark ∙ rw e
-
-    pub passed_fault : {f : Fault} → m ≡ Err f → passed_over (drop at s) at ≡ []
-    passed_fault e = at_mark ∙ rw e
 
     pub passed_more : {p : ℕ} → m ≡ Ok (Ignored p) → passed_over (drop at s) at ≡ here (drop (suc at) s) at (passed_over (drop p s) p)
     unfolding passed_over

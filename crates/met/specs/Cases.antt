@@ -1,5 +1,4 @@
 -- Worked examples: a document, the places of the comments that reading meets, and where it ends.
--- Assumes nothing.
 use Rattle.std.specs.Prelude.{ℕ, ◌≡◌, refl, List, [], ◌∷◌, map}
 use Prim.Native.String as string
 use Rattle.slices.specs.Bytes.{bytes}

@@ -1,5 +1,4 @@
 -- What reading meets: the comments that are passed over on the way to a tag, and the tokens that reading comes to.
--- Assumes nothing.
 pub mod Passed
 pub mod Met
 pub mod Open

@@ -1,6 +1,5 @@
 -- What reading meets: the tokens that it comes to, and the comments on the way to each. Reading ends with the root's end, and
 -- with the first fault.
--- Assumes nothing.
 use Rattle.std.specs.Prelude.{ℕ, List, [], ◌∷◌, ◌++◌, Bool, true, false, drop}
 use Rattle.slices.specs.Bytes.{if}
 use Rattle.document.specs.Tags.{Shown}

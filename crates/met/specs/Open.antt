@@ -1,5 +1,4 @@
 -- How many elements are open, in the states that reading a document which is accepted comes to.
--- Assumes nothing.
 use Rattle.std.specs.Prelude.{ℕ, ◌+◌, ◌≤◌, ◌≡◌, List, [], ◌∷◌, length}
 use Rattle.document.specs.Tags.{Shown}
 use Rattle.document.specs.Reading.{Frame, element, definition, passing, State, begun, reading, accepted, refused}

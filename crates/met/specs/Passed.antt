@@ -1,5 +1,4 @@
 -- The comments that are passed over on the way to the next tag: by the same recursion as what is ignorable.
--- Assumes nothing.
 use Rattle.std.specs.Prelude.{ℕ, zero, suc, ◌-◌, List, [], ◌∷◌, eqb, Result, Ok, Err}
 use Rattle.faults.specs.declared.Fault.{Fault}
 use Rattle.slices.specs.Bytes.{if, bytes, starts}

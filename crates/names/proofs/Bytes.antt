@@ -1,5 +1,4 @@
 -- What interface names consist of, so that a class that has these bytes has every byte of them.
--- Assumes nothing.
 use Prim.Native.Nat.{ℕ, zero, suc, ◌≤◌, ◌<◌}
 use mathlib.Core.Path.{◌≡◌, refl, sym, subst}
 use mathlib.Core.Bool.{Bool, true, false, not, ◌&&◌, ◌||◌}
@@ -57,8 +56,8 @@ name_large b h =
     rw (le-leb 65 b (omega arith), lt-leb b 90 (omega arith), le-leb 97 b (omega arith), lt-leb b 122 (omega arith), le-leb 48 b (omega arith), lt-leb b 57 (omega arith), ne_eqb b 95 (λ q. omega arith), ne_eqb b 46 (λ q. omega arith))
 
 -- what names consist of
-name_of_lem : (b : ℕ) → element_byte b ≡ true → dotted_byte b ≡ true
-name_of_lem b e = rw e
+element_is_dotted : (b : ℕ) → element_byte b ≡ true → dotted_byte b ≡ true
+element_is_dotted b e = rw e
 
 every_class : (es : List (List ℕ)) → every element es ≡ true → every (all element_byte) es ≡ true
 every_class [] h = refl
@@ -71,11 +70,11 @@ elements_bytes [] h = refl
 elements_bytes (b ∷ s) h = by_byte (λ (x : ℕ). every (all element_byte) (if (eqb x 46) ([] ∷ elements s) (grown x (elements s))) ≡ true → all dotted_byte (x ∷ s) ≡ true) b 46 (elements_bytes s) (λ n k. one (elements s) (elements_bytes s) (rw n at k)) h
   where
     one : (es : List (List ℕ)) → (every (all element_byte) es ≡ true → all dotted_byte s ≡ true) → every (all element_byte) (grown b es) ≡ true → all dotted_byte (b ∷ s) ≡ true
-    one [] i k = let t = both (element_byte b) true (both (all element_byte (b ∷ [])) true k).0 in rw (name_of_lem b t.0) (i refl)
+    one [] i k = let t = both (element_byte b) true (both (all element_byte (b ∷ [])) true k).0 in rw (element_is_dotted b t.0) (i refl)
     one (e ∷ es) i k =
         let u = both (all element_byte (b ∷ e)) (every (all element_byte) es) k in
         let t = both (element_byte b) (all element_byte e) u.0 in
-        rw (name_of_lem b t.0) (i (rw t.1 u.1))
+        rw (element_is_dotted b t.0) (i (rw t.1 u.1))
 
 pub interface_bytes : (s : List ℕ) → interface_name s ≡ true → all dotted_byte s ≡ true
 unfolding interface_name

@@ -1,5 +1,4 @@
 -- The checker of signatures: what each way of `complete`, `fields`, `entry` and `signature` says.
--- Assumes nothing.
 use Prim.Native.Nat.{ℕ, ◌+◌, ◌-◌, ◌*◌, ◌≤◌, ◌<◌}
 use mathlib.Core.Path.{◌≡◌, refl, ap, sym, subst, ◌∙◌}
 use mathlib.Core.Bool.{Bool, true, false, ◌||◌, and-true, and-false, or-false}

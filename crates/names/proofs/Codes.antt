@@ -1,5 +1,4 @@
 -- Classes of bytes: the bytes of an element, and the codes of the basic types.
--- Assumes nothing.
 use Prim.Native.Nat.{ℕ}
 use mathlib.Core.Path.{◌≡◌, refl, ap, sym, ◌∙◌}
 use mathlib.Core.Bool.{Bool, true, false, not, and-true, and-false, false≢true}
@@ -36,8 +35,8 @@ code_basic Basic.signature = refl
 abbrev Coded : ℕ → Type 0
 Coded b = basic_code b ≡ true → (k : Basic) × (b ≡ code k)
 
-pub basic_code_lem : (b : ℕ) → Coded b
-basic_code_lem b =
+pub basic_coded : (b : ℕ) → Coded b
+basic_coded b =
     by_byte Coded b 121 (λ e. (Basic.byte, refl)) (λ n₁.
     by_byte Coded b 98 (λ e. (Basic.boolean, refl)) (λ n₂.
     by_byte Coded b 110 (λ e. (Basic.int16, refl)) (λ n₃.
@@ -57,7 +56,7 @@ basic_code_lem b =
 -- a signature of one basic type is its code, and back
 basic_written : (s : List ℕ) → basic_signature s ≡ true → (k : Basic) × (s ≡ code k ∷ [])
 basic_written [] e = absurd (false≢true e)
-basic_written (b ∷ []) e = let k = basic_code_lem b (sym (and-true (basic_code b)) ∙ e) in (k.0, ap (λ (x : ℕ). x ∷ []) k.1)
+basic_written (b ∷ []) e = let k = basic_coded b (sym (and-true (basic_code b)) ∙ e) in (k.0, ap (λ (x : ℕ). x ∷ []) k.1)
 basic_written (b ∷ c ∷ l) e = absurd (false≢true (sym (and-false (basic_code b)) ∙ e))
 
 written_basic : (s : List ℕ) (k : Basic) → s ≡ code k ∷ [] → basic_signature s ≡ true

@@ -1,5 +1,5 @@
 -- The test that computes says the grammar of types: it accepts a text where it is what some types within the limits are written as,
--- which proofs/Spelled.antt shows, and no other, which is shown here. Assumes nothing.
+-- which proofs/Spelled.antt shows, and no other, which is shown here.
 use Prim.Native.Nat.{ℕ, zero, suc, ◌+◌, ◌*◌, ◌≤◌, ◌<◌}
 use mathlib.Core.Path.{◌≡◌, refl, ap, sym, ◌∙◌}
 use mathlib.Core.Bool.{Bool, true, false, false≢true}
@@ -14,7 +14,7 @@ use Rattle.names.specs.Types.{Complete, Element, Fields, written, written_elemen
 use Rattle.names.specs.Signature.{Open, State, is_array, count, basic_code, begins, accepts, ended, signature}
 use Rattle.names.specs.Grammar.{SignatureGrammar}
 use Rattle.names.specs.Checks.{is_parenthesis, awaited}
-use Rattle.names.proofs.Codes.{basic_code_lem}
+use Rattle.names.proofs.Codes.{basic_coded}
 use Rattle.names.proofs.Checks.{accepts_bad, ended_field, expects}
 use Rattle.names.proofs.Spelled.{spelled_signature}
 
@@ -61,7 +61,7 @@ record Within (os : List Open) : Type 0 where
 module _ (os : List Open) (l : List ℕ) where
   is_basic : (b : ℕ) → Within os → basic_code b ≡ true → accepts l (begins os b) ≡ true → Begun os (b ∷ l)
   is_basic b w e h =
-      let k = basic_code_lem b e in
+      let k = basic_coded b e in
       record {
         type = Complete.basic k.0;
         rest = l;
@@ -83,8 +83,8 @@ module _ (os : List Open) (l : List ℕ) where
     shorter = omega arith;
   }
 
-  is_array_lem : BegunElement os l → Begun os (97 ∷ l)
-  is_array_lem g = record {
+  array_begun : BegunElement os l → Begun os (97 ∷ l)
+  array_begun g = record {
     type = Complete.array g.element;
     rest = g.rest;
     spelled = ap (◌∷◌ 97) g.spelled;
@@ -123,7 +123,7 @@ closed os (b ∷ r) h = let g = guarded (eqb b 125) r (ended os) h in (r, ap (λ
 
 is_entry : (os : List Open) (b : ℕ) (l : List ℕ) → basic_code b ≡ true → Begun (Open.value ∷ os) l → BegunElement os (123 ∷ b ∷ l)
 is_entry os b l e g =
-    let k = basic_code_lem b e in
+    let k = basic_coded b e in
     let c = closed os g.rest g.goes_on in
     record {
       element = Element.entry k.0 g.type;
@@ -173,7 +173,7 @@ module _ (os : List Open) (l : List ℕ) (w : Within os) where
       go true e = is_basic os l b w e
       go false e =
           by_byte Typing b 118 (is_variant os l w) (λ v.
-          by_byte Typing b 97 (λ h. let g = guarded (ltb (count is_array os) 32) l (Open.element ∷ os) h in is_array_lem os l (arr (ltb-true _ _ g.0) g.1)) (λ a.
+          by_byte Typing b 97 (λ h. let g = guarded (ltb (count is_array os) 32) l (Open.element ∷ os) h in array_begun os l (arr (ltb-true _ _ g.0) g.1)) (λ a.
           by_byte Typing b 40 (λ h. let g = guarded (ltb (count is_parenthesis os) 32) l (Open.first ∷ os) h in is_struct os l (str (ltb-true _ _ g.0) g.1)) (λ p h.
           absurd (false≢true (sym (accepts_bad l) ∙ (rw (e, v, a, p) at h))))))
 

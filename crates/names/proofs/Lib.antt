@@ -1,5 +1,4 @@
 -- The laws on names and signatures.
--- Assumes nothing.
 pub mod Codes
 pub mod Names
 pub mod Checks

@@ -1,5 +1,4 @@
 -- Worked examples, most of the D-Bus Specification: texts, and whether each is a signature.
--- Assumes nothing.
 use Rattle.std.specs.Prelude.{ℕ, ◌≡◌, refl, List, [], ◌∷◌, ◌++◌, map, Bool, true, false, replicate}
 use Prim.Native.String as string
 use Rattle.slices.specs.Bytes.{bytes}

@@ -1,5 +1,4 @@
 -- What the functions that check a part of a name or of a signature say.
--- Assumes nothing.
 use Rattle.std.specs.Prelude.{ℕ, ◌+◌, ◌≤◌, ◌<◌, ◌≡◌, List, [], ◌∷◌, Bool, false, not, length, drop, Option, None, Some}
 use Rattle.slices.specs.Bytes.{if, span}
 use Rattle.names.specs.Names.{digit, element_byte}

@@ -1,5 +1,4 @@
 -- Theorems on signatures: the tests that compute accept what the grammar of types writes, and nothing else.
--- Assumes nothing.
 use Rattle.std.specs.Prelude.{◌≡◌, true, List, [], ◌∷◌, ℕ}
 use Rattle.names.specs.Types.{Basic, code, IsSignature}
 use Rattle.names.specs.Signature.{signature, basic_signature}

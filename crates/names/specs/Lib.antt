@@ -1,5 +1,4 @@
 -- Names and signatures, by the D-Bus Specification.
--- Assumes nothing.
 pub mod Names
 pub mod Types
 pub mod Signature

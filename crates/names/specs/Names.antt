@@ -1,5 +1,4 @@
 -- Names, by the D-Bus Specification, Message Protocol, Valid Names.
--- Assumes nothing.
 use Rattle.std.specs.Prelude.{ℕ, List, [], ◌∷◌, Bool, true, false, not, ◌&&◌, ◌||◌, eqb, leb, length}
 use Rattle.slices.specs.Bytes.{if, all, empty}
 

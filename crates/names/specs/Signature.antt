@@ -1,6 +1,5 @@
 -- Signatures, as a test that computes: a stack of what is open, and a step for each byte.
 -- proofs/Grammar.antt proves that it says what specs/Types.antt says.
--- Assumes nothing.
 use Rattle.std.specs.Prelude.{ℕ, suc, List, [], ◌∷◌, Bool, true, false, not, ◌&&◌, ◌||◌, eqb, ltb, leb, length}
 use Rattle.slices.specs.Bytes.{if, empty}
 

@@ -1,5 +1,4 @@
 -- Types and what they are written as, by the D-Bus Specification, Type System.
--- Assumes nothing.
 use Rattle.std.specs.Prelude.{ℕ, suc, max, ◌≤◌, ◌≡◌, List, [], ◌∷◌, ◌++◌, length}
 
 -- the basic types

@@ -1,5 +1,4 @@
 -- Laws of the answer: what is left in the words lent, and which refusal it is.
--- Assumes nothing.
 use Prim.Native.Nat.{ℕ, ◌≤◌, ◌<◌}
 use mathlib.Core.Path.{◌≡◌, refl, sym, ap, subst, ◌∙◌}
 use mathlib.Core.List.{List}
@@ -19,12 +18,12 @@ use Rattle.soundness.specs.Outcome.{Admits}
 use Rattle.soundness.proofs.Rows.{admitted, refused_as, admitted_as}
 use Rattle.order.specs.Relation.{order, Chain}
 use Rattle.order.specs.Types.{definitions, uses, undefined}
-use Rattle.order.specs.Ordering.{wrong, types_ordered, checked, ordering, Says}
+use Rattle.order.specs.Ordering.{wrong, types_ordered, checked, ordering, Says, OrdersTypes}
 use Rattle.std.specs.Prelude.{Result, Ok, Err, Option as Maybe, None, Some}
 use Rattle.faults.specs.Fault.{fault}
 use Rattle.faults.specs.declared.Fault.{Fault}
 use Rattle.order.specs.declared.Ordered.{Ordered}
-use Rattle.order.specs.Steps.{Held, GivenOut, Clear, CircleFound, CountsUndefined, CountsDefinitions, Leaves, Finishes, OrdersSound, Answers, Orders}
+use Rattle.order.specs.Steps.{Held, GivenOut, Clear, CircleFound, CountsUndefined, CountsDefinitions, Leaves, Finishes, OrdersSound, Answers}
 use Rattle.order.proofs.Lists.{clash}
 use Rattle.order.proofs.Taking.{order_orders}
 use Rattle.order.proofs.Tables.{definitions_ascend, used_listed}
@@ -118,7 +117,7 @@ pub ruleset entry = (refused_rows, is_sound, admits, rules)
 
 -- ---- the entry
 
-pub orders_all : {d x ws out work used work' : List ℕ} {n room : ℕ} {r : Result Ordered Fault} → Answers d x ws n room out r → Wiped 0 used work' → length used ≡ length work → Orders d x ws n room work out work' r
+pub orders_all : {d x ws out work used work' : List ℕ} {n room : ℕ} {r : Result Ordered Fault} → Answers d x ws n room out r → Wiped 0 used work' → length used ≡ length work → OrdersTypes d x ws n room work out work' r
 orders_all {used = used} a z e = record { says = a.says; idle = z.is ∙ clear_all used ∙ ap (λ (k : ℕ). replicate k 0) e }
 
 pub ruleset whole = (orders_all, rules)

@@ -1,5 +1,4 @@
 -- Laws of a certificate: where numbers fall along uses there is no circle before a row; and places that are certified are the order.
--- Assumes nothing.
 use Prim.Native.Nat.{ℕ, zero, suc, ◌+◌, ◌≤◌, ◌<◌}
 use mathlib.Core.Path.{◌≡◌, sym, ap, ◌∙◌}
 use mathlib.Core.List.{List}

@@ -1,12 +1,11 @@
 -- Laws of the functions that check a candidate: numbers, circles, places.
--- Assumes nothing.
 use Prim.Native.Nat.{ℕ, zero, suc, ◌+◌, ◌-◌, ◌≤◌, ◌<◌}
 use mathlib.Core.Path.{◌≡◌, refl, sym, ap, ◌∙◌}
 use mathlib.Core.List.{List, [], ◌∷◌, ◌++◌}
 use mathlib.Core.Option.{Option, some}
 use mathlib.Core.Bool.{Bool, true, false, not}
 use borrow.Author.Rules.{rules}
-use borrow.Author.Tests.{ne_eqb, eqb-true, eqb-false, leb-true, not-true, not-false}
+use borrow.Author.Tests.{ne_eqb, eqb-true, leb-true, not-false}
 use native.Mathlib.Omega.{arith}
 use lib.Dec.{eqb, leb}
 use lib.ListN.{length, drop, get_or}
@@ -18,6 +17,7 @@ use Rattle.slices.proofs.Runs.{and_both}
 use Rattle.utf8.proofs.Sequences.{below}
 use Rattle.document.specs.Kinds as kinds
 use Rattle.document.specs.Elements.{among}
+use Rattle.document.proofs.Tests.{among_append}
 use Rattle.items.specs.Words.{Word, rows_shown}
 use Rattle.items.specs.Content.{Row}
 use Rattle.items.proofs.Words.{word_in}
@@ -28,8 +28,8 @@ use Rattle.order.specs.Steps.{Held, Adds, shown_at, Defines, MemberIn, Within, f
 use Rattle.order.specs.Certificate.{Got, IsParent, member_of, Falls, EdgeFalls, Late, RowFalls, Members, Follows, IsCircle, run_of, RunIs, Runs, RunBefore, Above, IsNoted, Placed, IsNext, PlacedBefore, IsPlaced, ArePlaced}
 use Rattle.order.proofs.Lists.{clash, apart, or_else, first_true, second_true, each_below}
 use Rattle.order.proofs.Circles.{chained}
-use Rattle.order.proofs.Lookups.{among_append, listed_is, is_listed, uses_targets}
-use Rattle.order.proofs.Finding.{shown_at_lem, shown_past, finds_some}
+use Rattle.order.proofs.Lookups.{listed_is, is_listed, uses_targets}
+use Rattle.order.proofs.Finding.{shown_rows_from, shown_past, finds_some}
 use Rattle.order.proofs.Counting.{undefined_member, Missing, missing_begins, missing_ends, missing_more}
 use Rattle.order.proofs.Waiting.{referred_targets, defined_at, defined_below, row_held, held_few}
 
@@ -46,13 +46,13 @@ in_targets {P} t i j (r ∷ ms) e f = go (member_in i r) refl e (in_targets t i 
         (λ a. h a (λ m. f (suc m)))
     go false b e h = h e (λ m. f (suc m))
 
-targets_in_lem : (t : List Row) (i j : ℕ) (ms : List Row) (m : ℕ) (row : Row) (rest : List Row) → drop m ms ≡ row ∷ rest → member_in i row ≡ true → among j (referred_by t row.tp) ≡ true → among j (targets_in t i ms) ≡ true
-targets_in_lem t i j [] zero row rest d e f = let z : ◌≡◌ {A = ℕ} 0 1 = cc in absurd (omega arith)
-targets_in_lem t i j [] (suc m) row rest d e f = let z : ◌≡◌ {A = ℕ} 0 1 = cc in absurd (omega arith)
-targets_in_lem t i j (r ∷ ms) zero row rest d e f =
+target_among : (t : List Row) (i j : ℕ) (ms : List Row) (m : ℕ) (row : Row) (rest : List Row) → drop m ms ≡ row ∷ rest → member_in i row ≡ true → among j (referred_by t row.tp) ≡ true → among j (targets_in t i ms) ≡ true
+target_among t i j [] zero row rest d e f = let z : ◌≡◌ {A = ℕ} 0 1 = cc in absurd (omega arith)
+target_among t i j [] (suc m) row rest d e f = let z : ◌≡◌ {A = ℕ} 0 1 = cc in absurd (omega arith)
+target_among t i j (r ∷ ms) zero row rest d e f =
     let p : r ≡ row = cc in
     rw (p, e, among_append j (referred_by t row.tp) (targets_in t i ms), f)
-targets_in_lem t i j (r ∷ ms) (suc m) row rest d e f = go (member_in i r) (targets_in_lem t i j ms m row rest d e f)
+target_among t i j (r ∷ ms) (suc m) row rest d e f = go (member_in i r) (target_among t i j ms m row rest d e f)
   where
     go : (b : Bool) → among j (targets_in t i ms) ≡ true → among j (if b (referred_by t r.tp ++ targets_in t i ms) (targets_in t i ms)) ≡ true
     go true h = among_append j (referred_by t r.tp) (targets_in t i ms) ∙ second_true (among j (referred_by t r.tp)) (among j (targets_in t i ms)) h
@@ -64,14 +64,14 @@ module _ (d x ws : List ℕ) (n i j : ℕ) where
   used_by u f =
       in_targets (rows_shown d x ws n) i j (rows_shown d x ws n) (sym (uses_targets (rows_shown d x ws n) i j) ∙ u)
       (λ m row rest e a b. below m n
-      (λ l. let p : row ≡ shown_at d x ws m = cc (e, shown_at_lem d x ws n m l) in f m l (rw p at a) (rw p at b))
+      (λ l. let p : row ≡ shown_at d x ws m = cc (e, shown_rows_from d x ws n m l) in f m l (rw p at a) (rw p at b))
       (λ l. let z : ◌≡◌ {A = ℕ} 0 1 = cc (e, shown_past d x ws n m l) in absurd (omega arith)))
 
   pub by_member : (m : ℕ) → m < n → member_in i (shown_at d x ws m) ≡ true → among j (referred_by (rows_shown d x ws n) (shown_at d x ws m).tp) ≡ true → uses (rows_shown d x ws n) i j ≡ true
   unfolding targets
   by_member m l a b =
       uses_targets (rows_shown d x ws n) i j
-      ∙ targets_in_lem (rows_shown d x ws n) i j (rows_shown d x ws n) m (shown_at d x ws m) (drop (suc m) (rows_shown d x ws n)) (shown_at_lem d x ws n m l) a b
+      ∙ target_among (rows_shown d x ws n) i j (rows_shown d x ws n) m (shown_at d x ws m) (drop (suc m) (rows_shown d x ws n)) (shown_rows_from d x ws n m l) a b
 
 -- a tp type refers to what it names as it is, and to what it names less `[]`
 target_referred : (t : List Row) (less : Bool) (tp : Option (List ℕ)) (j : ℕ) → target t less tp ≡ some j → among j (referred_by t tp) ≡ true
@@ -90,43 +90,6 @@ referred_cases t tp j e f =
     (λ a. f true (listed_is j (target t true tp) a))
 
 -- ---- numbers
-
-module _ {work : List ℕ} {n p i e : ℕ} {t : Maybe ℕ} where
-  pub edge_never : EdgeFalls n work p i e t false
-  edge_never = record { falls = λ z. clash z refl; noted = λ z. clash z refl }
-
-  module _ {g : ℕ} (o : Got work (n + n + i) g) where
-    pub edge_none : t ≡ None → EdgeFalls n work p i e t (not (eqb g e))
-    edge_none h = record {
-      falls = λ z k q. absurd (cc);
-      noted = λ z l q. absurd (eqb-false g e (not-true (eqb g e) z) (o.is ∙ q));
-    }
-
-    module _ {j a b : ℕ} (h : t ≡ Some j) (s : Got work (n + j) a) (u : Got work (n + i) b) where
-      -- before p, or where the edge is not the one noted
-      falling : {c : Bool} → (c ≡ true → Falls n work p i j) → (c ≡ true → n ≤ p → get_or work (n + n + i) 0 ≡ e → run_of n work i ≤ a + 1) → EdgeFalls n work p i e t c
-      falling f r = record {
-        falls = λ z k q. let y : j ≡ k = cc in rw y at (f z);
-        noted = λ z l q. (j, h, omega (arith, r z l q, s.is));
-      }
-
-      pub edge_less : p < n → a < b → EdgeFalls n work p i e t true
-      edge_less l k = falling (λ z. record { most = omega (arith, s.is, u.is); less = λ q. omega (arith, s.is, u.is) }) (λ z y q. absurd (omega arith))
-
-      pub edge_equal : p < n → p ≤ i → EdgeFalls n work p i e t (eqb a b)
-      edge_equal l k = falling (λ z. record { most = omega (arith, s.is, u.is, eqb-true a b z); less = λ q. absurd (omega arith) }) (λ z y q. absurd (omega arith))
-
-      pub edge_other : a < b → {c : Bool} → c ≡ not (eqb g e) → c ≡ true → EdgeFalls n work p i e t c
-      edge_other k q f = falling
-          (λ z. record { most = omega (arith, s.is, u.is); less = λ q. omega (arith, s.is, u.is) })
-          (λ z y w. absurd (eqb-false g e (not-true (eqb g e) (sym q ∙ f)) (o.is ∙ w)))
-
-      pub edge_noted : {r : ℕ} → a < b → RunIs n work i r → EdgeFalls n work p i e t (leb r (a + 1))
-      edge_noted {r} k q = falling
-          (λ z. record { most = omega (arith, s.is, u.is); less = λ q. omega (arith, s.is, u.is) })
-          (λ z y w. omega (arith, q.is, leb-true r (a + 1) z))
-
-pub ruleset edges = (edge_never, edge_none, edge_less, edge_equal, edge_other, edge_noted, rules)
 
 module _ {d x ws work : List ℕ} {n p m : ℕ} where
   pub row_never : RowFalls d x ws n work p m None

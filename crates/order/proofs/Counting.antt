@@ -1,10 +1,9 @@
 -- Laws of the two counts.
--- Assumes nothing.
 use Prim.Native.Nat.{ℕ, zero, suc, ◌+◌, ◌*◌, ◌≤◌, ◌<◌}
 use mathlib.Core.Path.{◌≡◌, refl, sym, ap, ◌∙◌}
 use mathlib.Core.List.{List, [], ◌∷◌, ◌++◌}
 use mathlib.Core.Option.{Option, none, some}
-use mathlib.Core.Bool.{Bool, true, false, not}
+use mathlib.Core.Bool.{Bool, true, false, not, not-not}
 use borrow.Author.Rules.{rules}
 use borrow.Author.Tests.{ne_eqb, not-true, not-false}
 use native.Mathlib.Numerals.{add-one}
@@ -23,7 +22,7 @@ use Rattle.order.specs.Types.{defines, definitions_from, typed, defined, is_unde
 use Rattle.order.specs.Lookup.{listed, referred, referred_by}
 use Rattle.order.specs.Steps.{shown_at, Defines, target, Target, Adds, BearsNone, IsUndefined, CountsUndefined, CountsDefinitions}
 use Rattle.order.proofs.Lookups.{defined_referred}
-use Rattle.order.proofs.Finding.{shown_at_lem, shown_past, finds_some, finds_none, tp_is}
+use Rattle.order.proofs.Finding.{shown_rows_from, shown_past, finds_some, finds_none, tp_is}
 use Rattle.order.proofs.Waiting.{referred_targets, row_held}
 
 one_most : (b : Bool) → if b 1 0 ≤ 1
@@ -35,7 +34,7 @@ module _ (p : Row → Bool) (f : ℕ → List Row → ℕ) (none : (k : ℕ) →
   pub counted : (m k : ℕ) → k + m ≡ n → f k (drop k (rows_shown d x ws n)) ≡ length (filter (λ j. p (shown_at d x ws j)) (range_with_len k m))
   counted zero k h = ap (f k) (shown_past d x ws n k (omega (arith, h))) ∙ none k
   counted (suc m) k h =
-      let e = ap (f k) (shown_at_lem d x ws n k (omega (arith, h))) ∙ more k (shown_at d x ws k) (drop (suc k) (rows_shown d x ws n)) in
+      let e = ap (f k) (shown_rows_from d x ws n k (omega (arith, h))) ∙ more k (shown_at d x ws k) (drop (suc k) (rows_shown d x ws n)) in
       let g : f (suc k) (drop (suc k) (rows_shown d x ws n)) ≡ length (filter (λ j. p (shown_at d x ws j)) (range_with_len (k + 1) m)) = rw add-one (counted m (suc k) (omega (arith, h))) in
       e ∙ go (p (shown_at d x ws k)) _ g
     where
@@ -63,15 +62,11 @@ counted_definitions d x ws n e = record {
 
 -- ---- members that bear names of no row
 
-twice : (z : Bool) → not (not z) ≡ z
-twice true = refl
-twice false = refl
-
 -- a tp type that is there bears no name exactly when it refers to no row
 bears_none : (d x ws : List ℕ) (n m : ℕ) → absent (row_of (drop (m * 16) ws)).tp ≡ false → typed (λ tp. not (defined (rows_shown d x ws n) tp)) (shown_at d x ws m).tp ≡ empty (referred_by (rows_shown d x ws n) (shown_at d x ws m).tp)
 bears_none d x ws n m f =
     let s = shown d x (row_of (drop (m * 16) ws)).tp in
-    rw f (ap not (defined_referred (rows_shown d x ws n) s) ∙ twice (empty (referred (rows_shown d x ws n) s)))
+    rw f (ap not (defined_referred (rows_shown d x ws n) s) ∙ not-not (empty (referred (rows_shown d x ws n) s)))
 
 neither : (d x ws : List ℕ) (n m : ℕ) → absent (row_of (drop (m * 16) ws)).tp ≡ false → (o p : Option ℕ) → target (rows_shown d x ws n) false (shown_at d x ws m).tp ≡ o → target (rows_shown d x ws n) true (shown_at d x ws m).tp ≡ p → typed (λ tp. not (defined (rows_shown d x ws n) tp)) (shown_at d x ws m).tp ≡ empty (listed o ++ listed p)
 neither d x ws n m f o p g h =
@@ -139,7 +134,7 @@ module _ {d x ws : List ℕ} {n k c : ℕ} (g : Missing d x ws n k c) where
 
   pub missing_more : {b : Bool} {r : ℕ} → k < n → IsUndefined d x ws n k b → Adds c b r → Missing d x ws n (k + 1) r
   missing_more {b} {r} l a p =
-      let e = ap (undefined_in (rows_shown d x ws n)) (shown_at_lem d x ws n k l) ∙ more_missing (rows_shown d x ws n) k (shown_at d x ws k) (drop (suc k) (rows_shown d x ws n)) in
+      let e = ap (undefined_in (rows_shown d x ws n)) (shown_rows_from d x ws n k l) ∙ more_missing (rows_shown d x ws n) k (shown_at d x ws k) (drop (suc k) (rows_shown d x ws n)) in
       let f : ◌≡◌ {A = ℕ} (if b 1 0) (if (is_undefined (rows_shown d x ws n) (shown_at d x ws k)) 1 0) = ap (λ (z : Bool). if z 1 0) a.is in
       record { is = rw add-one (omega (arith, g.is, e, f, p.is)); most = omega (arith, g.most, p.is, one_most b) }
 

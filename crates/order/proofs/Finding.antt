@@ -1,5 +1,4 @@
 -- Laws of looking names up: rows by their places, and the loop that seeks the first row of a name.
--- Assumes nothing.
 use Prim.Native.Nat.{ℕ, zero, suc, ◌+◌, ◌*◌, ◌-◌, ◌≤◌, ◌<◌}
 use mathlib.Core.Path.{◌≡◌, refl, sym, ap, ◌∙◌}
 use mathlib.Core.List.{List, [], ◌∷◌, map}
@@ -31,8 +30,8 @@ use Rattle.order.specs.Steps.{shown_at, Defines, HasName, MemberIn, Within, foun
 
 module _ (d x ws : List ℕ) (n : ℕ) where
   -- the rows from row i on begin with row i
-  pub shown_at_lem : (i : ℕ) → i < n → drop i (rows_shown d x ws n) ≡ shown_at d x ws i ∷ drop (suc i) (rows_shown d x ws n)
-  shown_at_lem i h =
+  pub shown_rows_from : (i : ℕ) → i < n → drop i (rows_shown d x ws n) ≡ shown_at d x ws i ∷ drop (suc i) (rows_shown d x ws n)
+  shown_rows_from i h =
       drop-map (viewed d x) i (rows_of n ws)
       ∙ ap (map (viewed d x)) (row-at n i ws h)
       ∙ ap (λ (l : List Row). shown_at d x ws i ∷ l) (sym (drop-map (viewed d x) (suc i) (rows_of n ws)))
@@ -121,7 +120,7 @@ seek_to : (d x ws s : List ℕ) (n k : ℕ) → k ≤ n → ((j : ℕ) → j < k
 seek_to d x ws s n zero l f = record { same = refl }
 seek_to d x ws s n (suc k) l f =
     let g = seek_to d x ws s n k (omega arith) (λ j h. f j (omega arith)) in
-    record { same = g.same ∙ rw (shown_at_lem d x ws n k (omega arith), sym (f k (omega arith)).is) }
+    record { same = g.same ∙ rw (shown_rows_from d x ws n k (omega arith), sym (f k (omega arith)).is) }
 
 -- the first of n rows that has it, or none
 pub seek_first : (d x ws s : List ℕ) (n : ℕ) (r : Maybe ℕ) → MatchOption r ((k : ℕ) → 0 ≤ k → k < n → HasName d x ws k s false) (λ i. (0 ≤ i) × (i < n) × HasName d x ws i s true × ((k : ℕ) → 0 ≤ k → k < i → HasName d x ws k s false)) → FirstNamed (rows_shown d x ws n) s n r
@@ -131,7 +130,7 @@ seek_first d x ws s n None h =
 seek_first d x ws s n (Some i) h =
     let l : i < n = h.1 in
     let g = seek_to d x ws s n i (omega arith) (λ k q. h.3 k (omega arith) q) in
-    first_found (found_here (g.same ∙ rw (shown_at_lem d x ws n i l, sym h.2.is)) l)
+    first_found (found_here (g.same ∙ rw (shown_rows_from d x ws n i l, sym h.2.is)) l)
 
 -- ---- a type less `[]`
 

@@ -1,5 +1,4 @@
 -- Laws of giving rows out: the loop, and the words that the rows are put into.
--- Assumes nothing.
 use Prim.Native.Nat.{ℕ, zero, suc, ◌+◌, ◌≤◌, ◌<◌}
 use mathlib.Core.Path.{◌≡◌, refl, sym, ap, ◌∙◌}
 use mathlib.Core.List.{List, [], ◌∷◌, ◌++◌, append-nil, append_assoc}
@@ -13,8 +12,9 @@ use lib.Seq.{get_or-set_same, get_or-set_other}
 use Rattle.std.specs.Prelude.{Option as Maybe, None, Some}
 use Rattle.slices.specs.Bytes.{if}
 use Rattle.tables.specs.Table.{Rep, Put}
-use Rattle.tables.proofs.Tables.{empty_stands, one_room, one_full}
+use Rattle.tables.proofs.Tables.{empty_stands}
 use Rattle.document.specs.Elements.{among}
+use Rattle.document.proofs.Tests.{among_append}
 use Rattle.items.specs.Words.{rows_shown}
 use Rattle.items.specs.Content.{Row}
 use Rattle.order.specs.Relation.{without, taken_from, order}
@@ -23,7 +23,6 @@ use Rattle.order.specs.Steps.{Held, unmarked, left_in, NextReady, Blank, Marks, 
 use Rattle.order.proofs.Lists.{clash, Ascends, without_count}
 use Rattle.order.proofs.Loop.{keep_all, keep_without, keep_ascends, taken_next, taken_stop}
 use Rattle.order.proofs.Tables.{definitions_ascend}
-use Rattle.order.proofs.Lookups.{among_append}
 use Rattle.order.proofs.Waiting.{length_shown}
 
 few_from : (i : ℕ) (t : List Row) → length (definitions_from i t) ≤ length t
@@ -138,9 +137,6 @@ module _ {d x ws : List ℕ} {n room : ℕ} {marks : List Bool} {out : List ℕ}
         pub giving_more : {out' : List ℕ} {c' : ℕ} → Put 1 (i ∷ []) c out out' c' → length out' ≡ length out → Giving d x ws n room marks' out' c'
         giving_more p o = rw m.is (gives (omega (arith, g.long, giving_place)) p o)
 
-pub marks_one : {i : ℕ} {marks : List Bool} → Marks i marks (set marks i true)
-marks_one = record { is = refl }
-
 pub blank_none : Blank (replicate 262144 false)
 blank_none = record { none = λ k. at 262144 k }
   where
@@ -150,5 +146,3 @@ blank_none = record { none = λ k. at 262144 k }
     at (suc n) (suc k) = at n k
 
 pub ruleset giving = (giving_begins, giving_ends, giving_falls, giving_more, giving_count, giving_place, giving_row, rules)
-
-pub ruleset puts = (one_room, one_full, marks_one, rules)

@@ -1,5 +1,4 @@
 -- Laws of the index of names: hashes and buckets, the words of the index, and the walk along the rows of a bucket.
--- Assumes nothing.
 use Prim.Native.Nat.{ℕ, zero, suc, ◌+◌, ◌*◌, ◌-◌, ◌/◌, ◌%◌, ◌≤◌, ◌<◌}
 use mathlib.Core.Path.{◌≡◌, refl, sym, ap, subst, ◌∙◌}
 use mathlib.Core.List.{List, [], ◌∷◌}
@@ -28,7 +27,7 @@ use Rattle.order.specs.Types.{defines, first_named}
 use Rattle.order.specs.Steps.{Held, shown_at, Defines, HasName, FirstNamed}
 use Rattle.order.specs.Index.{bucket_of, tag_of, bucket_at, tag_at, first_in, word_for, HashAt, Spread, WordIs, RowOf, Tagged, IndexedFrom, Indexed, Built}
 use Rattle.order.proofs.Lists.{clash, case, refuted, joined}
-use Rattle.order.proofs.Finding.{shown_at_lem, shown_past, found_here, found_none}
+use Rattle.order.proofs.Finding.{shown_rows_from, shown_past, found_here, found_none}
 use Rattle.order.proofs.Waiting.{row_held}
 
 -- ---- hashes and buckets
@@ -40,13 +39,13 @@ hash_row {d} {x} {ws} {l} {i} b q p = record {
 
 pub ruleset hashes = (hash_row, rules)
 
-bucket_of_lem : (s : List ℕ) {f m h : ℕ} → f ≡ hash_of s → Spread f m h → h ≡ bucket_of m s
+spread_bucket : (s : List ℕ) {f m h : ℕ} → f ≡ hash_of s → Spread f m h → h ≡ bucket_of m s
 unfolding bucket_of
-bucket_of_lem s {m = m} e p = p.is ∙ ap (λ (z : ℕ). z % m) e
+spread_bucket s {m = m} e p = p.is ∙ ap (λ (z : ℕ). z % m) e
 
-tag_of_lem : (s : List ℕ) {f : ℕ} → f ≡ hash_of s → f / 524288 ≡ tag_of s
+hash_tag : (s : List ℕ) {f : ℕ} → f ≡ hash_of s → f / 524288 ≡ tag_of s
 unfolding tag_of
-tag_of_lem s e = ap (λ (z : ℕ). z / 524288) e
+hash_tag s e = ap (λ (z : ℕ). z / 524288) e
 
 -- the two parts of a word
 low_bits : (a t : ℕ) → a < 524288 → (a + t * 524288) % 524288 ≡ a
@@ -69,7 +68,7 @@ module _ {d x ws s : List ℕ} {k w f : ℕ} (a : Tagged d x ws k w) (b : HashIs
   pub other_name : (w / 524288 ≡ f / 524288 → ⊥) → HasName d x ws k s false
   other_name h = record {
     is = sym (refuted (defines (shown_at d x ws k) && same s (present (shown_at d x ws k).name))
-        (λ t. h (a.is ∙ ap tag_of (name_is s (shown_at d x ws k) t) ∙ sym (tag_of_lem s b.is))));
+        (λ t. h (a.is ∙ ap tag_of (name_is s (shown_at d x ws k) t) ∙ sym (hash_tag s b.is))));
   }
 
 pub ruleset tags = (other_name, rules)
@@ -108,7 +107,7 @@ record Passed (d x ws : List ℕ) (n m : ℕ) (s : List ℕ) (i k : ℕ) : Type 
 
 -- the rows from row i on begin with row i
 first_at : (d x ws : List ℕ) (n m h i : ℕ) → i < n → first_in m h i (drop i (rows_shown d x ws n)) ≡ if (defines (shown_at d x ws i) && eqb (bucket_at d x ws m i) h) (some i) (first_in m h (suc i) (drop (suc i) (rows_shown d x ws n)))
-first_at d x ws n m h i l = ap (first_in m h i) (shown_at_lem d x ws n i l)
+first_at d x ws n m h i l = ap (first_in m h i) (shown_rows_from d x ws n i l)
 
 module _ (d x ws : List ℕ) (n m : ℕ) (s : List ℕ) where
   pass : (f i : ℕ) → f + i ≡ n → (k : ℕ) → first_in m (bucket_of m s) i (drop i (rows_shown d x ws n)) ≡ some k → Passed d x ws n m s i k
@@ -129,7 +128,7 @@ module _ (d x ws : List ℕ) (n m : ℕ) (s : List ℕ) where
           record {
             past = omega (arith, g.past);
             within = g.within;
-            same = ap (first_named s i) (shown_at_lem d x ws n i (omega arith))
+            same = ap (first_named s i) (shown_rows_from d x ws n i (omega arith))
                 ∙ skip m s i (shown_at d x ws i) (drop (suc i) (rows_shown d x ws n)) (miss m s (shown_at d x ws i) c)
                 ∙ g.same;
             is = g.is;
@@ -202,7 +201,7 @@ follow_begins {d} {x} {ws} {s} {hs} {n = n} {h = h} ix a b = record {
   within = omega arith;
   same = refl;
   word = ix.first h b.within
-      ∙ ap (λ (z : ℕ). word_for d x ws (first_in (length hs) z 0 (rows_shown d x ws n))) (bucket_of_lem s a.is b);
+      ∙ ap (λ (z : ℕ). word_for d x ws (first_in (length hs) z 0 (rows_shown d x ws n))) (spread_bucket s a.is b);
 }
 
 module _ {d x ws s : List ℕ} {n m w : ℕ} (g : Following d x ws n m s w) {r : Maybe ℕ} (p : RowOf w r) where
@@ -228,7 +227,7 @@ module _ {d x ws s : List ℕ} {n m w : ℕ} (g : Following d x ws n m s w) {r :
         finds = found_here
             (g.same
             ∙ here.same
-            ∙ ap (first_named s k) (shown_at_lem d x ws n k here.within)
+            ∙ ap (first_named s k) (shown_rows_from d x ws n k here.within)
             ∙ ap (λ (z : Bool). if z (some k) (first_named s (suc k) (drop (suc k) (rows_shown d x ws n)))) (sym a.is ∙ f))
             here.within;
       }
@@ -243,7 +242,7 @@ module _ {d x ws s hs ls : List ℕ} {n w k : ℕ} {r : Maybe ℕ} {b : Bool} (i
           within = omega (arith, h.within);
           same = g.same
               ∙ h.same
-              ∙ ap (first_named s k) (shown_at_lem d x ws n k h.within)
+              ∙ ap (first_named s k) (shown_rows_from d x ws n k h.within)
               ∙ skip (length hs) s k (shown_at d x ws k) (drop (suc k) (rows_shown d x ws n)) (sym a.is ∙ f);
           word = ix.next k (omega arith) h.within h.is
               ∙ ap (λ (z : ℕ). word_for d x ws (first_in (length hs) z (suc k) (drop (suc k) (rows_shown d x ws n)))) h.falls;
@@ -309,10 +308,10 @@ module _ {d x ws hs ls : List ℕ} {n k : ℕ} (ix : IndexedFrom d x ws n (k + 1
 
   module _ (e : b ≡ true) {f h w : ℕ} (v : HashAt d x ws k f) (u : Spread f (length hs) h) (o : WordIs k f w) where
     bucket_here : h ≡ bucket_at d x ws (length hs) k
-    bucket_here = bucket_of_lem (present (shown_at d x ws k).name) v.is u
+    bucket_here = spread_bucket (present (shown_at d x ws k).name) v.is u
 
     word_here : w ≡ word_for d x ws (some k)
-    word_here = o.is ∙ ap (λ (z : ℕ). suc k + z * 524288) (tag_of_lem (present (shown_at d x ws k).name) v.is)
+    word_here = o.is ∙ ap (λ (z : ℕ). suc k + z * 524288) (hash_tag (present (shown_at d x ws k).name) v.is)
 
     is_defined : defines (shown_at d x ws k) ≡ true
     is_defined = sym a.is ∙ e

@@ -1,5 +1,4 @@
 -- Laws of words lent for work, and of edges in them.
--- Assumes nothing.
 use Prim.Native.Nat.{ℕ, zero, suc, ◌+◌, ◌-◌, ◌≤◌, ◌<◌}
 use mathlib.Core.Path.{◌≡◌, refl, ap, ◌∙◌}
 use mathlib.Core.List.{List, [], ◌∷◌}
@@ -8,17 +7,15 @@ use borrow.Author.Tests.{eq-eqb, ne_eqb}
 use native.Mathlib.Omega.{arith}
 use lib.Dec.{eqb}
 use Rattle.slices.specs.Bytes.{if}
-use lib.ListN.{length, get_or, set, length-set}
-use lib.Seq.{get_or-set_other}
+use lib.ListN.{length, get_or}
 use Rattle.std.specs.Prelude.{Option as Maybe, None, Some, SomeIff}
 use Rattle.tables.specs.Table.{Wiped, cleared}
 use Rattle.items.specs.Words.{Word}
 use Rattle.items.proofs.Words.{word_in}
-use Rattle.order.specs.Steps.{Held}
 use Rattle.order.specs.Index.{Indexed}
 use Rattle.order.specs.Certificate.{Got, Kept, IsParent, member_of, MemberOf, run_of, RunIs}
 use Rattle.order.proofs.Indexing.{indexed_kept}
-use Rattle.order.proofs.Waiting.{row_held}
+use Rattle.order.proofs.Waiting.{row_held, held_within}
 
 -- ---- the row that a row is in
 
@@ -41,19 +38,6 @@ pub ruleset parents = (parent_none, parent_some, row_held, rules)
 
 -- ---- words that are kept
 
-pub kept_all : {ws : List ℕ} {k : ℕ} → Kept k ws ws
-kept_all = record { long = refl; below = λ j h. refl }
-
-pub kept_set : {ws : List ℕ} {k : ℕ} (v : ℕ) → Kept k ws (set ws k v)
-kept_set {ws} {k} v = record { long = length-set ws k v; below = λ j h. get_or-set_other ws k j v 0 (λ e. omega arith) }
-
-pub ruleset puts = (kept_all, kept_set, rules)
-
-pub kept_less : {a b : List ℕ} {n k : ℕ} → Kept k a b → n ≤ k → Kept n a b
-kept_less f h = record { long = f.long; below = λ j l. f.below j (omega arith) }
-
-pub ruleset places = (kept_less, rules)
-
 pub kept_indexed : {d x ws heads work work' : List ℕ} {n : ℕ} → Indexed d x ws n heads work → Kept n work work' → Indexed d x ws n heads work'
 kept_indexed l k = indexed_kept l k.long k.below
 
@@ -75,10 +59,7 @@ indexed_cleared {work = work} {work' = work'} {n = n} l z =
       below = λ j h. ap (λ (l : List ℕ). get_or l j 0) z.is ∙ cleared_below n j work h;
     }
 
-pub held_few : {ws : List ℕ} {n : ℕ} → Held ws n → n ≤ 262144
-held_few h = h.few
-
-pub ruleset candidates = (indexed_cleared, held_few, rules)
+pub ruleset candidates = (indexed_cleared, held_within, rules)
 
 -- ---- runs
 

@@ -1,23 +1,21 @@
--- Looking names up finds the rows that are used; and a row that waits for none of them is ready.
--- Assumes nothing.
+-- Looking names up finds the rows that are used.
 use Prim.Native.Nat.{ℕ, suc, ◌+◌, ◌-◌}
 use mathlib.Core.Path.{◌≡◌, refl, sym, ap, ◌∙◌}
-use mathlib.Core.Logic.{◌↔◌}
 use mathlib.Core.List.{List, [], ◌∷◌, ◌++◌}
 use mathlib.Core.Option.{Option, none, some}
 use mathlib.Core.Bool.{Bool, true, false, not, ◌&&◌}
 use borrow.Author.Tests.{eqb-true, eq-eqb}
 use native.Mathlib.Omega.{arith}
-use lib.Dec.{eqb}
 use lib.ListN.{length, take, drop, length-append, take-append-drop}
 use lib.Seq.{take-append_seam, drop-append_seam}
 use Rattle.slices.specs.Bytes.{if, bytes, same, empty}
-use Rattle.slices.proofs.Runs.{same_equal}
+use Rattle.slices.proofs.Runs.{same_equal, same_self}
 use Rattle.document.specs.Elements.{among}
+use Rattle.document.proofs.Tests.{among_append}
 use Rattle.items.specs.Content.{Row, present}
 use Rattle.order.specs.Types.{member_in, defines, name_at, first_named, is_row, counts, bears, typed, any_row, uses, defined}
-use Rattle.order.specs.Lookup.{of_array, element, listed, referred, referred_by, targets_in, targets, waits}
-use Rattle.order.proofs.Lists.{clash, or_else, first_true, second_true, among_here, among_there, among_cases}
+use Rattle.order.specs.Lookup.{of_array, element, listed, referred, referred_by, targets_in, targets}
+use Rattle.order.proofs.Lists.{clash, or_else, first_true, second_true, among_here, among_cases}
 
 -- ---- tests and texts
 
@@ -25,10 +23,6 @@ pub alike : (a b : Bool) → (a ≡ true → b ≡ true) → (b ≡ true → a �
 alike true b f g = sym (f refl)
 alike false true f g = g refl
 alike false false f g = refl
-
-pub same_self : (a : List ℕ) → same a a ≡ true
-same_self [] = refl
-same_self (x ∷ a) = rw (eq-eqb x x refl) (same_self a)
 
 -- an array's type ends in `[]`, and before that is the name
 array_length : (s : List ℕ) → length (s ++ bytes "[]") - 2 ≡ length s
@@ -47,9 +41,9 @@ array_whole tp e =
 
 -- ---- the first row of a name
 
-pub is_row_lem : (j : ℕ) (o : Option ℕ) → is_row j o ≡ true → o ≡ some j
-is_row_lem j none e = clash e refl
-is_row_lem j (some i) e = ap some (eqb-true i j e)
+pub named_row_is : (j : ℕ) (o : Option ℕ) → is_row j o ≡ true → o ≡ some j
+named_row_is j none e = clash e refl
+named_row_is j (some i) e = ap some (eqb-true i j e)
 
 pub row_is : (j : ℕ) (o : Option ℕ) → o ≡ some j → is_row j o ≡ true
 row_is j o e = rw e (eq-eqb j j refl)
@@ -72,14 +66,6 @@ found_name t s j e =
     rw p q.2
 
 -- ---- what a tp type refers to
-
-pub among_append : (j : ℕ) (a b : List ℕ) → among j (a ++ b) ≡ if (among j a) true (among j b)
-among_append j [] b = refl
-among_append j (x ∷ a) b = go (eqb j x) (among_append j a b)
-  where
-    go : (t : Bool) → among j (a ++ b) ≡ if (among j a) true (among j b) → if t true (among j (a ++ b)) ≡ if (if t true (among j a)) true (among j b)
-    go true h = refl
-    go false h = h
 
 pub listed_is : (j : ℕ) (o : Option ℕ) → among j (listed o) ≡ true → o ≡ some j
 listed_is j none e = clash e refl
@@ -131,7 +117,7 @@ module _ (t : List Row) (j : ℕ) where
 
       go : (c : Bool) → counts t j ≡ c → if c (bears tp (name_at t j)) false ≡ true → among j (first ++ second) ≡ true
       go true c e =
-          let f = is_row_lem j (first_named (name_at t j) 0 t) c in
+          let f = named_row_is j (first_named (name_at t j) 0 t) c in
           among_append j first second
           ∙ or_else (same tp (name_at t j)) (same tp (name_at t j ++ bytes "[]")) e
           (λ m. first_true (among j first) (among j second) (rw (same_equal tp (name_at t j) m) (is_listed j (first_named (name_at t j) 0 t) f)))
@@ -245,20 +231,3 @@ defined_referred t tp =
     go : (b : Bool) → if (not (empty (listed (first_named tp 0 t)))) true (if b (not (empty (listed (first_named (element tp) 0 t)))) false) ≡ if (not (empty (listed (first_named tp 0 t)))) true (not (empty (if b (listed (first_named (element tp) 0 t)) [])))
     go true = refl
     go false = refl
-
--- ---- waiting
-
-pub waits_none : (js left : List ℕ) → (waits js left ≡ 0) ↔ ((j : ℕ) → among j js ≡ true → among j left ≡ false)
-waits_none js left = (there js, back js)
-  where
-    there : (js : List ℕ) → waits js left ≡ 0 → (j : ℕ) → among j js ≡ true → among j left ≡ false
-    there [] e j m = clash m refl
-    there (x ∷ js) e j m = go (among x left) refl e (λ f. there js f j)
-      where
-        go : (b : Bool) → among x left ≡ b → if b (suc (waits js left)) (waits js left) ≡ 0 → (waits js left ≡ 0 → among j js ≡ true → among j left ≡ false) → among j left ≡ false
-        go true b e h = absurd (omega arith)
-        go false b e h = among_cases j x js m (λ p. rw p b) (h e)
-
-    back : (js : List ℕ) → ((j : ℕ) → among j js ≡ true → among j left ≡ false) → waits js left ≡ 0
-    back [] f = refl
-    back (x ∷ js) f = rw (f x (among_here x js)) (back js (λ j m. f j (among_there j x js m)))

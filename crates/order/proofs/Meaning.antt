@@ -1,5 +1,4 @@
 -- What the test for a use says, in words of rows.
--- Assumes nothing.
 use Prim.Native.Nat.{ℕ, zero, suc, ◌+◌, ◌≤◌}
 use mathlib.Core.Path.{◌≡◌, refl, ap, ◌∙◌}
 use mathlib.Core.Logic.{◌⊎◌, inl, inr}
@@ -10,14 +9,14 @@ use borrow.Author.Tests.{eqb-true, eq-eqb}
 use native.Mathlib.Omega.{arith}
 use lib.Dec.{eqb}
 use Rattle.slices.specs.Bytes.{if, bytes, same}
-use Rattle.slices.proofs.Runs.{and_both, same_equal}
+use Rattle.slices.proofs.Runs.{and_both, same_equal, same_self}
 use Rattle.document.specs.Elements.{among}
 use Rattle.items.specs.Content.{Row, present}
 use Rattle.order.specs.Types.{member_in, defines, definitions_from, definitions, name_at, first_named, counts, bears, typed, any_row, uses}
 use Rattle.order.specs.Statement.{row_at, Uses, UsesMeans}
 use Rattle.order.proofs.Lists.{clash, or_else, among_cases}
 use Rattle.order.proofs.Tables.{from_below, named_listed}
-use Rattle.order.proofs.Lookups.{same_self, is_row_lem, row_is, found_name, bears_name, bears_array}
+use Rattle.order.proofs.Lookups.{named_row_is, row_is, found_name, bears_name, bears_array}
 
 -- ---- some row of a table
 
@@ -77,7 +76,7 @@ module _ (t : List Row) (i j : ℕ) where
       q = and_both (eqb m.kind 12) (eqb m.parent (suc i)) k.0
 
       here : first_named (name_at t j) 0 t ≡ some j
-      here = is_row_lem j (first_named (name_at t j) 0 t) c
+      here = named_row_is j (first_named (name_at t j) 0 t) c
 
       go : (o : Option (List ℕ)) → m.tp ≡ o → typed (λ tp. bears tp (name_at t j)) o ≡ true → Uses t i j
       go none o e = clash e refl

@@ -1,5 +1,4 @@
 -- Laws of the search for a circle: marks, what they say of chains, and the first row on one.
--- Assumes nothing.
 use Prim.Native.Nat.{ℕ, zero, suc, ◌+◌, ◌≤◌, ◌<◌}
 use mathlib.Core.Path.{◌≡◌, refl, sym, ap, subst, ◌∙◌}
 use mathlib.Core.List.{List, [], ◌∷◌, ◌++◌}
@@ -16,6 +15,7 @@ use Rattle.std.specs.Prelude.{Option as Maybe, None, Some, MatchOption}
 use Rattle.slices.specs.Bytes.{if}
 use Rattle.utf8.proofs.Sequences.{below}
 use Rattle.document.specs.Elements.{among}
+use Rattle.document.proofs.Tests.{among_append}
 use Rattle.items.specs.Words.{rows_shown}
 use Rattle.items.specs.Content.{Row}
 use Rattle.order.specs.Relation.{Chain, one, more, FirstOnCircle}
@@ -27,9 +27,9 @@ use Rattle.order.specs.declared.chains.Mark.TheVariants.{Unreached, Reached, Fol
 use Rattle.order.proofs.Lists.{clash, same_some, case}
 use Rattle.order.proofs.Circles.{chain_listed}
 use Rattle.order.proofs.Tables.{used_listed}
-use Rattle.order.proofs.Lookups.{among_append, uses_targets}
-use Rattle.order.proofs.Finding.{shown_at_lem, shown_past, place_within, finds_cases}
-use Rattle.order.proofs.Waiting.{referred_targets, defined_at, defined_below, target_within, row_held, held_few}
+use Rattle.order.proofs.Lookups.{uses_targets}
+use Rattle.order.proofs.Finding.{shown_rows_from, shown_past, place_within, finds_cases}
+use Rattle.order.proofs.Waiting.{referred_targets, defined_at, defined_below, target_within, row_held, held_within}
 
 -- ---- marks
 
@@ -137,7 +137,7 @@ module _ {d x ws : List ℕ} {t₀ t : List Mark} {n i k : ℕ} (g : Reaching d 
   pub reaching_more : {u : List Mark} → k < n → ReachedIn d x ws n i k t u → Reaching d x ws n i t₀ u (k + 1)
   reaching_more {u} l p = record {
     rest = λ v q. g.rest v
-        (rw (shown_at_lem d x ws n k l)
+        (rw (shown_rows_from d x ws n k l)
         (reaching_step (rows_shown d x ws n) i (shown_at d x ws k) (drop (suc k) (rows_shown d x ws n)) t u v p.is (rw add-one at q)));
   }
 
@@ -270,9 +270,6 @@ module _ {d x ws : List ℕ} {t : List Mark} {n p : ℕ} (g : Searching d x ws n
 
       pub search_less : todo u < todo t
       search_less = search_falls (s.within k q) (s.some k q) f (omega (arith, search_place, g.long))
-
-pub held_within : {ws : List ℕ} {n : ℕ} → Held ws n → n ≤ 262144
-held_within h = h.few
 
 pub ruleset searching = (search_begins, search_met, search_unmet, search_more, search_less, search_place, search_row, held_within, rules)
 

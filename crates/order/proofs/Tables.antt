@@ -1,5 +1,4 @@
 -- The definition rows of a table ascend, and every row that is used is one.
--- Assumes nothing.
 use Prim.Native.Nat.{ℕ, suc, ◌≤◌}
 use mathlib.Core.Path.{◌≡◌, refl, sym}
 use mathlib.Core.List.{List, [], ◌∷◌}
@@ -10,9 +9,10 @@ use native.Mathlib.Omega.{arith}
 use lib.Dec.{eqb}
 use Rattle.slices.specs.Bytes.{if, same}
 use Rattle.document.specs.Elements.{among}
+use Rattle.document.proofs.Tests.{among_there}
 use Rattle.items.specs.Content.{Row, present}
 use Rattle.order.specs.Types.{member_in, defines, definitions_from, definitions, name_at, first_named, is_row, counts, bears, typed, any_row, uses}
-use Rattle.order.proofs.Lists.{clash, first_true, among_there, among_cases, Ascends}
+use Rattle.order.proofs.Lists.{clash, first_true, among_cases, Ascends}
 
 pub from_below : (i : ℕ) (t : List Row) (k : ℕ) → among k (definitions_from i t) ≡ true → i ≤ k
 from_below i [] k m = clash m refl

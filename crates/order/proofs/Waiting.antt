@@ -1,5 +1,4 @@
 -- Laws of rows that wait: which rows are left, which a member refers to, and the first that is ready.
--- Assumes nothing.
 use Prim.Native.Nat.{ℕ, zero, suc, ◌+◌, ◌*◌, ◌≤◌, ◌<◌}
 use mathlib.Core.Path.{◌≡◌, refl, sym, ap, ◌∙◌}
 use mathlib.Core.List.{List, [], ◌∷◌, ◌++◌}
@@ -16,18 +15,19 @@ use Rattle.std.specs.List.{AllWithin, HoldsAt, range_with_len}
 use Rattle.slices.specs.Bytes.{if}
 use Rattle.utf8.proofs.Sequences.{below}
 use Rattle.document.specs.Elements.{among}
+use Rattle.document.proofs.Tests.{among_there}
 use Rattle.items.specs.Words.{rows_shown}
 use Rattle.items.specs.Content.{Row}
 use Rattle.order.specs.Relation.{uses_any, ready}
 use Rattle.order.specs.Types.{member_in, defines, definitions_from, definitions, first_named, uses}
 use Rattle.order.specs.Lookup.{of_array, element, listed, referred, referred_by, targets_in, targets}
 use Rattle.order.specs.Steps.{Held, shown_at, Defines, Within, Finds, target, Target, unmarked, left_in, any_among, IsLeft, MemberWaits, WaitsIn, Waits, IsReady, First, NextReady}
-use Rattle.order.proofs.Lists.{clash, same_some, case, refuted, or_else, first_true, second_true, among_here, among_there, among_cases, each_below, some_below}
+use Rattle.order.proofs.Lists.{clash, same_some, case, refuted, or_else, first_true, second_true, among_here, among_cases, each_below, some_below}
 use Rattle.order.proofs.Taking.{uses_none}
 use Rattle.order.proofs.Tables.{from_below, named_listed}
 use Rattle.order.proofs.Lookups.{alike, row_is, uses_targets}
 use Rattle.order.proofs.Loop.{keep_among}
-use Rattle.order.proofs.Finding.{shown_at_lem, shown_past, place_within, finds_cases}
+use Rattle.order.proofs.Finding.{shown_rows_from, shown_past, place_within, finds_cases}
 
 -- ---- what a tp type refers to
 
@@ -74,7 +74,7 @@ defines_from i (suc k) (q ∷ t) r rs e =
 pub defined_at : (d x ws : List ℕ) (n i : ℕ) → i < n → among i (definitions (rows_shown d x ws n)) ≡ defines (shown_at d x ws i)
 defined_at d x ws n i h =
     rw zero-add at
-    (defines_from 0 i (rows_shown d x ws n) (shown_at d x ws i) (drop (suc i) (rows_shown d x ws n)) (shown_at_lem d x ws n i h))
+    (defines_from 0 i (rows_shown d x ws n) (shown_at d x ws i) (drop (suc i) (rows_shown d x ws n)) (shown_rows_from d x ws n i h))
 
 definitions_past : (i : ℕ) (t : List Row) (k : ℕ) → among k (definitions_from i t) ≡ true → k < i + length t
 definitions_past i [] k m = clash m refl
@@ -160,6 +160,9 @@ pub ruleset members = (target_within, member_whole, member_less, row_held, rules
 pub held_few : {ws : List ℕ} {n i : ℕ} → Held ws n → i < n → i ≤ 262144
 held_few h l = omega (arith, h.few)
 
+pub held_within : {ws : List ℕ} {n : ℕ} → Held ws n → n ≤ 262144
+held_within h = h.few
+
 -- ---- whether a row waits
 
 waiting_step : (t : List Row) (i : ℕ) (row : Row) (rest : List Row) (left : List ℕ) (b : Bool) → b ≡ if (member_in i row) (any_among (referred_by t row.tp) left) false → any_among (targets_in t i (row ∷ rest)) left ≡ if b true (any_among (targets_in t i rest) left)
@@ -177,7 +180,7 @@ module _ (d x ws : List ℕ) (marks : List Bool) (n i : ℕ) where
   waits_here : (k : ℕ) → k < n → (b : Bool) → WaitsIn d x ws n marks i k b → rest k ≡ if b true (rest (suc k))
   unfolding rest
   waits_here k l b a =
-      ap (λ (rs : List Row). any_among (targets_in (rows_shown d x ws n) i rs) (left_in (rows_shown d x ws n) marks)) (shown_at_lem d x ws n k l)
+      ap (λ (rs : List Row). any_among (targets_in (rows_shown d x ws n) i rs) (left_in (rows_shown d x ws n) marks)) (shown_rows_from d x ws n k l)
       ∙ waiting_step (rows_shown d x ws n) i (shown_at d x ws k) (drop (suc k) (rows_shown d x ws n)) (left_in (rows_shown d x ws n) marks) b a.is
 
   waits_some : (f j k : ℕ) → f + j ≡ k → k < n → WaitsIn d x ws n marks i k true → rest j ≡ true
@@ -220,8 +223,8 @@ uses_in uses i (j ∷ l) e =
     (λ u. let h = uses_in uses i l u in (h.0, h.1, among_there h.0 j l h.2))
 
 -- a row uses a row left exactly when one of its targets is left
-pub uses_any_lem : (t : List Row) (i : ℕ) (l : List ℕ) → uses_any (uses t) i l ≡ any_among (targets t i) l
-uses_any_lem t i l =
+pub any_target : (t : List Row) (i : ℕ) (l : List ℕ) → uses_any (uses t) i l ≡ any_among (targets t i) l
+any_target t i l =
     alike (uses_any (uses t) i l) (any_among (targets t i) l)
     (λ e. let h = uses_in (uses t) i l e in in_any (targets t i) l h.0 (sym (uses_targets t i h.0) ∙ h.1) h.2)
     (λ e. let h = any_in (targets t i) l e in
@@ -240,7 +243,7 @@ module _ {d x ws : List ℕ} {marks : List Bool} {n i : ℕ} {b : Bool} (l : i <
 
     pub ready_left : {r w : Bool} → r ≡ not (get_or marks i false) → r ≡ true → Waits d x ws n marks i w → IsReady d x ws n marks i (not w)
     ready_left q f w = record {
-      is = rw (left_is d x ws n marks i b l a, e, sym q ∙ f, uses_any_lem (rows_shown d x ws n) i (left_in (rows_shown d x ws n) marks), ← w.is);
+      is = rw (left_is d x ws n marks i b l a, e, sym q ∙ f, any_target (rows_shown d x ws n) i (left_in (rows_shown d x ws n) marks), ← w.is);
     }
 
 pub ruleset readiness = (ready_other, ready_given, ready_left, row_held, rules)

@@ -1,5 +1,4 @@
 -- Worked cases: tables, each with what ordering its definitions says.
--- Assumes nothing.
 use Rattle.std.specs.Prelude.{ℕ, suc, ◌≡◌, refl, List, [], ◌∷◌, ◌++◌, map, replicate}
 use Prim.Native.String as string
 use Rattle.std.proofs.Math.Option.{Option, none, some}

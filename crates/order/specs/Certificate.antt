@@ -1,5 +1,4 @@
 -- What the functions say that check a candidate for the order: numbers that fall along uses, a circle by edges, an order by places.
--- Assumes nothing.
 use Rattle.std.specs.Prelude.{ℕ, ◌+◌, ◌-◌, ◌/◌, ◌%◌, ◌≤◌, ◌<◌, ◌≡◌, List, Bool, true, eqb, length, get_or, Option, Some}
 use Rattle.slices.specs.Bytes.{if}
 use Rattle.tables.specs.Table.{Rep}

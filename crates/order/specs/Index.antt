@@ -1,6 +1,5 @@
 -- An index of type definitions by a hash of their names: for each bucket a word for its first row, for each definition a word for the next
 -- row of its bucket; and what the functions that make it and look names up in it say.
--- Assumes nothing.
 use Rattle.std.specs.Prelude.{ℕ, suc, ◌+◌, ◌*◌, ◌/◌, ◌%◌, ◌≤◌, ◌<◌, ◌≡◌, List, [], ◌∷◌, true, ◌&&◌, eqb, length, get_or, drop, Option as Maybe, None, Some}
 use Rattle.std.proofs.Math.Option.{Option, none, some}
 use Rattle.slices.specs.Bytes.{if}

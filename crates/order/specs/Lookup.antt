@@ -1,10 +1,8 @@
 -- Uses by looking names up, as code does: each member's tp type, and where it ends in `[]` what stands before that, is looked up
--- among the definitions; and a row waits for those of the rows found that are not given out.
--- Assumes nothing.
-use Rattle.std.specs.Prelude.{ℕ, suc, ◌-◌, List, [], ◌∷◌, ◌++◌, Bool, length, take, drop}
+-- among the definitions.
+use Rattle.std.specs.Prelude.{ℕ, ◌-◌, List, [], ◌∷◌, ◌++◌, Bool, length, take, drop}
 use Rattle.std.proofs.Math.Option.{Option, none, some}
 use Rattle.slices.specs.Bytes.{if, bytes, same}
-use Rattle.document.specs.Elements.{among}
 use Rattle.items.specs.Content.{Row}
 use Rattle.order.specs.Types.{member_in, first_named}
 
@@ -34,8 +32,3 @@ targets_in t i (m ∷ ms) = let r = targets_in t i ms in if (member_in i m) (ref
 
 unfoldable pub targets : List Row → ℕ → List ℕ
 targets t i = targets_in t i t
-
--- how many of the targets are left
-abbrev pub waits : List ℕ → List ℕ → ℕ
-waits [] left = 0
-waits (j ∷ js) left = let n = waits js left in if (among j left) (suc n) n

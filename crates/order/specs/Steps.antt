@@ -1,6 +1,5 @@
 -- What the functions that look names up and give rows out say.
--- Assumes nothing.
-use Rattle.std.specs.Prelude.{ℕ, ◌+◌, ◌*◌, ◌-◌, ◌≤◌, ◌<◌, ◌≡◌, List, [], ◌∷◌, Bool, true, false, not, ◌&&◌, length, get_or, set, drop, replicate, Result, Option as Maybe, Some, None}
+use Rattle.std.specs.Prelude.{ℕ, ◌+◌, ◌*◌, ◌-◌, ◌≤◌, ◌<◌, ◌≡◌, List, [], ◌∷◌, Bool, true, false, not, ◌&&◌, length, get_or, set, drop, Result, Option as Maybe, Some, None}
 use Rattle.std.proofs.Math.Option.{Option, none, some}
 use Rattle.slices.specs.Bytes.{if, same}
 use Rattle.tables.specs.Table.{Rep}
@@ -268,8 +267,3 @@ pub record OrdersSound (t : List Row) (room : ℕ) (out : List ℕ) (r : Result 
 -- for any table
 pub record Answers (d x ws : List ℕ) (n room : ℕ) (out : List ℕ) (r : Result Ordered Fault) : Type 0 where
   pub says : Says (ordering d x ws n room) room out r
-
--- what the entry answers and leaves; the words lent for work are zeros, and the answer does not depend on them
-pub record Orders (d x ws : List ℕ) (n room : ℕ) (work out work' : List ℕ) (r : Result Ordered Fault) : Type 0 where
-  pub says : Says (ordering d x ws n room) room out r
-  pub idle : work' ≡ replicate (length work) 0

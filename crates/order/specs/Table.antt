@@ -1,5 +1,4 @@
 -- A lent table, and what is said of its rows.
--- Assumes nothing.
 use Rattle.std.specs.Prelude.{ℕ, List}
 use Rattle.items.specs.Words.{rows_shown}
 use Rattle.items.specs.Content.{Row}

@@ -1,5 +1,4 @@
 -- What may follow the root: [1] document ::= prolog element Misc*, [27] Misc ::= Comment | PI | S.
--- Assumes nothing.
 use Rattle.std.specs.Prelude.{ℕ, zero, suc, ◌+◌, ◌-◌, ◌≤◌, ◌<◌, ◌≡◌, List, [], ◌∷◌, Bool, false, ◌||◌, eqb, ltb, length, take, drop, Result, Ok, Err}
 use Rattle.slices.specs.Bytes.{if, bytes, starts}
 use Rattle.scan.specs.Ignorable.{seek}

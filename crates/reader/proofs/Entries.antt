@@ -1,5 +1,4 @@
 -- The public entry: its verdict and the buffers that it leaves, on each of its ways.
--- Assumes nothing.
 use Prim.Native.Nat.{ℕ, ◌*◌, ◌/◌, ◌≤◌, ◌<◌}
 use mathlib.Core.Path.{◌≡◌, refl, sym, ◌∙◌}
 use mathlib.Core.List.{List}
@@ -33,13 +32,13 @@ use Rattle.reader.specs.Entry.{Ended, Refuses, HasRoom, Accepts}
 pub refuses : {x : Refusal} {r r' w w' t t' : List ℕ} → Wiped 0 r r' → Wiped 0 w w' → Wiped 0 t t' → Refuses x r r' w w' t t' (Err x)
 refuses {r = r} {w = w} {t = t} a b c = record {
   verdict = refl;
-  rows_left = a.is ∙ clear_all r;
-  warnings_left_lem = b.is ∙ clear_all w;
-  text_left_lem = c.is ∙ clear_all t;
+  of_rows = a.is ∙ clear_all r;
+  of_warnings = b.is ∙ clear_all w;
+  of_text = c.is ∙ clear_all t;
 }
 
 pub accepts : {f : Fill} {r r' w w' t t' : List ℕ} → Wiped (f.rows * 16) r r' → Wiped (f.warnings * 4) w w' → Wiped f.text t t' → Accepts f r r' w w' t t' (Ok (counts f.rows f.text f.warnings))
-accepts a b c = record { verdict = refl; rows_left = a.is; warnings_left_lem = b.is; text_left_lem = c.is }
+accepts a b c = record { verdict = refl; of_rows = a.is; of_warnings = b.is; of_text = c.is }
 
 pub ruleset clearing = (refuses, accepts, rules)
 
@@ -101,7 +100,7 @@ done {doc} {r} {w} {t} {a} {f} x e =
 
 -- a refusal
 turned : {doc : List ℕ} {x : Refusal} {r r' w w' t t' : List ℕ} {v : Verdict} → read doc (room_of r w t) ≡ refused x → Refuses x r r' w w' t t' v → Says doc (room_of r w t) r' w' t' v
-turned e z = record { verdict = rw e z.verdict; rows_left = rw e z.rows_left; warnings_left_lem = rw e z.warnings_left_lem; text_left_lem = rw e z.text_left_lem }
+turned e z = record { verdict = rw e z.verdict; of_rows = rw e z.of_rows; of_warnings = rw e z.of_warnings; of_text = rw e z.of_text }
 
 module _ {doc : List ℕ} {r r' w w' t t' : List ℕ} {v : Verdict} where
   pub too_long : {y : Refusal} → 1048576 < length doc → y ≡ bare 2 1048576 → Refuses y r r' w w' t t' v → Says doc (room_of r w t) r' w' t' v
@@ -133,9 +132,9 @@ module _ {doc : List ℕ} {r r' w w' t t' : List ℕ} {v : Verdict} where
           let q : read doc (room_of r w t) ≡ accepted d.0 = rw (d.2, d.1.many, many_warnings d.1, text_counted d.1, c) in
           record {
             verdict = rw q (z.verdict ∙ rw (d.1.many, many_warnings d.1, text_counted d.1));
-            rows_left = rw q (z.rows_left ∙ tail 16 f.rows r (words_from 0 d.0.rows) (omega arith) d.1.rows (rows_fit 16 f.rows (length r) (omega arith) (ltb-false (length r / 16) f.rows n.0)));
-            warnings_left_lem = rw q (z.warnings_left_lem ∙ tail 4 f.warnings w (warned d.0.warnings) (omega arith) d.1.warnings (rows_fit 4 f.warnings (length w) (omega arith) (ltb-false (length w / 4) f.warnings n.1)));
-            text_left_lem = rw q (z.text_left_lem ∙ one_tail f.text t (texts d.0.rows) d.1.text (ltb-false (length t) f.text n.2));
+            of_rows = rw q (z.of_rows ∙ tail 16 f.rows r (words_from 0 d.0.rows) (omega arith) d.1.rows (rows_fit 16 f.rows (length r) (omega arith) (ltb-false (length r / 16) f.rows n.0)));
+            of_warnings = rw q (z.of_warnings ∙ tail 4 f.warnings w (warned d.0.warnings) (omega arith) d.1.warnings (rows_fit 4 f.warnings (length w) (omega arith) (ltb-false (length w / 4) f.warnings n.1)));
+            of_text = rw q (z.of_text ∙ one_tail f.text t (texts d.0.rows) d.1.text (ltb-false (length t) f.text n.2));
           }
 
 -- the used part lies in the buffers
@@ -158,7 +157,3 @@ pub ended : {doc r w t : List ℕ} {a : Result Fill Refusal} → Sound doc → R
 ended s h = record { sound = s; ends = h.ends }
 
 pub ruleset entry = (too_long, not_utf8, is_sound, ended, keeping, rules)
-
--- the buffers had the same room all along
-pub carried : {doc rows warnings text : List ℕ} {v : Verdict} {r w t r' w' t' : ℕ} → Says doc (record { rows = r; warnings = w; text = t }) rows warnings text v → r ≡ r' → w ≡ w' → t ≡ t' → Says doc (record { rows = r'; warnings = w'; text = t' }) rows warnings text v
-carried s a b c = rw (← a, ← b, ← c) s

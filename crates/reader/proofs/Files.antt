@@ -1,5 +1,4 @@
 -- Reading a file, by what decoding it answers.
--- Assumes nothing.
 use Prim.Native.Nat.{ℕ, ◌≤◌}
 use mathlib.Core.Path.{◌≡◌, sym, ◌∙◌}
 use mathlib.Core.List.{List}
@@ -34,7 +33,7 @@ module _ {raw decoded : List ℕ} {room : ℕ} {a : Result (Option ℕ) Fault} w
   pub reads_faulty : {f : Fault} {y : Refusal} {b b' w w' t t' : List ℕ} {v : Verdict} → Refuses y b b' w w' t t' v → y ≡ bare f.number f.place → decoded ≡ left raw room → a ≡ answer raw room → a ≡ Err f → Reads raw (room_of b w t) room b' w' t' decoded (record { verdict = v; decoded = 0 })
   reads_faulty {f} z q l e g =
       let h : answer raw room ≡ Err f = sym e ∙ g in
-      reads_refused l (sym (none_refused raw room h)) f.number f.place (document_refused raw room h) (rw q at z.verdict) z.rows_left z.warnings_left_lem z.text_left_lem
+      reads_refused l (sym (none_refused raw room h)) f.number f.place (document_refused raw room h) (rw q at z.verdict) z.of_rows z.of_warnings z.of_text
 
 -- the decoded text lies in the buffer
 pub decoded_inside : (raw : List ℕ) (room : ℕ) {decoded : List ℕ} {a : Result (Option ℕ) Fault} {n : ℕ} → decoded ≡ left raw room → a ≡ answer raw room → a ≡ Ok (Some n) → n ≤ length decoded

@@ -1,5 +1,4 @@
 -- The laws of the node loop and of the entries.
--- Assumes nothing.
 pub mod Frames
 pub mod Opened
 pub mod Turning

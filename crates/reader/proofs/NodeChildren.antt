@@ -1,5 +1,4 @@
 -- A child of a node that is no node itself.
--- Assumes nothing.
 use borrow.Author.Rules.{rules}
 use Rattle.document.specs.Kinds.{in_node}
 use Rattle.document.proofs.Readers.{keeping}

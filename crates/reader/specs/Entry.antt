@@ -1,5 +1,4 @@
 -- What the steps of the public entry say.
--- Assumes nothing.
 use Rattle.std.specs.Prelude.{ℕ, ◌*◌, ◌/◌, ◌≡◌, List, Bool, not, ◌||◌, ltb, length, replicate, Result, Ok, Err}
 use Rattle.tables.specs.Table.{cleared}
 use Rattle.document.specs.Reading.{begun}
@@ -17,9 +16,9 @@ pub record Ended (doc rows warnings text : List ℕ) (a : Result Fill Refusal) :
 -- what a refusal says: zeros in every buffer
 pub record Refuses (x : Refusal) (rows rows' warnings warnings' text text' : List ℕ) (v : Verdict) : Type 0 where
   pub verdict : v ≡ Err x
-  pub rows_left : rows' ≡ replicate (length rows) 0
-  pub warnings_left_lem : warnings' ≡ replicate (length warnings) 0
-  pub text_left_lem : text' ≡ replicate (length text) 0
+  pub of_rows : rows' ≡ replicate (length rows) 0
+  pub of_warnings : warnings' ≡ replicate (length warnings) 0
+  pub of_text : text' ≡ replicate (length text) 0
 
 -- the counts have room
 abbrev pub has_room : ℕ → ℕ → ℕ → Fill → Bool
@@ -31,6 +30,6 @@ pub record HasRoom (r w t : ℕ) (f : Fill) (b : Bool) : Type 0 where
 -- what an acceptance says: zeros past the used part
 pub record Accepts (f : Fill) (rows rows' warnings warnings' text text' : List ℕ) (v : Verdict) : Type 0 where
   pub verdict : v ≡ Ok (counts f.rows f.text f.warnings)
-  pub rows_left : rows' ≡ cleared (f.rows * 16) rows
-  pub warnings_left_lem : warnings' ≡ cleared (f.warnings * 4) warnings
-  pub text_left_lem : text' ≡ cleared f.text text
+  pub of_rows : rows' ≡ cleared (f.rows * 16) rows
+  pub of_warnings : warnings' ≡ cleared (f.warnings * 4) warnings
+  pub of_text : text' ≡ cleared f.text text

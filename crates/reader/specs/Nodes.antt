@@ -1,5 +1,4 @@
 -- The node loop: which nodes are open, and what a turn of the loop says.
--- Assumes nothing.
 use Rattle.std.specs.Prelude.{ℕ, zero, suc, ◌+◌, ◌-◌, ◌≤◌, ◌<◌, ◌≡◌, List, [], ◌∷◌, true, eqb, length, get_or, Result, Ok, Err}
 use Rattle.slices.specs.Bytes.{if}
 use Rattle.document.specs.Kinds as kinds

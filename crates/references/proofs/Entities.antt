@@ -1,5 +1,4 @@
 -- What stands between `&` and `;`.
--- Assumes nothing.
 use Prim.Native.Nat.{ℕ, ◌≤◌, ◌<◌}
 use Prim.Native.String as string
 use mathlib.Core.Path.{◌≡◌, refl, ap, ◌∙◌}
@@ -9,38 +8,15 @@ use borrow.Author.Rules.{rules}
 use borrow.Author.Tests.{ne_eqb}
 use native.Mathlib.Omega.{arith}
 use lib.Dec.{eqb}
-use lib.ListN.{length, drop, get_or, drop_of_length-le}
-use lib.Seq.{drop-cons}
+use lib.ListN.{length, drop, get_or}
 use Rattle.std.proofs.Common.{Ok, Err}
 use Rattle.std.proofs.lemmas.Slice.Eq.{text_from_reads}
 use Rattle.slices.specs.Bytes.{if, bytes, all, empty, same}
 use Rattle.slices.proofs.Runs.{same_equal, Differs, differing}
 use Rattle.references.specs.Characters.{xml_char}
 use Rattle.references.specs.Unescape.{Reference, character, fault, decimal_digit, hex_digit, number, of_code, of_digits, of_number, char_reference, reference}
-use Rattle.references.specs.Digits.{digit_in, Base}
 use Rattle.references.specs.Outcome.{reference_of}
 use Rattle.references.proofs.Numbers.{char_small}
-
-pub sixteen : Base 16
-sixteen = record { least = omega arith; most = omega arith }
-
-pub ten : Base 10
-ten = record { least = omega arith; most = omega arith }
-
--- after `&#`
-module _ (s : List ℕ) where
-  pub code_none : length s ≤ 1 → reference_of (Err 11) ≡ of_number (drop 1 s)
-  code_none h = rw (drop_of_length-le s h)
-
-  module _ (h : 1 < length s) {x : Reference} where
-    pub code_small_x : get_or s 1 0 ≡ 120 → x ≡ of_digits 16 (digit_in 16) (drop 2 s) → x ≡ of_number (drop 1 s)
-    code_small_x e f = f ∙ rw (drop-cons s 1 0 h, e)
-
-    pub code_large_x : get_or s 1 0 ≡ 88 → x ≡ of_digits 16 (digit_in 16) (drop 2 s) → x ≡ of_number (drop 1 s)
-    code_large_x e f = f ∙ rw (drop-cons s 1 0 h, e)
-
-    pub code_decimal : (get_or s 1 0 ≡ 120 → ⊥) → (get_or s 1 0 ≡ 88 → ⊥) → x ≡ of_digits 10 (digit_in 10) (drop 1 s) → x ≡ of_number (drop 1 s)
-    code_decimal e g f = f ∙ rw (drop-cons s 1 0 h, ne_eqb (get_or s 1 0) 120 e, ne_eqb (get_or s 1 0) 88 g)
 
 -- a `#` begins no name of an entity
 pub names_number : (s : List ℕ) {x : Reference} → 0 < length s → get_or s 0 0 ≡ 35 → x ≡ of_number (drop 1 s) → x ≡ reference s

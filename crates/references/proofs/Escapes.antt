@@ -1,5 +1,4 @@
 -- Escaping: byte by byte, its lengths, and the loop that puts it.
--- Assumes nothing.
 use Prim.Native.Nat.{ℕ, ◌+◌, ◌*◌, ◌≤◌, ◌<◌}
 use mathlib.Core.Path.{◌≡◌, refl, sym, ◌∙◌}
 use mathlib.Core.List.{List, [], ◌∷◌, append-nil, append_assoc}

@@ -1,5 +1,4 @@
 -- The laws on attribute values.
--- Assumes nothing.
 pub mod Numbers
 pub mod Entities
 pub mod Pieces

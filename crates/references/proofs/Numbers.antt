@@ -1,5 +1,4 @@
 -- Digits, the number that they write, and the characters that have a number.
--- Assumes nothing.
 use Prim.Native.Nat.{ℕ, suc, ◌+◌, ◌-◌, ◌*◌, ◌≤◌, ◌<◌}
 use mathlib.Core.Path.{◌≡◌, refl, sym, ◌∙◌}
 use mathlib.Core.List.{List, [], ◌∷◌}
@@ -76,22 +75,10 @@ char_small c h = let n : 1114112 ≤ c → ⊥ = λ l. never (xml_char c) (no_ch
 -- ---- digits
 
 module _ (b : ℕ) where
-  pub decimal_below : b < 48 → false ≡ decimal_digit b
-  decimal_below h = rw (lt-leb 48 b h)
-
   pub decimal_above : 48 ≤ b → leb b 57 ≡ decimal_digit b
   decimal_above h = rw (le-leb 48 b h)
 
   module _ {t : Bool} (e : t ≡ decimal_digit b) (f : t ≡ false) where
-    pub hex_below : b < 65 → false ≡ hex_digit b
-    hex_below h = rw (sym e ∙ f, lt-leb 65 b h, lt-leb 97 b (omega arith))
-
-    pub hex_upper : 65 ≤ b → b ≤ 70 → true ≡ hex_digit b
-    hex_upper h l = rw (sym e ∙ f, le-leb 65 b h, le-leb b 70 l)
-
-    pub hex_between : 70 < b → b < 97 → false ≡ hex_digit b
-    hex_between h l = rw (sym e ∙ f, le-leb 65 b (omega arith), lt-leb b 70 h, lt-leb 97 b l)
-
     pub hex_lower : 70 < b → 97 ≤ b → leb b 102 ≡ hex_digit b
     hex_lower h l = rw (sym e ∙ f, le-leb 65 b (omega arith), lt-leb b 70 h, le-leb 97 b l)
 
@@ -107,27 +94,9 @@ module _ (b : ℕ) where
     no_digit : false ≡ hex_digit b → ⊥
     no_digit e = never (hex_digit b) (sym e) h
 
-    pub value_least : 48 ≤ b
-    value_least =
-        let n : b < 48 → ⊥ = λ l. no_digit (hex_below (decimal_below l) refl (omega arith)) in
-        omega arith
-
-    pub value_decimal : b ≤ 57 → b - 48 ≡ digit_value b
-    value_decimal l = rw (le-leb b 57 l)
-
     module _ (k : 57 < b) where
       no_decimal : false ≡ decimal_digit b
       no_decimal = sym (lt-leb b 57 k) ∙ decimal_above (omega arith)
-
-      pub value_upper : b ≤ 70 → b - 55 ≡ digit_value b
-      value_upper l = rw (lt-leb b 57 k, le-leb b 70 l)
-
-    module _ (k : 70 < b) where
-      pub value_lower_least : 87 ≤ b
-      value_lower_least = let n : b < 97 → ⊥ = λ l. no_digit (hex_between (no_decimal (omega arith)) refl k l) in omega arith
-
-      pub value_lower : b - 87 ≡ digit_value b
-      value_lower = rw (lt-leb b 57 (omega arith), lt-leb b 70 k)
 
     most_digit : b ≤ 102
     most_digit =

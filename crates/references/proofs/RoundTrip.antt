@@ -1,5 +1,4 @@
 -- Escaping is undone by unescaping, and leaves neither `"` nor `<`; and so at the entries.
--- Assumes nothing.
 use Prim.Native.Nat.{ℕ, ◌≤◌}
 use mathlib.Core.Path.{◌≡◌, refl, ap, ◌∙◌}
 use mathlib.Core.List.{List, [], ◌∷◌, ◌++◌}

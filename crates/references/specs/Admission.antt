@@ -1,5 +1,4 @@
 -- What the steps of the entries say: whether a value is admitted.
--- Assumes nothing.
 use Rattle.std.specs.Prelude.{ℕ, ◌≤◌, ◌≡◌, List, length, Result, Ok, Err}
 use Rattle.answers.specs.Text.{Text, text, wrong}
 use Rattle.references.specs.Unescape.{unescape}

@@ -1,5 +1,4 @@
 -- Worked values: those of docs/FORMAT.md and of XML 1.0, section 3.3.3, each with what it shows.
--- Assumes nothing.
 use Rattle.std.specs.Prelude.{ℕ, ◌≡◌, refl, List, [], ◌∷◌, map}
 use Rattle.slices.specs.Bytes.{bytes}
 use Rattle.utf8.specs.Encoding.{utf8}

@@ -1,5 +1,4 @@
 -- Digits by their base.
--- Assumes nothing.
 use Rattle.std.specs.Prelude.{ℕ, ◌≤◌, Bool, eqb}
 use Rattle.slices.specs.Bytes.{if}
 use Rattle.references.specs.Unescape.{decimal_digit, hex_digit}

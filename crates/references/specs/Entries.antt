@@ -1,5 +1,4 @@
 -- What the entries `escape` and `unescape` come to, for the room lent.
--- Assumes nothing.
 use Rattle.std.specs.Prelude.{ℕ, List, ltb, length}
 use Rattle.slices.specs.Bytes.{if}
 use Rattle.utf8.specs.WellFormed.{ill_formed}

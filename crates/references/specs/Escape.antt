@@ -1,5 +1,4 @@
 -- Escaping: the five entities of XML 1.0, section 4.6, and references to tab, LF and CR, which section 3.3.3 would normalise.
--- Assumes nothing.
 use Rattle.std.specs.Prelude.{ℕ, List, [], ◌∷◌, ◌++◌, eqb}
 use Rattle.slices.specs.Bytes.{if, bytes}
 

@@ -1,5 +1,4 @@
 -- Theorems on a value in two pieces: the joined pieces' escape is the joined escapes, and they show what the pieces show, joined.
--- Assumes nothing.
 use Rattle.std.specs.Prelude.{ℕ, ◌+◌, ◌-◌, ◌≤◌, ◌≡◌, List, [], ◌∷◌, ◌++◌, Bool, false, ◌&&◌, eqb, length, take, replicate, Result, Ok, Err}
 use Rattle.utf8.specs.WellFormed.{ill_formed}
 use Rattle.answers.specs.Text.{Text, text, wrong, Says}

@@ -1,5 +1,4 @@
 -- Attribute values: escaping, what a raw value shows, and the two entries.
--- Assumes nothing.
 pub mod Characters
 pub mod Escape
 pub mod Unescape

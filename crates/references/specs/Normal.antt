@@ -1,6 +1,5 @@
 -- Attribute values in the words of XML 1.0: 2.11 over the whole value, then 3.3.3 over what comes out; and the theorem that
 -- unescaping is this. References are as docs/FORMAT.md takes them.
--- Assumes nothing.
 use Rattle.std.specs.Prelude.{ℕ, zero, suc, ◌≡◌, List, [], ◌∷◌, ◌++◌, Bool, false, ◌||◌, eqb, length}
 use Rattle.slices.specs.Bytes.{if, bytes, other, span, past, empty, same}
 use Rattle.answers.specs.Text.{Text, text, wrong}

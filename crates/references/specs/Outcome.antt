@@ -1,5 +1,4 @@
 -- What the functions on values say.
--- Assumes nothing.
 use Rattle.std.specs.Prelude.{ℕ, suc, ◌+◌, ◌-◌, ◌≤◌, ◌<◌, ◌≡◌, List, [], ◌∷◌, length, drop, get_or, Result, Ok, Err}
 use Rattle.answers.specs.Puts.{Puts}
 use Rattle.utf8.specs.Encoding.{utf8}

@@ -1,5 +1,4 @@
 -- Theorems on escaping: unescaping gives the text back, of the definitions and at the entries.
--- Assumes nothing.
 use Rattle.std.specs.Prelude.{ℕ, ◌-◌, ◌≤◌, ◌≡◌, List, ◌++◌, true, length, take, replicate, Result, Ok}
 use Rattle.slices.specs.Bytes.{other, all}
 use Rattle.utf8.specs.WellFormed.{ill_formed}

@@ -1,6 +1,5 @@
 -- What a raw attribute value shows: XML 1.0, sections 2.11 (line ends), 3.3.3 (normalisation) and 4.1 (references), with
 -- references as docs/FORMAT.md takes them: `#X` as `#x`, any number of leading zeros, five entities and no others.
--- Assumes nothing.
 use Rattle.std.specs.Prelude.{ℕ, zero, suc, ◌+◌, ◌-◌, ◌*◌, List, [], ◌∷◌, ◌++◌, Bool, not, ◌&&◌, ◌||◌, eqb, leb, length}
 use Rattle.slices.specs.Bytes.{if, bytes, other, span, past, all, empty, same}
 use Rattle.utf8.specs.Encoding.{utf8}

@@ -1,5 +1,4 @@
 -- Every refusal and every warning of the reader has a message.
--- Assumes nothing.
 pub mod Telling
 pub mod Standing
 pub mod States

@@ -1,5 +1,4 @@
 -- What the tokens of a document that is UTF-8 show stands in it: names, references and raw values.
--- Assumes nothing.
 use Prim.Native.Nat.{ℕ, suc, ◌+◌, ◌-◌, ◌<◌}
 use mathlib.Core.Path.{◌≡◌, sym, ◌∙◌}
 use mathlib.Core.List.{List}

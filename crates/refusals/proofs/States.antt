@@ -1,6 +1,5 @@
 -- Every step keeps: the names of open elements stand in the document, the warnings so far have known reasons and names that stand
 -- there, and a refusal shows what stands there.
--- Assumes nothing.
 use Prim.Native.Nat.{ℕ, suc}
 use mathlib.Core.Path.{◌≡◌, refl}
 use mathlib.Core.List.{List, [], ◌∷◌, ◌++◌}
@@ -41,16 +40,16 @@ of_tag = 0 ∷ 2 ∷ 3 ∷ 4 ∷ []
 abbrev In : List ℕ → ℕ → Type 0
 In xs n = among n xs ≡ true
 
-type_reason_lem : (o : Option Shown) → In of_tag (type_reason o)
-type_reason_lem none = refl
-type_reason_lem (some s) = either (In of_tag) (some_signature s.value) (λ t. refl) (λ t. refl)
+reason_of_type : (o : Option Shown) → In of_tag (type_reason o)
+reason_of_type none = refl
+reason_of_type (some s) = either (In of_tag) (some_signature s.value) (λ t. refl) (λ t. refl)
 
-tag_reason_lem : (k : ℕ) (n ty : Option Shown) → In of_tag (tag_reason k n ty)
-tag_reason_lem k none ty = refl
-tag_reason_lem k (some n) ty = either (In of_tag) (among k typed) (λ t. type_reason_lem ty) (λ t. refl)
+reason_of_tag : (k : ℕ) (n ty : Option Shown) → In of_tag (tag_reason k n ty)
+reason_of_tag k none ty = refl
+reason_of_tag k (some n) ty = either (In of_tag) (among k typed) (λ t. reason_of_type ty) (λ t. refl)
 
-parts_reason_lem : (k : ℕ) (p : Parts) → In or_none (parts_reason k p)
-parts_reason_lem k p =
+reason_of_parts : (k : ℕ) (p : Parts) → In or_none (parts_reason k p)
+reason_of_parts k p =
     either (In or_none) p.broken
     (λ t. either (In or_none) (eqb k 9) (λ t. refl) (λ t. refl))
     (λ t. either (In or_none) (eqb k 11)
@@ -61,7 +60,7 @@ parts_reason_lem k p =
 
 dropped_reason : (d : Definition) → In of_tag d.reason → eqb (reason_of d) 0 ≡ false → In reasons (reason_of d)
 dropped_reason d h e =
-    let i : In or_none (reason_of d) = either (In or_none) (eqb d.reason 0) (λ t. parts_reason_lem d.kind d.parts) (λ t. among_all (λ m. among m or_none) d.reason of_tag refl h) in
+    let i : In or_none (reason_of d) = either (In or_none) (eqb d.reason 0) (λ t. reason_of_parts d.kind d.parts) (λ t. among_all (λ m. among m or_none) d.reason of_tag refl h) in
     rw e at i
 
 -- ---- states
@@ -128,7 +127,7 @@ module _ (doc : List ℕ) where
 
   frame_stands : (k : ℕ) (t : Tag) (i : ℕ) → Stands doc (name_shown (tag_name t)) → FrameStands (frame_of k t i)
   frame_stands k t i s =
-      either FrameStands (among k definitions) (λ c. (refl, s, tag_reason_lem k (attr (bytes "name") t) (attr (bytes "type") t))) (λ c. s)
+      either FrameStands (among k definitions) (λ c. (refl, s, reason_of_tag k (attr (bytes "name") t) (attr (bytes "type") t))) (λ c. s)
 
   entered_stand : (k : ℕ) (t : Tag) (i : ℕ) (fs : List Frame) → Stands doc (name_shown (tag_name t)) → Framed fs → Framed (frame_of k t i ∷ noted k t fs)
   entered_stand k t i fs s h = (frame_stands k t i s, either Framed (among k parts) (λ c. noted_in_stand k t fs h) (λ c. h))
@@ -173,21 +172,21 @@ module _ (doc : List ℕ) where
         λ u h. warnings_more u.warnings _ h (record { reason = refl; name = s }) in
         record {
           closes = closes;
-          moves = λ fs u h. h;
-          row = λ k r fs u c b n e h. (entered_stand k t (length u.rows) fs s h.0, h.1);
+          moves = λ f fs u c h. h;
+          row = λ k r fs u c b n e d h. (entered_stand k t (length u.rows) fs s h.0, h.1);
           own_row = λ k r fs u c b n e h. (entered_stand k t (length u.rows) fs s h.0, h.1);
           refusal = λ k p x e. rw e at (start_shows t g k p);
           deep = nothing_shown refl;
-          warning = λ fs u c h. (h.0, warned u h.1);
-          skips = λ fs u h. (((s, tt), h.0), warned u h.1);
-          docstring = λ f fs u d h. (((s, tt), h.0), h.1);
-          within = λ p ns fs u h. (((s, h.0.0), h.0.1), h.1);
+          warning = λ f fs u c h. (h.0, warned u h.1);
+          skips = λ f fs u c r h. (((s, tt), h.0), warned u h.1);
+          docstring = λ f fs u c d h. (((s, tt), h.0), h.1);
+          within = λ p ns fs u c d h. (((s, h.0.0), h.0.1), h.1);
         }
     ways (close lt n q) g = record {
       closes = closes;
-      passed = λ p ns fs u h. (h.0.1, h.1);
-      docstring = λ s r ns fs u h. (h.0.1, h.1);
-      within = λ p n ns fs u h. ((h.0.0.1, h.0.1), h.1);
+      passed = λ p ns fs u l h. (h.0.1, h.1);
+      docstring = λ s r ns fs u l e h. (h.0.1, h.1);
+      within = λ p n ns fs u l e h. ((h.0.0.1, h.0.1), h.1);
       another = λ f fs u h. two_shown refl (name_stands doc utf8 (suc (suc lt)) n g.after g.named) (innermost_stands f h.0.0);
       none = nothing_shown refl;
     }
@@ -195,4 +194,4 @@ module _ (doc : List ℕ) where
     ways (end p) g = (nothing_shown refl, λ f fs u h. one_shown refl (innermost_stands f h.0.0))
 
     pub run_shows : Kept held (run whole doc 0 begun)
-    run_shows = run_kept doc held ways (λ h. (tt, tt)) (λ u h. h.1) tt
+    run_shows = run_kept doc held ways (λ h. (tt, tt)) tt

@@ -1,5 +1,4 @@
 -- Every refusal and every warning of the reader has a message.
--- Assumes nothing.
 use Prim.Native.Nat.{ℕ, zero, suc, ◌+◌, ◌-◌, ◌*◌, ◌/◌, ◌<◌}
 use mathlib.Core.Path.{◌≡◌, refl, ap}
 use mathlib.Core.List.{List, [], ◌∷◌, ◌++◌}
@@ -84,7 +83,7 @@ refusals_told doc rows warnings text room x s = go (read doc room) s.verdict (re
     go (refused y) e h b = let q : x ≡ y = cc in rw q (refusal_told doc y h)
 
 pub warnings_told : WarningsTold
-warnings_told doc rows warnings text room n t w s = go (read doc room) s.verdict s.warnings_left_lem (read_shows doc room)
+warnings_told doc rows warnings text room n t w s = go (read doc room) s.verdict s.of_warnings (read_shows doc room)
   where
     go : (r : State Shown) → Ok (counts n t w) ≡ verdict_of r → warnings ≡ warnings_left room r → Shows doc r → (i : ℕ) → i < w → (out : ℕ) → warning_message_of doc (warning_word warnings i 0) (warning_word warnings i 2) (warning_word warnings i 3) out ≡ wrong 19 0 → ⊥
     go begun e f h i l = let z : ◌≡◌ {A = ℕ} 0 1 = cc in absurd (omega arith)

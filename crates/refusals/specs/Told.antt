@@ -1,6 +1,5 @@
 -- A refusal of reading and a warning of its tables, as they are told to `messages::message` and `warning_message`; and the theorem that
 -- each of them has a message: with its document it is never answered by 19.
--- Assumes nothing.
 use Rattle.std.specs.Prelude.{ℕ, ◌+◌, ◌*◌, ◌<◌, ◌≡◌, List, Bool, ltb, get_or, Ok, Err}
 use Rattle.slices.specs.Bytes.{if}
 use Rattle.answers.specs.Text.{wrong}
@@ -51,15 +50,15 @@ WarningsTold =
 
 abbrev pub FileRefusalsTold : Type 0
 FileRefusalsTold =
-    (raw rows warnings text decoded : List ℕ) (room : Room) (decodedRoom : ℕ) (r : Reading) (x : Refusal) →
-    Reads raw room decodedRoom rows warnings text decoded r →
+    (raw rows warnings text decoded : List ℕ) (room : Room) (decoding_room : ℕ) (r : Reading) (x : Refusal) →
+    Reads raw room decoding_room rows warnings text decoded r →
     r.verdict ≡ Err x →
     (out : ℕ) → message_of (document_left raw decoded r.decoded) (told_of x) out ≡ wrong 19 0 → ⊥
 
 abbrev pub FileWarningsTold : Type 0
 FileWarningsTold =
-    (raw rows warnings text decoded : List ℕ) (room : Room) (decodedRoom : ℕ) (r : Reading) (n t w : ℕ) →
-    Reads raw room decodedRoom rows warnings text decoded r →
+    (raw rows warnings text decoded : List ℕ) (room : Room) (decoding_room : ℕ) (r : Reading) (n t w : ℕ) →
+    Reads raw room decoding_room rows warnings text decoded r →
     r.verdict ≡ Ok (counts n t w) →
     (i : ℕ) →
     i < w →

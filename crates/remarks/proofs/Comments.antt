@@ -1,13 +1,11 @@
 -- The comments on the way to all tokens of a document, also after the root and after the first fault, by the same recursion as the
 -- tokens: those that reading meets are among them.
--- Assumes nothing.
 use Prim.Native.Nat.{ℕ, zero, suc, ◌+◌, ◌-◌, ◌≤◌, ◌<◌}
 use mathlib.Core.Path.{◌≡◌, refl, sym, ◌∙◌}
 use mathlib.Core.List.{List, [], ◌∷◌, ◌++◌}
 use mathlib.Core.Bool.{Bool, true, false}
 use native.Mathlib.Nat.{add-zero}
 use native.Mathlib.Omega.{arith}
-use lib.Dec.{eqb}
 use lib.ListN.{length, drop}
 use Rattle.slices.specs.Bytes.{if}
 use Rattle.document.specs.Tags.{Shown}
@@ -15,7 +13,7 @@ use Rattle.document.specs.Elements.{among}
 use Rattle.document.specs.Tokens.{Token, start, close, fault, end, Next, more, last, next, joined, tokens_from, tokens}
 use Rattle.document.specs.Reading.{State, begun, step}
 use Rattle.document.specs.Outcome.{whole}
-use Rattle.document.proofs.Tests.{never}
+use Rattle.document.proofs.Tests.{never, among_append}
 use Rattle.document.proofs.Nexts.{Onward, Reaches, next_reaches}
 use Rattle.document.proofs.Places.{next-left}
 use Rattle.met.specs.Passed.{passed_from, passed_over}
@@ -36,19 +34,11 @@ comments doc = comments_from 0 doc 0
 
 -- ---- one among two lists
 
-pub apart : (c : ℕ) (xs ys : List ℕ) → among c (xs ++ ys) ≡ if (among c xs) true (among c ys)
-apart c [] ys = refl
-apart c (x ∷ xs) ys = go (eqb c x) (apart c xs ys)
-  where
-    go : (t : Bool) → among c (xs ++ ys) ≡ if (among c xs) true (among c ys) → if t true (among c (xs ++ ys)) ≡ if (if t true (among c xs)) true (among c ys)
-    go true i = refl
-    go false i = i
-
 pub among_first : (c : ℕ) (xs ys : List ℕ) → among c xs ≡ true → among c (xs ++ ys) ≡ true
-among_first c xs ys e = apart c xs ys ∙ rw e
+among_first c xs ys e = among_append c xs ys ∙ rw e
 
 pub among_second : (c : ℕ) (xs ys : List ℕ) → among c ys ≡ true → among c (xs ++ ys) ≡ true
-among_second c xs ys e = apart c xs ys ∙ go (among c xs)
+among_second c xs ys e = among_append c xs ys ∙ go (among c xs)
   where
     go : (t : Bool) → if t true (among c ys) ≡ true
     go true = refl
@@ -56,7 +46,7 @@ among_second c xs ys e = apart c xs ys ∙ go (among c xs)
 
 -- in the first, or in the second
 pub among_either : {P : Type 0} (c : ℕ) (xs ys : List ℕ) → among c (xs ++ ys) ≡ true → (among c xs ≡ true → P) → (among c ys ≡ true → P) → P
-among_either {P} c xs ys e f g = go (among c xs) refl (sym (apart c xs ys) ∙ e)
+among_either {P} c xs ys e f g = go (among c xs) refl (sym (among_append c xs ys) ∙ e)
   where
     go : (t : Bool) → among c xs ≡ t → if t true (among c ys) ≡ true → P
     go true h e = f h
@@ -102,6 +92,6 @@ module _ (doc : List ℕ) where
             (λ f. among_second c now (comments_to doc (place_after t) ts) (i f))
         go false e i = never e
 
-    pub met_comments_lem : among c (met_comments doc) ≡ true → among c (comments doc) ≡ true
+    pub met_among : among c (met_comments doc) ≡ true → among c (comments doc) ≡ true
     unfolding met_tokens tokens comments
-    met_comments_lem e = rw (covers 0 doc 0 refl (omega arith)) at (reached_among begun 0 (tokens doc 0) e)
+    met_among e = rw (covers 0 doc 0 refl (omega arith)) at (reached_among begun 0 (tokens doc 0) e)

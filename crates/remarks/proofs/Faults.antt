@@ -1,6 +1,5 @@
 -- Where the next token stands that is looked for from a place on: a fault no earlier than there, and the name of a closing tag within
 -- the tag.
--- Assumes nothing.
 use Prim.Native.Nat.{ℕ, zero, suc, ◌+◌, ◌-◌, ◌≤◌}
 use mathlib.Core.List.{List, [], ◌∷◌}
 use native.Mathlib.Omega.{arith}

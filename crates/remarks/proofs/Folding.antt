@@ -1,5 +1,4 @@
 -- Only a docstring's end looks at the document: reading two of them comes to one state where each docstring is trimmed alike.
--- Assumes nothing.
 use Prim.Native.Nat.{ℕ, ◌-◌}
 use mathlib.Core.Path.{◌≡◌, refl, ap, ◌∙◌}
 use mathlib.Core.List.{List, [], ◌∷◌}

@@ -1,5 +1,4 @@
 -- The laws.
--- Assumes nothing.
 pub mod Comments
 pub mod Local
 pub mod Faults

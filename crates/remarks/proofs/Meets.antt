@@ -1,5 +1,4 @@
 -- Two documents that differ inside a comment have the same tokens, and no token ends or closes inside it.
--- Assumes nothing.
 use Prim.Native.Nat.{ℕ, zero, suc, ◌+◌, ◌-◌, ◌≤◌}
 use mathlib.Core.Path.{◌≡◌, refl, sym, ap, ◌∙◌}
 use mathlib.Core.List.{List, [], ◌∷◌, ◌++◌}
@@ -17,9 +16,9 @@ use Rattle.document.specs.Tokens.{Token, start, close, fault, end, Next, more, l
 use Rattle.document.proofs.Runs.{taken}
 use Rattle.document.proofs.Ignorables.{Scanned, ignorable_within}
 use Rattle.document.proofs.Nexts.{Onward, Ended, Reaches, next_reaches, moves_on}
-use Rattle.document.proofs.Tests.{never}
+use Rattle.document.proofs.Tests.{never, among_append}
 use Rattle.met.specs.Passed.{passed_from}
-use Rattle.remarks.proofs.Comments.{after, comments_from, apart}
+use Rattle.remarks.proofs.Comments.{after, comments_from}
 use Rattle.remarks.proofs.Faults.{Lies, next_lies}
 use Rattle.remarks.proofs.Tagged.{next_part}
 use Rattle.remarks.proofs.Meeting.{passed_since, meets}
@@ -28,7 +27,7 @@ pub comments_since : (c k : ℕ) (l : List ℕ) (at : ℕ) → among c (comments
 comments_since c k [] at e = never e
 comments_since c (suc k) (b ∷ l) at e = let z = comments_since c k l (suc at) e in omega arith
 comments_since c zero (b ∷ l) at e =
-    go (among c (passed_from 0 (b ∷ l) at)) refl (sym (apart c (passed_from 0 (b ∷ l) at) (after (next (b ∷ l) at) (λ p. comments_from (p - suc at) l (suc at)))) ∙ e) (λ k f. comments_since c k l (suc at) f)
+    go (among c (passed_from 0 (b ∷ l) at)) refl (sym (among_append c (passed_from 0 (b ∷ l) at) (after (next (b ∷ l) at) (λ p. comments_from (p - suc at) l (suc at)))) ∙ e) (λ k f. comments_since c k l (suc at) f)
   where
     further : (n : Next) → among c (after n (λ p. comments_from (p - suc at) l (suc at))) ≡ true → ((k : ℕ) → among c (comments_from k l (suc at)) ≡ true → suc at + k ≤ c) → at + 0 ≤ c
     further (more t p) e i = let z = i (p - suc at) e in omega arith
@@ -116,7 +115,7 @@ module _ (c e : ℕ) (r r' rest : List ℕ) (o : seek 22 (bytes "-->") (c + 4) r
   tokens_same k [] at l a = absurd (let z = comments_since c k r at a in omega arith)
   tokens_same (suc k) (b ∷ s) at l a = tokens_same k s (suc at) (omega arith) a
   tokens_same zero (b ∷ s) at l a =
-      go (among c (passed_from 0 (b ∷ s ++ r) at)) refl (sym (apart c (passed_from 0 (b ∷ s ++ r) at) (after (next (b ∷ s ++ r) at) (λ p. comments_from (p - suc at) (s ++ r) (suc at)))) ∙ a) (λ k f. tokens_same k s (suc at) (omega arith) f)
+      go (among c (passed_from 0 (b ∷ s ++ r) at)) refl (sym (among_append c (passed_from 0 (b ∷ s ++ r) at) (after (next (b ∷ s ++ r) at) (λ p. comments_from (p - suc at) (s ++ r) (suc at)))) ∙ a) (λ k f. tokens_same k s (suc at) (omega arith) f)
     where
       Both : Next → Next → Type 0
       Both n n' = Same (joined n (λ p. tokens_from (p - suc at) (s ++ r) (suc at))) (joined n' (λ p. tokens_from (p - suc at) (s ++ r') (suc at)))

@@ -1,5 +1,4 @@
 -- What a state shows of a document is the same in another: every step keeps that.
--- Assumes nothing.
 use Prim.Native.Nat.{ℕ, zero, suc, ◌+◌, ◌-◌}
 use mathlib.Core.Path.{◌≡◌, refl}
 use mathlib.Core.List.{List, [], ◌∷◌, ◌++◌}
@@ -116,11 +115,11 @@ module _ (d d' : List ℕ) where
 
     -- ---- frames
 
-    name_of_lem : (f : Frame) → FrameOk f → NameSame (name_of f)
-    name_of_lem (element k n r) h = h
-    name_of_lem (definition f) h = h.0
-    name_of_lem (passing p []) h = refl
-    name_of_lem (passing p (n ∷ ns)) h = h.1.0
+    frame_name_same : (f : Frame) → FrameOk f → NameSame (name_of f)
+    frame_name_same (element k n r) h = h
+    frame_name_same (definition f) h = h.0
+    frame_name_same (passing p []) h = refl
+    frame_name_same (passing p (n ∷ ns)) h = h.1.0
 
     noted_ok : (k : ℕ) (t : Tag) (fs : List Frame) → FramesOk fs → FramesOk (noted k t fs)
     noted_ok k t fs h = either FramesOk (among k kinds.parts) (λ c. go fs h) (λ c. h)
@@ -176,15 +175,15 @@ module _ (d d' : List ℕ) where
     starts : (t : Tag) → TagOk t → steps.Starts whole d held held held t
     starts t g = record {
       closes = closes;
-      moves = λ fs u h. h;
-      row = λ k r fs u c b n e h. row_holds t g k _ r fs u e h;
+      moves = λ f fs u c h. h;
+      row = λ k r fs u c b n e d h. row_holds t g k _ r fs u e h;
       own_row = λ k r fs u c b n e h. row_holds t g k _ r fs u e h;
       refusal = λ k p x e. rw e at (opened_ok t g k p);
       deep = (refl, refl);
-      warning = λ fs u c h. record { frames = h.frames; docs = h.docs; warnings = warnings_more u.warnings _ g.name h.warnings };
-      skips = λ fs u h. record { frames = ((tt, (g.name, tt)), h.frames); docs = h.docs; warnings = warnings_more u.warnings _ g.name h.warnings };
-      docstring = λ f fs u x h. record { frames = ((g.after, (g.name, tt)), h.frames); docs = h.docs; warnings = h.warnings };
-      within = λ p ns fs u h. record { frames = ((h.frames.0.0, (g.name, h.frames.0.1)), h.frames.1); docs = h.docs; warnings = h.warnings };
+      warning = λ f fs u c h. record { frames = h.frames; docs = h.docs; warnings = warnings_more u.warnings _ g.name h.warnings };
+      skips = λ f fs u c r h. record { frames = ((tt, (g.name, tt)), h.frames); docs = h.docs; warnings = warnings_more u.warnings _ g.name h.warnings };
+      docstring = λ f fs u c x h. record { frames = ((g.after, (g.name, tt)), h.frames); docs = h.docs; warnings = h.warnings };
+      within = λ p ns fs u c d h. record { frames = ((h.frames.0.0, (g.name, h.frames.0.1)), h.frames.1); docs = h.docs; warnings = h.warnings };
     }
 
     fault_ok : (n p : ℕ) → drop p d ≡ drop p d' → FaultSame (fault_in d n p)
@@ -197,21 +196,21 @@ module _ (d d' : List ℕ) where
       ways (start t) g = starts t g
       ways (close lt n q) g = record {
         closes = closes;
-        passed = λ p ns fs u h. record { frames = h.frames.1; docs = h.docs; warnings = h.warnings };
-        docstring = λ s r ns fs u h. record {
+        passed = λ p ns fs u l h. record { frames = h.frames.1; docs = h.docs; warnings = h.warnings };
+        docstring = λ s r ns fs u l e h. record {
           frames = h.frames.1;
           docs = docs_documented Good r _ u.rows (good s lt h.frames.0.0 g.0) h.docs;
           warnings = h.warnings;
         };
-        within = λ p n ns fs u h. record { frames = ((h.frames.0.0, h.frames.0.1.1), h.frames.1); docs = h.docs; warnings = h.warnings };
-        another = λ f fs u h. (g.1, name_of_lem f h.frames.0);
+        within = λ p n ns fs u l e h. record { frames = ((h.frames.0.0, h.frames.0.1.1), h.frames.1); docs = h.docs; warnings = h.warnings };
+        another = λ f fs u h. (g.1, frame_name_same f h.frames.0);
         none = (refl, refl);
       }
       ways (fault n p) g = fault_ok n p g
-      ways (end p) g = ((refl, refl), λ f fs u h. (name_of_lem f h.frames.0, refl))
+      ways (end p) g = ((refl, refl), λ f fs u h. (frame_name_same f h.frames.0, refl))
 
       pub fold_holds : (s : State Shown) (ts : List Token) → AllOk ts → Kept held s → Kept held (fold whole d s ts)
       fold_holds s [] o h = h
       fold_holds s (t ∷ ts) o h =
           fold_holds (step whole d s t) ts o.1
-          (step_kept whole d held held held s t (record { ways = ways t o.0; empty = λ h. record { frames = tt; docs = tt; warnings = tt }; ended = λ u h. h; done = λ u h. h; fault = λ x h. h }) h)
+          (step_kept whole d held held held s t (record { ways = ways t o.0; empty = λ h. record { frames = tt; docs = tt; warnings = tt }; done = λ u h. h; fault = λ x h. h }) h)

@@ -1,5 +1,4 @@
 -- What the answers of two documents that differ inside a comment show: the same bytes, but for a docstring around the comment.
--- Assumes nothing.
 use Prim.Native.Nat.{ℕ, zero, suc, ◌+◌, ◌-◌, ◌*◌, ◌/◌, ◌≤◌, ◌<◌}
 use mathlib.Core.Path.{◌≡◌, refl, sym, ap, subst, ◌∙◌}
 use mathlib.Core.List.{List, [], ◌∷◌, ◌++◌}
@@ -21,7 +20,7 @@ use Rattle.document.specs.Rows.{Doc, Row, Warning, words_from, texts, warned}
 use Rattle.document.specs.Refusals.{bare}
 use Rattle.document.specs.Reading.{State, begun, reading, accepted, refused, run}
 use Rattle.document.specs.Outcome.{whole}
-use Rattle.document.specs.Whole.{Room, meaning, fitted, read, verdict_of, rows_left_lem, warnings_left}
+use Rattle.document.specs.Whole.{Room, meaning, fitted, read, verdict_of, rows_left, warnings_left}
 use Rattle.document.proofs.Tests.{either}
 use Rattle.document.proofs.Steps.{Kept}
 use Rattle.items.specs.Words.{RowWords}
@@ -187,9 +186,9 @@ module _ (c e : ℕ) (d d' : List ℕ) (w : Differ c e d d') where
 -- ---- the theorems
 
 pub shows_unsteered : ShowsUnsteered
-shows_unsteered c e d d' w room rows warnings text n x k s = go (read d room) refl (read_told c e d d' w room) s.verdict s.rows_left s.warnings_left_lem
+shows_unsteered c e d d' w room rows warnings text n x k s = go (read d room) refl (read_told c e d d' w room) s.verdict s.of_rows s.of_warnings
   where
-    go : (r : State Shown) → read d room ≡ r → Told c e d d' r → Ok (counts n x k) ≡ verdict_of r → rows ≡ rows_left_lem room r → warnings ≡ warnings_left room r → ShownAlike c e d d' rows warnings text n k
+    go : (r : State Shown) → read d room ≡ r → Told c e d d' r → Ok (counts n x k) ≡ verdict_of r → rows ≡ rows_left room r → warnings ≡ warnings_left room r → ShownAlike c e d d' rows warnings text n k
     go begun q h v f g = let z : ◌≡◌ {A = ℕ} 0 1 = cc in absurd (omega arith)
     go (reading fs u) q h v f g = let z : ◌≡◌ {A = ℕ} 0 1 = cc in absurd (omega arith)
     go (refused y) q h v f g = let z : ◌≡◌ {A = ℕ} 0 1 = cc in absurd (omega arith)
@@ -201,7 +200,7 @@ shows_unsteered c e d d' w room rows warnings text n x k s = go (read d room) re
         let p = left_shown d room u q in
         let p' = left_shown d' room u (sym o ∙ q) in
         record {
-          values = rw (s.rows_left, s.text_left_lem, i) (p ∙ sym (rw (← o) at p'));
+          values = rw (s.of_rows, s.of_text, i) (p ∙ sym (rw (← o) at p'));
           docstrings = rw (f, i) (docs_shown c e d d' w u.rows (replicate (room.rows - length (words_from 0 u.rows)) 0) text h.0);
           names = rw (g, j) (warned_same c e d d' w u.warnings (replicate (room.warnings - length (warned u.warnings)) 0) h.1);
         }

@@ -1,5 +1,4 @@
 -- What stands at a comment's place, and before its end.
--- Assumes nothing.
 use Prim.Native.Nat.{ℕ, zero, suc, ◌+◌, ◌-◌, ◌≤◌}
 use mathlib.Core.Path.{◌≡◌, refl, sym, ap, ◌∙◌}
 use mathlib.Core.List.{List, [], ◌∷◌, ◌++◌}
@@ -17,9 +16,9 @@ use Rattle.scan.specs.declared.Markup.{Markup}
 use Rattle.scan.specs.declared.Markup.TheVariants.{Tag, Ignored}
 use Rattle.document.specs.Elements.{among}
 use Rattle.document.specs.Tokens.{Next, more, last, next}
-use Rattle.document.proofs.Tests.{never}
+use Rattle.document.proofs.Tests.{never, among_append}
 use Rattle.met.specs.Passed.{beyond, passed_from}
-use Rattle.remarks.proofs.Comments.{after, comments_from, comments, apart}
+use Rattle.remarks.proofs.Comments.{after, comments_from, comments}
 use Rattle.remarks.proofs.Meeting.{passed_since}
 use Rattle.remarks.proofs.Meets.{comments_since}
 
@@ -102,7 +101,7 @@ module _ (c : ℕ) where
   comments_stand k [] at e = never e
   comments_stand (suc k) (b ∷ l) at e = let z = comments_since c k l (suc at) e in on b l at (omega arith) (comments_stand k l (suc at) e)
   comments_stand zero (b ∷ l) at e =
-      go (among c (passed_from 0 (b ∷ l) at)) refl (sym (apart c (passed_from 0 (b ∷ l) at) (after (next (b ∷ l) at) (λ p. comments_from (p - suc at) l (suc at)))) ∙ e) (λ k f. comments_stand k l (suc at) f)
+      go (among c (passed_from 0 (b ∷ l) at)) refl (sym (among_append c (passed_from 0 (b ∷ l) at) (after (next (b ∷ l) at) (λ p. comments_from (p - suc at) l (suc at)))) ∙ e) (λ k f. comments_stand k l (suc at) f)
     where
       further : (n : Next) → among c (after n (λ p. comments_from (p - suc at) l (suc at))) ≡ true → ((k : ℕ) → among c (comments_from k l (suc at)) ≡ true → Stands l (suc at)) → Stands (b ∷ l) at
       further (more t p) e i = let z = comments_since c (p - suc at) l (suc at) e in on b l at (omega arith) (i (p - suc at) e)

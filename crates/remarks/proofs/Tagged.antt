@@ -1,5 +1,4 @@
 -- A tag that ends within a part of a document is the same token whatever follows that part.
--- Assumes nothing.
 use Prim.Native.Nat.{ℕ, zero, suc, ◌+◌, ◌-◌, ◌≤◌, ◌<◌}
 use mathlib.Core.Path.{◌≡◌, refl, sym, ap, ◌∙◌}
 use mathlib.Core.List.{List, [], ◌∷◌, ◌++◌}
@@ -7,8 +6,8 @@ use mathlib.Core.Bool.{Bool, true, false}
 use borrow.Author.Tests.{eqb-true}
 use native.Mathlib.Omega.{arith}
 use lib.Dec.{eqb}
-use lib.ListN.{length, take, drop, length-drop, take-append-drop}
-use lib.Seq.{length-take-le, drop-append-le}
+use lib.ListN.{length, drop, length-drop}
+use lib.Seq.{drop-append-le}
 use Rattle.std.specs.Prelude.{Result, Ok, Err}
 use Rattle.faults.specs.declared.Fault.{Fault}
 use Rattle.slices.specs.Bytes.{if, other, span, past, empty}
@@ -390,12 +389,3 @@ next_part r r' at t q s e h = go (ignorable (s ++ r) at) refl (ignorable_within 
         let i : ignorable (s ++ r') at ≡ Ok p = ignorable_local r r' 0 s at p f (omega (arith, w.0)) in
         rw (i, drop-append-le (p - at) s r' n)
         (reached_local r r' p t q (drop (p - at) s) (rw (← drop-append-le (p - at) s r n) e) (rw length-drop (omega (arith, w.0))))
-
--- the same of two documents that agree up to the token's end
-pub next_local : (l l' : List ℕ) (at : ℕ) (t : Token) (q : ℕ) → next l at ≡ more t q → q ≤ at + length l → take (q - at) l ≡ take (q - at) l' → next l' at ≡ more t q
-next_local l l' at t q e h a =
-    let n = length-take-le (q - at) l (omega arith) in
-    let x : next (take (q - at) l ++ drop (q - at) l) at ≡ more t q = rw (take-append-drop (q - at) l) e in
-    let y = next_part (drop (q - at) l) (drop (q - at) l') at t q (take (q - at) l) x (omega (arith, n)) in
-    let z : take (q - at) l ++ drop (q - at) l' ≡ l' = rw a (take-append-drop (q - at) l') in
-    rw (z) at y

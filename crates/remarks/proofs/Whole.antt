@@ -1,5 +1,4 @@
 -- Remarks do not steer the record: two documents that differ inside one comment that reading meets are read alike.
--- Assumes nothing.
 use Prim.Native.Nat.{ℕ, suc, ◌+◌, ◌-◌, ◌≤◌}
 use mathlib.Core.Path.{◌≡◌, refl, sym, ap, ◌∙◌}
 use mathlib.Core.List.{List, [], ◌∷◌, ◌++◌, append_assoc}
@@ -16,9 +15,9 @@ use Rattle.document.specs.Elements.{among}
 use Rattle.document.specs.Reading.{State, begun, step, fold, run}
 use Rattle.document.specs.Refusals.{fault_in}
 use Rattle.document.specs.Outcome.{whole}
-use Rattle.document.specs.Whole.{meaning, read, verdict_of, rows_left_lem, warnings_left, text_left}
+use Rattle.document.specs.Whole.{meaning, read, verdict_of, rows_left, warnings_left, text_left}
 use Rattle.accepted.proofs.Tokens.{AllCome, tokens_come}
-use Rattle.remarks.proofs.Comments.{comments, met_comments_lem}
+use Rattle.remarks.proofs.Comments.{comments, met_among}
 use Rattle.met.specs.Met.{goes_on, reached, met_tokens}
 use Rattle.remarks.specs.Differing.{Differ, EquallyLong, Unsteered, CallsUnsteered}
 use Rattle.remarks.proofs.Meets.{Out, AllOut, tokens_same}
@@ -56,7 +55,7 @@ around a x y =
 
 module _ (c e : ℕ) (d d' : List ℕ) (w : Differ c e d d') where
   met : among c (comments d) ≡ true
-  met = met_comments_lem d c w.met
+  met = met_among d c w.met
 
   mark : Begins (bytes "<!--") (drop c d)
   mark = starts_split (bytes "<!--") (drop c d) (comment_stands c d met)
@@ -219,7 +218,7 @@ calls_unsteered c e d d' w room rows warnings text rows' warnings' text' v v' s 
     let q = unsteered c e d d' w room in
     record {
       answer = s.verdict ∙ ap verdict_of q ∙ sym s'.verdict;
-      row_words = s.rows_left ∙ ap (rows_left_lem room) q ∙ sym s'.rows_left;
-      warning_words = s.warnings_left_lem ∙ ap (warnings_left room) q ∙ sym s'.warnings_left_lem;
-      text_bytes = s.text_left_lem ∙ ap (text_left room) q ∙ sym s'.text_left_lem;
+      row_words = s.of_rows ∙ ap (rows_left room) q ∙ sym s'.of_rows;
+      warning_words = s.of_warnings ∙ ap (warnings_left room) q ∙ sym s'.of_warnings;
+      text_bytes = s.of_text ∙ ap (text_left room) q ∙ sym s'.of_text;
     }

@@ -1,5 +1,4 @@
 -- What the answers of two documents that differ inside a comment show: the same bytes, but for a docstring around the comment.
--- Assumes nothing.
 use Rattle.std.specs.Prelude.{ℕ, ◌+◌, ◌*◌, ◌≤◌, ◌<◌, ◌≡◌, List, ◌⊎◌, take, drop, get_or, Ok, Err}
 use Rattle.tables.specs.Triple.{shown}
 use Rattle.tables.specs.declared.Triple.{Triple}

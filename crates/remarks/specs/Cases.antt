@@ -1,6 +1,5 @@
 -- Worked examples: documents that differ inside a comment of each place; and two that differ inside a declaration, where what stands
 -- between `<!--` and `-->` does steer.
--- Assumes nothing.
 use Prim.Native.String as string
 use Rattle.std.specs.Prelude.{◌≡◌, refl, List, [], ◌∷◌, map, Bool, false, Ok, Err}
 use Rattle.slices.specs.Bytes.{bytes}
@@ -9,7 +8,7 @@ use Rattle.utf8.specs.WhiteSpace.{characters, trim_start, trim_end}
 use Rattle.scan.specs.Ignorable.{ignorable}
 use Rattle.document.specs.Tags.{attribute, gather}
 use Rattle.document.specs.Tokens.{opening, closing, next, tokens}
-use Rattle.document.specs.Rows.{row_words_lem}
+use Rattle.document.specs.Rows.{row_words}
 use Rattle.document.specs.Refusals.{bare, fault_in}
 use Rattle.document.specs.Elements.{among, kind_of, may_hold, opens_as}
 use Rattle.document.specs.Reading.{step, begins, unsupported, docstring_in, run}
@@ -48,5 +47,5 @@ unfolding met_tokens passed_over tokens next ignorable opening closing gather at
 steers = refl
 
 pub steered : map (λ c. verdict_of (read (bytes c.0) room)) declarations ≡ map (λ c. c.2) declarations
-unfolding read meaning fault_in ill_formed sequence run tokens next ignorable opening closing gather attribute step begins opens_as kind_of may_hold row_words_lem
+unfolding read meaning fault_in ill_formed sequence run tokens next ignorable opening closing gather attribute step begins opens_as kind_of may_hold row_words
 steered = refl

@@ -1,5 +1,4 @@
 -- Two documents that differ only inside a comment that reading meets, and what is then said of their answers.
--- Assumes nothing.
 use Rattle.std.specs.Prelude.{ℕ, ◌+◌, ◌≡◌, List, true, length, take, drop, Ok}
 use Rattle.slices.specs.Bytes.{bytes}
 use Rattle.utf8.specs.WellFormed.{ill_formed}

@@ -1,5 +1,4 @@
 -- Two documents that differ inside a comment that reading meets.
--- Assumes nothing.
 pub mod Differing
 pub mod Alike
 pub mod Cases

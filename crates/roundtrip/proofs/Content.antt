@@ -1,5 +1,4 @@
 -- The rows of an item, wherever they stand in a table whose other rows are no children of theirs, tell the item.
--- Assumes nothing.
 use Prim.Native.Nat.{ℕ, suc, ◌+◌, ◌≤◌, ◌<◌}
 use native.Mathlib.Omega.{arith}
 use mathlib.Core.Path.{◌≡◌, refl, ap, ◌∙◌, sym}

@@ -1,15 +1,14 @@
 -- Written bytes that are read as tokens of their own, whatever follows; one after the other, and one around others.
--- Assumes nothing.
 use Prim.Native.Nat.{ℕ, zero, suc, ◌+◌, ◌-◌, ◌≤◌}
 use native.Mathlib.Omega.{arith}
 use native.Mathlib.Nat.{add-zero}
 use mathlib.Core.Path.{◌≡◌, refl, ap, ◌∙◌}
 use mathlib.Core.List.{List, [], ◌∷◌, ◌++◌, append_assoc}
 use mathlib.Core.Bool.{Bool, true, false}
-use borrow.Author.Tests.{eq-eqb}
 use lib.ListN.{length, length-append}
 use lib.Seq.{drop-append_seam}
-use Rattle.slices.specs.Bytes.{if, same}
+use Rattle.slices.specs.Bytes.{if}
+use Rattle.slices.proofs.Runs.{same_self}
 use Rattle.document.specs.Rows.{Warning}
 use Rattle.document.specs.Tokens.{Tag, Token, start, close, fault, end, more, next, tokens}
 use Rattle.document.specs.Reading as reading
@@ -128,10 +127,6 @@ pub record Opens (k : ℕ) (n : List ℕ) (ps : List Pair) (s : State) (r : Row)
 pub tag_name : (n : List ℕ) → TagName n → Name n
 tag_name [] h = h
 tag_name (c ∷ n) h = h.0
-
-pub same_self : (s : List ℕ) → same s s ≡ true
-same_self [] = refl
-same_self (a ∷ s) = rw (eq-eqb a a refl) (same_self s)
 
 closes : (doc : List ℕ) (k : ℕ) (n : reading.Name) (i : ℕ) (fs : List Frame) (rs : List Row) (ws : List Warning) (p q : ℕ) → step keeps doc (inside (reading.element k n i ∷ fs) rs ws) (close p n.bytes q) ≡ closed fs (table rs ws)
 unfolding step

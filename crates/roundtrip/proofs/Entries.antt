@@ -1,5 +1,4 @@
 -- What the statements say of the tables that the reader leaves, and of what the entries say.
--- Assumes nothing.
 use Prim.Native.Nat.{ℕ, ◌+◌, ◌-◌}
 use native.Mathlib.Omega.{arith}
 use mathlib.Core.Path.{◌≡◌, refl, ap, ◌∙◌}
@@ -58,10 +57,10 @@ module _ {doc rows' warnings text' name : List ℕ} {c : Item} {lent : Room} {r 
       counted = rw (a.many, a.text, a.silent)
 
       rows_are : rows' ≡ filled lent.rows (words_from 0 a.tables.rows)
-      rows_are = rw a.reads at p.rows_left
+      rows_are = rw a.reads at p.of_rows
 
       text_is : text' ≡ filled lent.text (texts a.tables.rows)
-      text_is = rw a.reads at p.text_left_lem
+      text_is = rw a.reads at p.of_text
 
       filled_shown : (x w : List ℕ) (m k : ℕ) → x ≡ filled m (texts a.tables.rows) → w ≡ filled k (words_from 0 a.tables.rows) → rows_shown doc x w (2 + length (rows 2 2 c)) ≡ node_row ∷ interface_row name ∷ rows 2 2 c
       filled_shown x w m k e f = rw (e, f, ← a.many) (left_shown a _ _)

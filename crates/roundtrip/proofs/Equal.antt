@@ -1,5 +1,4 @@
 -- Equal bytes exactly for equal contents, and no content's bytes begin another's.
--- Assumes nothing.
 use Prim.Native.Nat.{ℕ, suc, ◌+◌}
 use native.Mathlib.Omega.{arith}
 use mathlib.Core.Path.{◌≡◌, refl, ap, ◌∙◌, sym}

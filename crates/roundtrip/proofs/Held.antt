@@ -1,6 +1,5 @@
 -- What rows keep here: of an attribute its raw bytes and the text that they show, of an element's place nothing. So rows and states
 -- have no places in them.
--- Assumes nothing.
 use Prim.Native.Nat.{ℕ}
 use mathlib.Core.List.{List}
 use Rattle.references.specs.Escape.{escape}

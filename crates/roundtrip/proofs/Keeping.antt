@@ -1,5 +1,4 @@
 -- What a reader keeps in rows changes nothing else: a view of its state is the state of the reader that keeps the view, and no places.
--- Assumes nothing.
 use Prim.Native.Nat.{ℕ, zero, suc}
 use mathlib.Core.Path.{◌≡◌, refl, ap, ◌∙◌}
 use mathlib.Core.List.{List, [], ◌∷◌, map, map-append}
@@ -71,12 +70,12 @@ module _ {A B : Type 0} (f : A → B) (keep : Keeping A) where
 
   -- ---- the row of a tag
 
-  view_row_lem : (t : Tag) (k p : ℕ) (n v tp : Option Shown) (w : ℕ) → view_opened f (opens (row keep t k p n v tp w)) ≡ opens (row seen t k p n v tp w)
-  view_row_lem t k p n v tp w = λ j. opens (record { kind = k; parent = p; name = view_kept n j; value = view_kept v j; tp = view_kept tp j; doc = none; word = w; at = 0 })
+  row_viewed : (t : Tag) (k p : ℕ) (n v tp : Option Shown) (w : ℕ) → view_opened f (opens (row keep t k p n v tp w)) ≡ opens (row seen t k p n v tp w)
+  row_viewed t k p n v tp w = λ j. opens (record { kind = k; parent = p; name = view_kept n j; value = view_kept v j; tp = view_kept tp j; doc = none; word = w; at = 0 })
 
   view_opens : (p : ℕ) (t : Tag) (k : ℕ) → view_opened f (opens_as keep k p t) ≡ opens_as seen k p t
   view_opens p t k =
-      any_way keep seen p t (λ o o'. view_opened f o ≡ o') (λ x r. refl) (λ k w n v tp c. view_row_lem t k p n v tp w) k
+      any_way keep seen p t (λ o o'. view_opened f o ≡ o') (λ x r. refl) (λ k w n v tp c. row_viewed t k p n v tp w) k
 
   -- ---- steps
 
@@ -89,14 +88,14 @@ module _ {A B : Type 0} (f : A → B) (keep : Keeping A) where
         (view_shut f doc g (noted k t fs) (with_row r u) 0 ∙ ap (λ x. shut doc g (noted k t fs) x 0) (view_with f r u))
         (branch (view f) (too_deep keep doc k fs) refl (ap (reading (g ∷ noted k t fs)) (view_with f r u))))
 
-    view_opened_lem : (k : ℕ) (t : Tag) (o : Opened A) (fs : List Frame) (u : Tables A) → view f (opened keep doc k t o fs u) ≡ opened seen doc k t (view_opened f o) fs (view_tables f u)
-    view_opened_lem k t (opens r) fs u = view_entered k t r fs u
-    view_opened_lem k t (refuses x) fs u = refl
+    opened_viewed : (k : ℕ) (t : Tag) (o : Opened A) (fs : List Frame) (u : Tables A) → view f (opened keep doc k t o fs u) ≡ opened seen doc k t (view_opened f o) fs (view_tables f u)
+    opened_viewed k t (opens r) fs u = view_entered k t r fs u
+    opened_viewed k t (refuses x) fs u = refl
 
     view_begins : (k : ℕ) (t : Tag) (fs : List Frame) (u : Tables A) → view f (begins keep doc k t fs u) ≡ begins seen doc k t fs (view_tables f u)
     unfolding begins
     view_begins k t fs u =
-        view_opened_lem k t (opens_as keep k (parent_of fs) t) fs u
+        opened_viewed k t (opens_as keep k (parent_of fs) t) fs u
         ∙ ap (λ o. opened seen doc k t o fs (view_tables f u)) (view_opens (parent_of fs) t k)
 
     view_unsupported : (t : Tag) (fs : List Frame) (u : Tables A) → view f (unsupported keep doc t fs u) ≡ unsupported seen doc t fs (view_tables f u)

@@ -1,5 +1,4 @@
 -- Laws of written bytes and of reading them.
--- Assumes nothing.
 pub mod Tags
 pub mod Held
 pub mod Elements

@@ -1,5 +1,4 @@
 -- How many bytes of text the rows of a written item take.
--- Assumes nothing.
 use Prim.Native.Nat.{ℕ, suc, ◌+◌}
 use native.Mathlib.Omega.{arith}
 use mathlib.Core.Path.{◌≡◌, refl}
@@ -9,7 +8,7 @@ use mathlib.Core.Bool.{Bool, true, false}
 use borrow.Author.Tests.{eq-eqb}
 use lib.ListN.{length, length-append}
 use Rattle.slices.specs.Bytes.{if, all, same}
-use Rattle.slices.proofs.Runs.{same_short}
+use Rattle.slices.proofs.Runs.{same_short, same_self}
 use Rattle.references.specs.Escape.{escape}
 use Rattle.references.specs.Unescape.{plain}
 use Rattle.references.proofs.Escapes.{by_escape, escape_least}
@@ -22,7 +21,6 @@ use Rattle.items.specs.Written.{Annotation, Arg, Member, Item, annotated, argume
 use Rattle.items.specs.Content as shown
 use Rattle.roundtrip.specs.Items.{annotation_rows, arg_rows, args_rows, member_rows, rows, node_row, interface_row, note_values, name_values, arg_values, args_values, member_values, values, referenced}
 use Rattle.roundtrip.proofs.Held.{Held, held, mark, Row, marked}
-use Rattle.roundtrip.proofs.Elements.{same_self}
 
 -- ---- by what is held of an attribute
 

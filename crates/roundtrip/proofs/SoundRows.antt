@@ -1,5 +1,4 @@
 -- What sound rows show: valid names and signatures, well_formed texts; and so the content of each row.
--- Assumes nothing.
 use Prim.Native.Nat.{ℕ, zero, suc, ◌+◌, ◌*◌}
 use native.Mathlib.Omega.{arith}
 use mathlib.Core.Path.{◌≡◌, refl, ap, sym, ◌∙◌}
@@ -23,7 +22,7 @@ use Rattle.items.specs.Words.{RowWords, absent, row_of, rows_of, shown_by, viewe
 use Rattle.items.specs.Sound.{Use, name_use, value_use, valid_name, valid_value, kind_at, good_triple, sound_row, sound, soundness}
 use Rattle.items.specs.Written.{Arg, Item, annotated, argument, method, signal}
 use Rattle.items.specs.Content.{Row, present, annotation_of, annotations, arg_of, args, member_of, item_of, first_item, content, content_at}
-use Rattle.items.proofs.Rows.{row_parts, sound_row_lem}
+use Rattle.items.proofs.Rows.{row_parts, row_is_sound}
 use Rattle.roundtrip.specs.Items.{note_values, name_values, arg_values, args_values, member_values, values}
 use Rattle.roundtrip.proofs.Items.{Signed, Good, kind}
 
@@ -80,7 +79,7 @@ all_fine : (document text ws : List ℕ) (n : ℕ) → soundness document text w
 all_fine document text ws n e zero i l = tt
 all_fine document text ws n e (suc m) i l =
     let k : i * 16 + 16 ≡ suc i * 16 = omega arith in (
-      fine document text (rows_of n ws) i (row_of (drop (i * 16) ws)) (sound_row_lem document text ws n e i (omega arith)),
+      fine document text (rows_of n ws) i (row_of (drop (i * 16) ws)) (row_is_sound document text ws n e i (omega arith)),
       rw (drop-drop 16 (i * 16) ws, k) (all_fine document text ws n e m (suc i) (omega arith)),
     )
 

@@ -1,5 +1,4 @@
 -- A written tag is one token, whatever follows it.
--- Assumes nothing.
 use Prim.Native.Nat.{ℕ, zero, suc, ◌+◌, ◌≤◌}
 use native.Mathlib.Nat.{sub_self}
 use native.Mathlib.Omega.{arith}

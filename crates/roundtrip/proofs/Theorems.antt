@@ -1,5 +1,4 @@
 -- The theorems.
--- Assumes nothing.
 use mathlib.Core.Path.{◌≡◌, subst, sym, ◌∙◌}
 use mathlib.Core.Option.{some}
 use Rattle.document.specs.Whole.{Says}

@@ -1,5 +1,4 @@
 -- A written item in a document of its own is read as its rows, if the document is short enough and the room is there.
--- Assumes nothing.
 use Prim.Native.Nat.{ℕ, ◌+◌, ◌/◌}
 use native.Mathlib.Omega.{arith}
 use mathlib.Core.Path.{◌≡◌, refl, ap, ◌∙◌, sym}

@@ -1,8 +1,8 @@
 -- The same of the code: in the records that the contracts of `writers::write` and `reader::parse_with_warnings` cite.
--- Assumes nothing.
 use Rattle.std.specs.Prelude.{ℕ, ◌+◌, ◌≡◌, List, [], ◌∷◌, true, length, take, Ok}
 use Rattle.std.proofs.Math.Option.{some}
 use Rattle.names.specs.Names.{interface_name}
+use Rattle.document.specs.Kinds as kinds
 use Rattle.document.specs.Elements.{among}
 use Rattle.document.specs.Whole.{Room, Says}
 use Rattle.document.specs.Verdict.{Verdict, counts}
@@ -20,12 +20,12 @@ pub record Returns (doc rows' text : List ℕ) (name : List ℕ) (c : Item) (r :
   pub gives : rows_shown doc text rows' (2 + length (rows 2 2 c)) ≡ node_row ∷ interface_row name ∷ rows 2 2 c
   pub same : content_at doc text rows' (2 + length (rows 2 2 c)) 2 ≡ some c
 
--- 1. for whatever was handed to `write`: if it wrote m bytes for a row of kind 3, 5 or 6, `parse_with_warnings` reads them back
+-- 1. for whatever was handed to `write`: if it wrote m bytes for a row of a method, a signal or an annotation, `parse_with_warnings` reads them back
 abbrev pub EntriesAgree : Type 0
 EntriesAgree =
     (document text ws out : List ℕ) (n i room m : ℕ) →
     Writes document text ws n i room out (Ok m) →
-    among (kind_at (rows_of n ws) i) (3 ∷ 5 ∷ 6 ∷ []) ≡ true →
+    among (kind_at (rows_of n ws) i) (kinds.method ∷ kinds.signal ∷ kinds.annotation ∷ []) ≡ true →
     (c : Item)
     × (content_at document text ws n i ≡ some c)
     × ((name rows' warnings text' : List ℕ) (lent : Room) (r : Verdict) →

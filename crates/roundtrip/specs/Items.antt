@@ -1,9 +1,9 @@
 -- The rows that an item is read as, how many they are, and the text that they take.
--- Assumes nothing.
 use Rattle.std.specs.Prelude.{ℕ, suc, ◌+◌, List, [], ◌∷◌, ◌++◌, map, length}
 use Rattle.std.proofs.Math.Option.{Option, none, some}
 use Rattle.slices.specs.Bytes.{if, same}
 use Rattle.references.specs.Escape.{escape}
+use Rattle.document.specs.Kinds as kinds
 use Rattle.items.specs.Written.{Annotation, Arg, Direction, no-direction, inward, outward, Member, Item, annotated, argument, method, signal}
 use Rattle.items.specs.Content.{Row}
 
@@ -17,13 +17,13 @@ bare_row k p n v w = record { kind = k; parent = p; name = n; value = v; tp = no
 
 -- p is the parent's row plus one, and i the number of the first row
 abbrev pub annotation_row : ℕ → Annotation → Row
-annotation_row p a = bare_row 6 p (some a.name) (some a.value) 0
+annotation_row p a = bare_row kinds.annotation p (some a.name) (some a.value) 0
 
 abbrev pub annotation_rows : ℕ → List Annotation → List Row
 annotation_rows p xs = map (annotation_row p) xs
 
 abbrev pub arg_row : ℕ → Arg → Row
-arg_row p a = bare_row 7 p a.name (some a.type) (code a.direction)
+arg_row p a = bare_row kinds.arg p a.name (some a.type) (code a.direction)
 
 abbrev pub arg_rows : ℕ → ℕ → Arg → List Row
 arg_rows p i a = arg_row p a ∷ annotation_rows (suc i) a.annotations
@@ -40,15 +40,15 @@ member_rows k p i m =
 abbrev pub rows : ℕ → ℕ → Item → List Row
 rows p i (annotated a) = annotation_row p a ∷ []
 rows p i (argument a) = arg_rows p i a
-rows p i (method m) = member_rows 3 p i m
-rows p i (signal m) = member_rows 5 p i m
+rows p i (method m) = member_rows kinds.method p i m
+rows p i (signal m) = member_rows kinds.signal p i m
 
 -- a node without a name; an interface in it
 abbrev pub node_row : Row
-node_row = bare_row 1 0 none none 0
+node_row = bare_row kinds.node 0 none none 0
 
 abbrev pub interface_row : List ℕ → Row
-interface_row n = bare_row 2 1 (some n) none 0
+interface_row n = bare_row kinds.interface 1 (some n) none 0
 
 -- the attribute values that are written, but for directions, which are never written with a reference
 abbrev pub note_values : List Annotation → List (List ℕ)

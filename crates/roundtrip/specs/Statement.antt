@@ -1,9 +1,9 @@
 -- Nobody who chooses the texts in sound rows can make a written method, signal or annotation read as something else.
--- Assumes nothing.
 use Rattle.std.specs.Prelude.{ℕ, ◌+◌, ◌/◌, ◌≤◌, ◌≡◌, List, [], ◌∷◌, ◌++◌, true, length}
 use Rattle.std.proofs.Math.Option.{some}
 use Rattle.slices.specs.Bytes.{bytes}
 use Rattle.names.specs.Names.{interface_name}
+use Rattle.document.specs.Kinds as kinds
 use Rattle.document.specs.Tags.{Shown}
 use Rattle.document.specs.Rows.{Tables, words_from, texts}
 use Rattle.document.specs.Elements.{among}
@@ -35,12 +35,12 @@ pub record ReadsAs (doc : List ℕ) (room : Room) (name : List ℕ) (c : Item) :
   pub gives : rows_shown doc (texts tables.rows) (words_from 0 tables.rows) (length tables.rows) ≡ node_row ∷ interface_row name ∷ rows 2 2 c
   pub same : content_at doc (texts tables.rows) (words_from 0 tables.rows) (length tables.rows) 2 ≡ some c
 
--- 1. for every document, text and sound rows, every row of kind 3, 5 or 6, every valid interface name
+-- 1. for every document, text and sound rows, every row of a method, a signal or an annotation, every valid interface name
 abbrev pub ReadBack : Type 0
 ReadBack =
     (document text ws : List ℕ) (n i : ℕ) →
     soundness document text ws n ≡ sound →
-    among (kind_at (rows_of n ws) i) (3 ∷ 5 ∷ 6 ∷ []) ≡ true →
+    among (kind_at (rows_of n ws) i) (kinds.method ∷ kinds.signal ∷ kinds.annotation ∷ []) ≡ true →
     (c : Item)
     × (content_at document text ws n i ≡ some c)
     × ((name : List ℕ) (room : Room) → interface_name name ≡ true → Fits name c room → ReadsAs (around name (written c)) room name c)

@@ -1,4 +1,3 @@
 -- The laws of values and of tables.
--- Assumes nothing.
 pub mod Words
 pub mod Tables

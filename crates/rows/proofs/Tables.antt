@@ -1,5 +1,4 @@
 -- Lent buffers that stand for tables: with a row more, a warning more, a docstring; and with the last rows given back.
--- Assumes nothing.
 use Prim.Native.Nat.{ℕ, suc, ◌+◌, ◌-◌, ◌≤◌, ◌<◌}
 use mathlib.Core.Path.{◌≡◌, refl, sym, ap, ◌∙◌}
 use mathlib.Core.List.{List, [], ◌∷◌, ◌++◌}
@@ -13,7 +12,7 @@ use Rattle.tables.proofs.Tables.{given_back_to}
 use Rattle.answers.specs.Puts.{Puts}
 use Rattle.answers.proofs.Putting.{puts_then}
 use Rattle.document.specs.Tags.{Shown}
-use Rattle.document.specs.Rows.{Row, Tables, documented, text_of, row_text, row_words_lem, words_from, texts, warned}
+use Rattle.document.specs.Rows.{Row, Tables, documented, text_of, row_text, row_words, words_from, texts, warned}
 use Rattle.document.specs.Outcome.{ValueIs, Lent, lent, Stands}
 use Rattle.document.specs.declared.Value.{Value}
 use Rattle.document.specs.declared.Fill.{Fill}
@@ -29,16 +28,16 @@ text_counted {f = f} s = s.text.many ∙ mul-one f.text
 -- ---- a row more
 
 module _ {doc : List ℕ} {name second tp : Value} {m : ℕ} {t t₁ t₂ t₃ : List ℕ} {a b c : Placed} (p : Places doc name m t t₁ a) (q : Places doc second a.text t₁ t₂ b) (s : Places doc tp b.text t₂ t₃ c) (row : Row Shown) (n : ValueIs doc name row.name) (v : ValueIs doc second row.value) (y : ValueIs doc tp row.tp) where
-  row_words : (h : Head) → row.kind ≡ h.kind → row.parent ≡ h.parent → row.word ≡ h.word → h.at ≡ suc row.at → row.doc ≡ none → row_words_lem m row ≡ placed h a b c
-  unfolding row_words_lem
-  row_words h k e w o d =
+  words_placed : (h : Head) → row.kind ≡ h.kind → row.parent ≡ h.parent → row.word ≡ h.word → h.at ≡ suc row.at → row.doc ≡ none → row_words m row ≡ placed h a b c
+  unfolding row_words
+  words_placed h k e w o d =
       let l : row.at ≡ h.at - 1 = omega arith in
       let i : m + length (text_of row.name) ≡ a.text = sym (p.puts row.name n).counts in
       let j : a.text + length (text_of row.value) ≡ b.text = sym (q.puts row.value v).counts in
       rw (k, e, w, l, d, i, j, p.words row.name n, q.words row.value v, s.words row.tp y)
 
-  row_text_lem : Puts (row_text row) m t t₃ c.text
-  row_text_lem = puts_then (puts_then (p.puts row.name n) (q.puts row.value v)) (s.puts row.tp y)
+  text_placed : Puts (row_text row) m t t₃ c.text
+  text_placed = puts_then (puts_then (p.puts row.name n) (q.puts row.value v)) (s.puts row.tp y)
 
 pub row_put : {doc : List ℕ} {h : Head} {name second tp : Value} {f : Fill} {t t₁ t₂ t₃ rows rows' : List ℕ} {a b c : Placed} {n : ℕ} → Places doc name f.text t t₁ a → Places doc second a.text t₁ t₂ b → Places doc tp b.text t₂ t₃ c → Put 16 (placed h a b c) f.rows rows rows' n → RowPut doc h name second tp f rows rows' t t₃ (record { at = f.at; rows = n; warnings = f.warnings; text = c.text })
 row_put {h = h} {f = f} p q s g = record {
@@ -50,10 +49,10 @@ row_put {h = h} {f = f} p q s g = record {
   stands = λ row u w k e o l d x v y z.
       let m : 0 + length (texts u.rows) ≡ f.text = omega (arith, text_counted z) in
       record {
-        rows = rw (words_from_more 0 u.rows row, m, row_words p q s row x v y h k e o l d) (g.stands (words_from 0 u.rows) z.rows);
+        rows = rw (words_from_more 0 u.rows row, m, words_placed p q s row x v y h k e o l d) (g.stands (words_from 0 u.rows) z.rows);
         many = length-append u.rows (row ∷ []) ∙ omega (arith, z.many, g.counts);
         warnings = z.warnings;
-        text = rw (texts_more u.rows row) ((row_text_lem p q s row x v y).stands (texts u.rows) z.text);
+        text = rw (texts_more u.rows row) ((text_placed p q s row x v y).stands (texts u.rows) z.text);
       };
 }
 

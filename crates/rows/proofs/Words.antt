@@ -1,5 +1,4 @@
 -- The words and text of rows: how many they are, of a row more, of the first rows, and of a row with a docstring.
--- Assumes nothing.
 use Prim.Native.Nat.{ℕ, zero, suc, ◌+◌, ◌*◌, ◌≤◌}
 use mathlib.Core.Path.{◌≡◌, refl, sym, ap, ◌∙◌}
 use mathlib.Core.List.{List, [], ◌∷◌, ◌++◌, append-nil, append_assoc}
@@ -13,7 +12,7 @@ use Rattle.slices.specs.Bytes.{if, all}
 use Rattle.references.specs.Unescape.{plain}
 use Rattle.tables.specs.Table.{with_docstring}
 use Rattle.document.specs.Tags.{Shown}
-use Rattle.document.specs.Rows.{Doc, Row, Warning, with_doc, documented, text_of, triple, doc_triple, row_text, row_words_lem, words_from, texts, warned}
+use Rattle.document.specs.Rows.{Doc, Row, Warning, with_doc, documented, text_of, triple, doc_triple, row_text, row_words, words_from, texts, warned}
 
 -- ---- how many
 
@@ -29,14 +28,14 @@ length_doc_triple : (o : Option Doc) → length (doc_triple o) ≡ 3
 length_doc_triple none = refl
 length_doc_triple (some d) = refl
 
-pub length_row_words : (n : ℕ) (r : Row Shown) → length (row_words_lem n r) ≡ 16
-unfolding row_words_lem
+pub length_row_words : (n : ℕ) (r : Row Shown) → length (row_words n r) ≡ 16
+unfolding row_words
 length_row_words n r = simp (length-append, length_triple, length_doc_triple)
 
 pub length_words_from : (n : ℕ) (rs : List (Row Shown)) → length (words_from n rs) ≡ length rs * 16
 length_words_from n [] = refl
 length_words_from n (r ∷ rs) =
-    length-append (row_words_lem n r) (words_from (n + length (row_text r)) rs)
+    length-append (row_words n r) (words_from (n + length (row_text r)) rs)
     ∙ rw (length_row_words n r, length_words_from (n + length (row_text r)) rs) (omega arith)
 
 pub length_warned : (ws : List Warning) → length (warned ws) ≡ length ws * 4
@@ -53,7 +52,7 @@ pub words_from_append : (n : ℕ) (rs ss : List (Row Shown)) → words_from n (r
 words_from_append n [] ss = rw add-zero
 words_from_append n (r ∷ rs) ss =
     let e : n + length (row_text r ++ texts rs) ≡ n + length (row_text r) + length (texts rs) = omega (arith, length-append (row_text r) (texts rs)) in
-    rw (e, words_from_append (n + length (row_text r)) rs ss) (sym (append_assoc (row_words_lem n r) _ _))
+    rw (e, words_from_append (n + length (row_text r)) rs ss) (sym (append_assoc (row_words n r) _ _))
 
 pub warned_append : (ws vs : List Warning) → warned (ws ++ vs) ≡ warned ws ++ warned vs
 warned_append [] vs = refl
@@ -63,7 +62,7 @@ warned_append (w ∷ ws) vs = rw (warned_append ws vs)
 pub texts_more : (rs : List (Row Shown)) (r : Row Shown) → texts (rs ++ r ∷ []) ≡ texts rs ++ row_text r
 texts_more rs r = rw (texts_append, append-nil)
 
-pub words_from_more : (n : ℕ) (rs : List (Row Shown)) (r : Row Shown) → words_from n (rs ++ r ∷ []) ≡ words_from n rs ++ row_words_lem (n + length (texts rs)) r
+pub words_from_more : (n : ℕ) (rs : List (Row Shown)) (r : Row Shown) → words_from n (rs ++ r ∷ []) ≡ words_from n rs ++ row_words (n + length (texts rs)) r
 words_from_more n rs r = rw (words_from_append, append-nil)
 
 -- ---- a docstring in row i
@@ -89,8 +88,8 @@ length_front : (n : ℕ) (r : Row Shown) → length (front n r) ≡ 11
 unfolding front
 length_front n r = simp (length-append, length_triple)
 
-at_docstring : (n : ℕ) (r : Row Shown) (rest : List ℕ) → row_words_lem n r ++ rest ≡ front n r ++ (doc_triple r.doc ++ (r.word ∷ r.at ∷ rest))
-unfolding front row_words_lem
+at_docstring : (n : ℕ) (r : Row Shown) (rest : List ℕ) → row_words n r ++ rest ≡ front n r ++ (doc_triple r.doc ++ (r.word ∷ r.at ∷ rest))
+unfolding front row_words
 at_docstring n r rest = simp append_assoc
 
 put_doc_triple : (o : Option Doc) (start len : ℕ) (rest : List ℕ) → sets (doc_triple o ++ rest) 0 (1 ∷ start ∷ len ∷ []) ≡ 1 ∷ start ∷ len ∷ rest
@@ -129,4 +128,4 @@ module _ (d : Doc) where
       ∙ ap (λ (l : List ℕ). front n r ++ l) (put_doc_triple r.doc d.start d.len (r.word ∷ r.at ∷ rest)))
   words_from_documented (suc i) n (r ∷ rs) =
       rw (words_from_documented i (n + length (row_text r)) rs)
-      (sym (sets_after (1 ∷ d.start ∷ d.len ∷ []) (row_words_lem n r) (words_from (n + length (row_text r)) rs) (i * 16 + 11) (suc i * 16 + 11) (omega (arith, length_row_words n r))))
+      (sym (sets_after (1 ∷ d.start ∷ d.len ∷ []) (row_words n r) (words_from (n + length (row_text r)) rs) (i * 16 + 11) (suc i * 16 + 11) (omega (arith, length_row_words n r))))

@@ -1,5 +1,4 @@
 -- What the functions say: a row or a warning more in the lent tables.
--- Assumes nothing.
 use Rattle.std.specs.Prelude.{ℕ, suc, ◌+◌, ◌-◌, ◌*◌, ◌≤◌, ◌<◌, ◌≡◌, List, [], ◌∷◌, length}
 use Rattle.std.proofs.Math.Option.{Option, none}
 use Rattle.answers.specs.Puts.{Puts}

@@ -1,5 +1,4 @@
 -- The table of classes: one test that computes, and what it says of each byte; and which bytes are below 128.
--- Assumes nothing.
 use Prim.Native.Nat.{ℕ, zero, suc, ◌+◌, ◌<◌}
 use mathlib.Core.Path.{◌≡◌, refl, ◌∙◌, sym}
 use mathlib.Core.List.{List, [], ◌∷◌}

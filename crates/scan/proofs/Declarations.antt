@@ -1,5 +1,4 @@
 -- A declaration: quotes are passed over whole, brackets are counted.
--- Assumes nothing.
 use Prim.Native.Nat.{ℕ, suc, pred, ◌+◌, ◌-◌, ◌≤◌, ◌<◌}
 use mathlib.Core.Path.{◌≡◌, refl, sym, ◌∙◌}
 use mathlib.Core.List.{List}

@@ -1,5 +1,4 @@
 -- The laws of classes, of the colons of a name, and of what is ignorable.
--- Assumes nothing.
 pub mod Class
 pub mod Prefixes
 pub mod Seek

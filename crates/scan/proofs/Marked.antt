@@ -1,5 +1,4 @@
 -- What begins at a `<` and is ignored, by where a scan came to.
--- Assumes nothing.
 use mathlib.Core.Path.{◌≡◌}
 use Prim.Native.Nat.{ℕ}
 use Rattle.std.proofs.Common.{Result, Ok, Err}

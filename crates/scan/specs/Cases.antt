@@ -1,5 +1,4 @@
 -- Worked examples: what is ignorable from a document's beginning on, and the colons of a name.
--- Assumes nothing.
 use Rattle.std.specs.Prelude.{ℕ, ◌≡◌, refl, List, [], ◌∷◌, map, drop, Option, Some, None, Result, Ok, Err}
 use Prim.Native.String as string
 use Rattle.slices.specs.Bytes.{bytes, span}

@@ -1,5 +1,4 @@
 -- Three classes of bytes, and the number that carries them.
--- Assumes nothing.
 use Rattle.std.specs.Prelude.{ℕ, ◌+◌, ◌<◌, ◌≡◌, List, Bool, not, ◌&&◌, ◌||◌, eqb, get_or}
 use Rattle.slices.specs.Bytes.{if, other}
 

@@ -1,5 +1,4 @@
 -- A name and its colons (58): the first and the last, as places in the document.
--- Assumes nothing.
 use Rattle.std.specs.Prelude.{ℕ, suc, ◌≡◌, List, [], ◌∷◌, eqb, drop, Option, Some, None}
 use Rattle.slices.specs.Bytes.{if, span}
 use Rattle.slices.specs.Run.{Run}

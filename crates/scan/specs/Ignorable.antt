@@ -1,6 +1,5 @@
 -- What is ignorable between tags: text, comments, CDATA sections, processing instructions, declarations.
 -- Each function has what is left of the document and the place where that begins.
--- Assumes nothing.
 use Rattle.std.specs.Prelude.{ℕ, zero, suc, pred, ◌+◌, ◌-◌, ◌≤◌, ◌<◌, ◌≡◌, List, [], ◌∷◌, Bool, false, ◌&&◌, ◌||◌, eqb, length, drop, Result, Ok, Err}
 use Rattle.slices.specs.Bytes.{if, bytes, starts}
 use Rattle.faults.specs.Fault.{fault}

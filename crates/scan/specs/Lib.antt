@@ -1,5 +1,4 @@
 -- Classes of bytes, the colons of a name, and what is ignorable between tags.
--- Assumes nothing.
 pub mod Classes
 pub mod Colons
 pub mod Ignorable

@@ -1,5 +1,4 @@
 -- A file's outcome added to the counts of a sheet.
--- Assumes nothing.
 use Rattle.std.specs.Prelude.{Ok, Err}
 use Rattle.std.proofs.Common.{◌≡◌, ℕ, ◌+◌, ◌*◌, ◌%◌, ◌^◌, ◌<◌, ◌≤◌, List, [], ◌∷◌, length, get_or, replicate, refl, arith, rules}
 use lib.ListN.{get_or-replicate}

@@ -1,8 +1,6 @@
--- Words counted at their places: one, and word 0 of each of n records.
--- Assumes nothing.
-use Rattle.std.proofs.Common.{◌≡◌, ℕ, zero, suc, ◌+◌, ◌-◌, ◌%◌, ◌^◌, ◌<◌, ◌≤◌, min, Bool, true, false, eqb, List, [], ◌∷◌, ◌++◌, length, get_or, drop, set, sym, refl, ap, ◌∙◌, subst, add-zero, append-nil, arith, length-append, length-drop, length-set, drop_of_length-le, drop_at, get_or-set_other, get_or-set_same, rules, eq-eqb, ne_eqb, eqb-true}
+-- Words counted at their places: word 0 of each of n records.
+use Rattle.std.proofs.Common.{◌≡◌, ℕ, zero, suc, ◌+◌, ◌-◌, ◌^◌, ◌<◌, ◌≤◌, min, Bool, true, false, eqb, List, [], ◌∷◌, ◌++◌, length, get_or, drop, refl, ap, ◌∙◌, append-nil, arith, length-append, length-drop, drop_of_length-le, drop_at, rules}
 use native.Mathlib.Decide.{dec_lt}
-use borrow.Author.Tests.{eqb-false}
 use Rattle.slices.specs.Bytes.{if}
 use Rattle.sheets.specs.Sheet.{occurs}
 use Rattle.sheets.specs.Answer.{firsts}
@@ -24,31 +22,6 @@ occurs_few k (x ∷ xs) = go (eqb x k) (occurs_few k xs)
     go : (t : Bool) → occurs k xs ≤ length xs → if t (suc (occurs k xs)) (occurs k xs) ≤ suc (length xs)
     go true h = omega arith
     go false h = omega arith
-
-occurs_it : (k : ℕ) → occurs k (k ∷ []) ≡ 1
-occurs_it k = rw (eq-eqb k k refl)
-
-occurs_other : (k x : ℕ) → (x ≡ k → ⊥) → occurs k (x ∷ []) ≡ 0
-occurs_other k x h = rw (ne_eqb x k h)
-
--- ---- one word
-
-module _ {word : ℕ} {c : List ℕ} (l : length c ≡ 32) where
-  pub count_one : {v : ℕ} → word < 32 → v ≡ (get_or c word 0 + 1) % 2 ^ 32 → Counted (word ∷ []) c (set c word v)
-  count_one {v} h e = record { here = λ k m s. go k s (eqb word k) refl }
-    where
-      Holds : ℕ → Type 0
-      Holds k = get_or c k 0 + occurs k (word ∷ []) < 2 ^ 32 → get_or (set c word v) k 0 ≡ get_or c k 0 + occurs k (word ∷ [])
-
-      it : Holds word
-      it s = get_or-set_same c word v 0 (omega arith) ∙ omega (arith, e, s, occurs_it word)
-
-      go : (k : ℕ) → get_or c k 0 + occurs k (word ∷ []) < 2 ^ 32 → (t : Bool) → eqb word k ≡ t → get_or (set c word v) k 0 ≡ get_or c k 0 + occurs k (word ∷ [])
-      go k s true q = subst Holds (eqb-true word k q) it s
-      go k s false q =
-          let n : word ≡ k → ⊥ = eqb-false word k q in
-          let d : k ≡ word → ⊥ = λ z. n (sym z) in
-          get_or-set_other c word k v 0 d ∙ rw (occurs_other k word n) (sym (add-zero (get_or c k 0)))
 
 -- ---- records
 

@@ -1,7 +1,6 @@
 -- Files and names added, a list of them, and what is printed.
--- Assumes nothing.
-use Rattle.std.proofs.Common.{◌≡◌, ℕ, suc, ◌+◌, ◌-◌, ◌<◌, ◌≤◌, Bool, true, false, ltb, List, [], ◌∷◌, ◌++◌, length, take, drop, Option, Some, None, sym, refl, ap, ◌∙◌, subst, append_assoc, append-nil, arith, length-append, length-take-le, take_all, take_at, rules, le-ltb, lt-ltb}
-use Rattle.document.specs.Whole.{Room, verdict_of, rows_left_lem, room_of}
+use Rattle.std.proofs.Common.{◌≡◌, ℕ, suc, ◌+◌, ◌<◌, ◌≤◌, Bool, true, false, ltb, List, [], ◌∷◌, ◌++◌, length, take, sym, refl, ap, ◌∙◌, subst, append_assoc, append-nil, arith, length-append, length-take-le, take_all, take_at, rules, le-ltb, lt-ltb}
+use Rattle.document.specs.Whole.{Room, verdict_of, rows_left, room_of}
 use Rattle.document.specs.Verdict.{Verdict}
 use Rattle.files.specs.Files.{read_file, Reads}
 use Rattle.files.specs.declared.Reading.{Reading}
@@ -20,8 +19,8 @@ outcome_is : {raw rows warnings text decoded : List ℕ} {r : Reading} → Reads
 unfolding document_outcome
 outcome_is {raw} {rows} {warnings} s =
     ap (λ (x : Verdict). outcome_of x rows warnings) s.verdict
-    ∙ ap (λ (l : List ℕ). outcome_of (verdict_of (read_file raw program_room program_decoded)) l warnings) s.rows_left
-    ∙ ap (λ (l : List ℕ). outcome_of (verdict_of (read_file raw program_room program_decoded)) (rows_left_lem program_room (read_file raw program_room program_decoded)) l) s.warnings_left_lem
+    ∙ ap (λ (l : List ℕ). outcome_of (verdict_of (read_file raw program_room program_decoded)) l warnings) s.of_rows
+    ∙ ap (λ (l : List ℕ). outcome_of (verdict_of (read_file raw program_room program_decoded)) (rows_left program_room (read_file raw program_room program_decoded)) l) s.of_warnings
 
 abbrev roomed : ℕ → ℕ → ℕ → Room
 roomed a b c = record { rows = a; warnings = b; text = c }
@@ -98,15 +97,6 @@ pub record Going (s : List ℕ) (before c : Counts) (after : List ℕ) (names : 
   pub many : length front ≡ names
   pub rest : names_of s ≡ front ++ names_of after
   pub stands : Stands 0 blank before → (os : List Outcome) × Came front os × Stands names (sheet_of os) c
-
-pub going_begins : {s : List ℕ} {c : Counts} → Going s c c s 0
-going_begins = record {
-  few = omega arith;
-  front = [];
-  many = refl;
-  rest = refl;
-  stands = λ t. ([], tt, t);
-}
 
 module _ {s left : List ℕ} {before c : Counts} {names : ℕ} (g : Going s before c left names) where
   -- the names that were added, the next and the rest

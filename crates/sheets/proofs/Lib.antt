@@ -1,5 +1,4 @@
 -- The laws of counting, of adding, of names, of lines and of files.
--- Assumes nothing.
 pub mod Counting
 pub mod Adding
 pub mod Naming

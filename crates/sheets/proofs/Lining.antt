@@ -1,5 +1,4 @@
 -- The lines of a sheet, put into a buffer.
--- Assumes nothing.
 use Rattle.std.proofs.Common.{◌≡◌, ℕ, zero, suc, ◌+◌, ◌-◌, ◌*◌, ◌/◌, ◌%◌, ◌^◌, ◌<◌, ◌≤◌, Bool, true, false, List, [], ◌∷◌, ◌++◌, length, get_or, take, sym, refl, ap, ◌∙◌, append_assoc, append-nil, add-zero, pow-suc, mul-one, add-one, arith, length-take-le, get_or-take, ext_get_or, rules, le-ltb, lt-ltb, eq-eqb, ne_eqb}
 use native.Mathlib.Nat.{one-le-pow, pow-le-pow_right}
 use native.Mathlib.Decide.{dec_lt}
@@ -13,7 +12,7 @@ use Rattle.sheets.specs.declared.Counts.{Counts}
 use Rattle.sheets.specs.Sheet.{Sheet}
 use Rattle.sheets.specs.Lines.{digits_of, decimal, spaced, count_line, count_lines, lines_by, files_line, lines_of, more_line, long_line}
 use Rattle.sheets.specs.Counts.{Stands}
-use Rattle.sheets.specs.Printed.{PutsFew, files_of, all_lines_lem, Prints}
+use Rattle.sheets.specs.Printed.{PutsFew, files_of, all_lines, Prints}
 
 -- ---- decimal digits
 
@@ -139,9 +138,9 @@ pub ruleset lining = (lining_begins, lining_more, lining_ends, rules)
 
 -- ---- the whole sheet
 
-lines_by_lem : (letter : ℕ) (f g : ℕ → ℕ) → ((j : ℕ) → j < 32 → f j ≡ g j) → lines_by letter f ≡ lines_by letter g
+lines_by_same : (letter : ℕ) (f g : ℕ → ℕ) → ((j : ℕ) → j < 32 → f j ≡ g j) → lines_by letter f ≡ lines_by letter g
 unfolding lines_by
-lines_by_lem letter f g h = lines_same letter f g 0 32 (λ j b. h j (omega arith))
+lines_by_same letter f g h = lines_same letter f g 0 32 (λ j b. h j (omega arith))
 
 rep_take : {n : ℕ} {t xs : List ℕ} → Rep 1 t n xs → n ≤ length t → take n t ≡ xs
 rep_take {n} {t} {xs} p h =
@@ -150,23 +149,23 @@ rep_take {n} {t} {xs} p h =
     ext_get_or 0 (take n t) xs (l ∙ sym e)
     (λ i b. get_or-take n t i 0 (omega arith) ∙ p.holds i (omega arith) (rw whole_one (omega arith)))
 
-pub all_put : (c : Counts) {t t₁ t₂ t₃ : List ℕ} {n a b r : ℕ} → PutsFew 768 (lines_by 114 (slice_index c.numbers)) n t t₁ a → PutsFew 768 (lines_by 107 (slice_index c.kinds)) a t₁ t₂ b → PutsFew 768 (lines_by 119 (slice_index c.reasons)) b t₂ t₃ r → PutsFew 2304 (all_lines_lem c) n t t₃ r
+pub all_put : (c : Counts) {t t₁ t₂ t₃ : List ℕ} {n a b r : ℕ} → PutsFew 768 (lines_by 114 (slice_index c.numbers)) n t t₁ a → PutsFew 768 (lines_by 107 (slice_index c.kinds)) a t₁ t₂ b → PutsFew 768 (lines_by 119 (slice_index c.reasons)) b t₂ t₃ r → PutsFew 2304 (all_lines c) n t t₃ r
 all_put c p q s = record { puts = puts_then p.puts (puts_then q.puts s.puts); few = omega (arith, p.few, q.few, s.few) }
 
-pub ruleset all_lines = (all_put, rules)
+pub ruleset puts_all = (all_put, rules)
 
-lines_are : (c : Counts) {n : ℕ} {s : Sheet} → Stands n s c → files_of c ++ all_lines_lem c ≡ lines_of s
+lines_are : (c : Counts) {n : ℕ} {s : Sheet} → Stands n s c → files_of c ++ all_lines c ≡ lines_of s
 lines_are c {n} {s} w =
     let f : files_of c ≡ files_line s = rw (w.accepted, w.refused, w.unreadable) in
-    let x = lines_by_lem 114 (slice_index c.numbers) s.numbers w.numbers in
-    let y = lines_by_lem 107 (slice_index c.kinds) s.kinds w.kinds in
-    let z = lines_by_lem 119 (slice_index c.reasons) s.reasons w.reasons in
-    ap (λ (q : List ℕ). q ++ all_lines_lem c) f
+    let x = lines_by_same 114 (slice_index c.numbers) s.numbers w.numbers in
+    let y = lines_by_same 107 (slice_index c.kinds) s.kinds w.kinds in
+    let z = lines_by_same 119 (slice_index c.reasons) s.reasons w.reasons in
+    ap (λ (q : List ℕ). q ++ all_lines c) f
     ∙ ap (λ (q : List ℕ). files_line s ++ (q ++ (lines_by 107 (slice_index c.kinds) ++ lines_by 119 (slice_index c.reasons)))) x
     ∙ ap (λ (q : List ℕ). files_line s ++ (lines_by 114 s.numbers ++ (q ++ lines_by 119 (slice_index c.reasons)))) y
     ∙ ap (λ (q : List ℕ). files_line s ++ (lines_by 114 s.numbers ++ (lines_by 107 s.kinds ++ q))) z
 
-pub sheet_put : (c : Counts) (more : Bool) {t t₁ t₂ t₃ : List ℕ} {i j r : ℕ} → 8192 ≤ length t → length t₁ ≡ length t → length t₂ ≡ length t₁ → length t₃ ≡ length t₂ → PutsFew 33 (files_of c) 0 t t₁ i → PutsFew 2304 (all_lines_lem c) i t₁ t₂ j → PutsFew 5 (more_line more) j t₂ t₃ r → Prints c more t₃ r
+pub sheet_put : (c : Counts) (more : Bool) {t t₁ t₂ t₃ : List ℕ} {i j r : ℕ} → 8192 ≤ length t → length t₁ ≡ length t → length t₂ ≡ length t₁ → length t₃ ≡ length t₂ → PutsFew 33 (files_of c) 0 t t₁ i → PutsFew 2304 (all_lines c) i t₁ t₂ j → PutsFew 5 (more_line more) j t₂ t₃ r → Prints c more t₃ r
 sheet_put c more {t} h x y z p q m = record {
   are = λ n s w.
       let all = puts_then (puts_then p.puts q.puts) m.puts in

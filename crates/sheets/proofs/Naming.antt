@@ -1,5 +1,4 @@
 -- The next name of a list, and names that are opened.
--- Assumes nothing.
 use Rattle.std.proofs.Common.{◌≡◌, ℕ, suc, ◌+◌, ◌-◌, ◌<◌, ◌≤◌, Bool, true, false, ◌&&◌, eqb, leb, List, [], ◌∷◌, length, get_or, take, drop, take_all, sym, refl, ap, ◌∙◌, add-one, arith, length-drop, drop_of_length-le, drop-cons, rules, le-leb, eq-eqb, ne_eqb}
 use native.Mathlib.Decide.{dec_lt}
 use borrow.Author.Tests.{not-false, lt-leb}

@@ -1,11 +1,10 @@
 -- The theorems of Statement.
--- Assumes nothing.
 use Rattle.std.proofs.Common.{◌≡◌, ℕ, zero, suc, ◌+◌, ◌-◌, ◌<◌, ◌≤◌, List, [], ◌∷◌, ◌++◌, map, length, drop, replicate, refl, ap, ◌∙◌, append_assoc, arith, length-drop, drop_at, eq-eqb, ne_eqb}
 use native.Mathlib.Decide.{dec_lt}
 use Rattle.document.specs.Tags.{Shown}
-use Rattle.document.specs.Rows.{Row, Warning, row_words_lem, row_text, words_from, warned}
+use Rattle.document.specs.Rows.{Row, Warning, row_words, row_text, words_from, warned}
 use Rattle.document.specs.Reading as reading
-use Rattle.document.specs.Whole.{verdict_of, rows_left_lem, warnings_left}
+use Rattle.document.specs.Whole.{verdict_of, rows_left, warnings_left}
 use Rattle.rows.proofs.Words.{length_row_words}
 use Rattle.sheets.specs.Sheet.{Outcome, unreadable, refused, accepted, occurs, Sheet, blank, added, summed, sheet_of}
 use Rattle.sheets.specs.Answer.{firsts, outcome_of}
@@ -161,16 +160,16 @@ sheets_join os ps k = (
 
 -- ---- documents
 
-row_head : (n : ℕ) (r : Row Shown) → row_words_lem n r ≡ r.kind ∷ drop 1 (row_words_lem n r)
-unfolding row_words_lem
+row_head : (n : ℕ) (r : Row Shown) → row_words n r ≡ r.kind ∷ drop 1 (row_words n r)
+unfolding row_words
 row_head n r = refl
 
 firsts_rows : (n : ℕ) (rs : List (Row Shown)) (z : List ℕ) → firsts 16 (length rs) (words_from n rs ++ z) ≡ map (λ (r : Row Shown). r.kind) rs
 firsts_rows n [] z = refl
 firsts_rows n (r ∷ rs) z =
-    let w = drop 1 (row_words_lem n r) in
+    let w = drop 1 (row_words n r) in
     let m = n + length (row_text r) in
-    let l : length w ≡ 15 = omega (arith, length-drop 1 (row_words_lem n r), length_row_words n r) in
+    let l : length w ≡ 15 = omega (arith, length-drop 1 (row_words n r), length_row_words n r) in
     ap (λ (x : List ℕ). firsts 16 (suc (length rs)) ((x ++ words_from m rs) ++ z)) (row_head n r)
     ∙ ap (λ (x : List ℕ). firsts 16 (suc (length rs)) (r.kind ∷ x)) (append_assoc w (words_from m rs) z)
     ∙ ap (λ (x : List ℕ). r.kind ∷ firsts 16 (length rs) x) (drop_at w (words_from m rs ++ z) 15 l)
@@ -182,7 +181,7 @@ firsts_warnings (w ∷ ws) z = ap (λ (x : List ℕ). w.reason ∷ x) (firsts_wa
 
 -- the outcome of a state
 abbrev state_outcome : reading.State Shown → Outcome
-state_outcome s = outcome_of (verdict_of s) (rows_left_lem program_room s) (warnings_left program_room s)
+state_outcome s = outcome_of (verdict_of s) (rows_left program_room s) (warnings_left program_room s)
 
 pub document_accepted : DocumentAccepted
 unfolding document_outcome

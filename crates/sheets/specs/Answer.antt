@@ -1,5 +1,4 @@
 -- The outcome of a file, of what the reader answers and leaves: word 0 of a row is its kind, word 0 of a warning its reason.
--- Assumes nothing.
 use Rattle.std.specs.Prelude.{ℕ, zero, suc, ◌-◌, List, [], ◌∷◌, drop, Ok, Err}
 use Rattle.document.specs.Verdict.{Verdict}
 use Rattle.sheets.specs.Sheet.{Outcome, refused, accepted}

@@ -1,5 +1,4 @@
 -- Worked values: what is printed of the listing program's document, of refused and unreadable files, and of more than 512 names; lists of names.
--- Assumes nothing.
 use Rattle.std.specs.Prelude.{◌≡◌, ℕ, true, false, List, [], ◌∷◌, ◌++◌, replicate, refl}
 use Rattle.slices.specs.Bytes.{bytes}
 use Rattle.sheets.specs.Sheet.{Outcome, unreadable, refused, accepted}

@@ -1,5 +1,4 @@
 -- What the functions say: counts stand for a sheet.
--- Assumes nothing.
 use Rattle.std.specs.Prelude.{◌≡◌, ℕ, ◌+◌, ◌*◌, ◌^◌, ◌<◌, ◌≤◌, List, slice_index}
 use Rattle.sheets.specs.declared.Counts.{Counts}
 use Rattle.sheets.specs.Sheet.{Outcome, occurs, Sheet, added}

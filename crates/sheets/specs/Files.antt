@@ -1,8 +1,7 @@
 -- What came of names (docs/FORMAT.md, Sheets, The sheet program): of the document that was read of a file, of a file, of a name, of a list.
--- Assumes nothing.
 use Rattle.std.specs.Prelude.{◌≡◌, ℕ, ◌≤◌, Bool, List, [], ◌∷◌, length, take, nat_lt}
 use Rattle.slices.specs.Bytes.{if}
-use Rattle.document.specs.Whole.{Room, verdict_of, rows_left_lem, warnings_left}
+use Rattle.document.specs.Whole.{Room, verdict_of, rows_left, warnings_left}
 use Rattle.files.specs.Files.{read_file}
 use Rattle.sheets.specs.declared.Counts.{Counts}
 use Rattle.sheets.specs.Sheet.{Outcome, unreadable, refused, blank, sheet_of}
@@ -22,7 +21,7 @@ program_decoded = 65536
 unfoldable pub document_outcome : List ℕ → Outcome
 document_outcome raw =
     let s = read_file raw program_room program_decoded in
-    outcome_of (verdict_of s) (rows_left_lem program_room s) (warnings_left program_room s)
+    outcome_of (verdict_of s) (rows_left program_room s) (warnings_left program_room s)
 
 -- opening or reading failed, or so many bytes were read, of which more than 65,536 are over_long
 unfoldable pub file_outcome : Bool → List ℕ → Outcome

@@ -1,5 +1,4 @@
 -- Sheets: what comes of files, added up; the names of a list; the lines printed.
--- Assumes nothing.
 pub mod Sheet
 pub mod Answer
 pub mod Names

@@ -1,5 +1,4 @@
 -- The lines printed of a sheet (docs/FORMAT.md, Sheets), as bytes.
--- Assumes nothing.
 use Rattle.std.specs.Prelude.{ℕ, zero, suc, ◌+◌, ◌/◌, ◌%◌, Bool, List, [], ◌∷◌, ◌++◌, length, ◌==◌, nat_lt}
 use Rattle.slices.specs.Bytes.{if, bytes}
 use Rattle.sheets.specs.Sheet.{Sheet, Outcome, sheet_of}

@@ -1,5 +1,4 @@
 -- The names of a list of files, and which of them are opened (docs/FORMAT.md, Sheets).
--- Assumes nothing.
 use Rattle.std.specs.Prelude.{ℕ, Bool, ◌&&◌, List, [], ◌∷◌, length, take, ◌==◌, nat_le, nat_lt}
 use Rattle.slices.specs.Bytes.{if, other, span, all, empty}
 

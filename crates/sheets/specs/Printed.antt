@@ -1,5 +1,4 @@
 -- What the functions that put lines into a buffer say.
--- Assumes nothing.
 use Rattle.std.specs.Prelude.{◌≡◌, ℕ, ◌+◌, ◌≤◌, Bool, List, [], ◌∷◌, ◌++◌, take, slice_index}
 use Rattle.answers.specs.Puts.{Puts}
 use Rattle.sheets.specs.declared.Counts.{Counts}
@@ -16,8 +15,8 @@ pub record PutsFew (most : ℕ) (ys : List ℕ) (n : ℕ) (before after : List �
 abbrev pub files_of : Counts → List ℕ
 files_of c = decimal c.accepted ++ (spaced c.refused ++ (spaced c.unreadable ++ (10 ∷ [])))
 
-abbrev pub all_lines_lem : Counts → List ℕ
-all_lines_lem c = lines_by 114 (slice_index c.numbers) ++ (lines_by 107 (slice_index c.kinds) ++ lines_by 119 (slice_index c.reasons))
+abbrev pub all_lines : Counts → List ℕ
+all_lines c = lines_by 114 (slice_index c.numbers) ++ (lines_by 107 (slice_index c.kinds) ++ lines_by 119 (slice_index c.reasons))
 
 -- the lines of the sheet that the counts stand for are at the start of the buffer, r bytes
 pub record Prints (c : Counts) (more : Bool) (after : List ℕ) (r : ℕ) : Type 0 where

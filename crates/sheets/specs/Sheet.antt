@@ -1,5 +1,4 @@
 -- What comes of files, and their sheet (docs/FORMAT.md, Sheets): a fold of one file's outcome after the other.
--- Assumes nothing.
 use Rattle.std.specs.Prelude.{ℕ, suc, ◌+◌, List, [], ◌∷◌, ◌==◌}
 use Rattle.slices.specs.Bytes.{if}
 

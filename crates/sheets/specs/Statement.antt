@@ -1,5 +1,4 @@
 -- What holds of every sheet, and what a file's outcome is in the terms of what was read.
--- Assumes nothing.
 use Rattle.std.specs.Prelude.{◌≡◌, ℕ, zero, suc, ◌+◌, ◌<◌, List, [], ◌∷◌, ◌++◌, map, length}
 use Rattle.document.specs.Tags.{Shown}
 use Rattle.document.specs.Rows.{Row, Warning, Tables}

@@ -1,7 +1,7 @@
 // The lines of a sheet, put into a lent buffer.
 ghost use Rattle.std.specs.Prelude.{◌≡◌, ◌+◌, ◌^◌, ◌<◌, ◌≤◌, length, take, slice_index};
 ghost use Rattle.sheets.specs.Lines.{decimal, spaced, count_line, lines_by, more_line, long_line};
-ghost use Rattle.sheets.specs.Printed.{PutsFew, files_of, all_lines_lem, Prints};
+ghost use Rattle.sheets.specs.Printed.{PutsFew, files_of, all_lines, Prints};
 
 use super::Counts;
 
@@ -75,10 +75,10 @@ fn put_more(out: &mut [u8], n: usize, more: bool) -> usize
 }
 
 // Puts the lines by number, kind and reason.
-#[tactic(auto, using(crate::proofs::Lining::all_lines))]
+#[tactic(auto, using(crate::proofs::Lining::puts_all))]
 fn put_all_lines(out: &mut [u8], n: usize, counts: &Counts) -> usize
     requires { n + 8192 < 2 ^ 40 }
-    ensures { PutsFew 2304 (all_lines_lem counts.now) n out.old out.new result }
+    ensures { PutsFew 2304 (all_lines counts.now) n out.old out.new result }
 {
     let a = put_lines(out, n, b'r', &counts.numbers);
     let b = put_lines(out, a, b'k', &counts.kinds);

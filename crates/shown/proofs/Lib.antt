@@ -1,3 +1,2 @@
 -- The laws of tests on the text that a value shows.
--- Assumes nothing.
 pub mod Tests

@@ -1,5 +1,4 @@
 -- Tests on the text that a value shows: in the document, or in a buffer of 256 bytes; a longer text fails each of them.
--- Assumes nothing.
 use Prim.Native.Nat.{ℕ, ◌≤◌, ◌<◌}
 use mathlib.Core.Path.{◌≡◌, refl, sym, ap, ◌∙◌}
 use mathlib.Core.Logic.{inl, inr, ⊎_elim}

@@ -1,3 +1,2 @@
 -- What the tests on the text that a value shows say.
--- Assumes nothing.
 pub mod Outcome

@@ -1,5 +1,4 @@
 -- A docstring: its trimmed content in the rows, and the ways of its element.
--- Assumes nothing.
 use Prim.Native.Nat.{ℕ, ◌+◌, ◌-◌, ◌≤◌, ◌<◌}
 use mathlib.Core.Path.{◌≡◌, refl, sym, ◌∙◌, ap}
 use mathlib.Core.List.{List, [], ◌∷◌}
@@ -75,8 +74,8 @@ module _ {doc : List ℕ} {from lt i : ℕ} {s : Trimmed} (t : Trims (take (lt -
 pub ruleset capturing = (start_wide, start_fits, length_fits, capture_some, capture_none, rules)
 
 -- rows before i are left alone
-rows-kept : (content : List ℕ) (s i : ℕ) (u : Tables Shown) → take i (captured content s i u).rows ≡ take i u.rows
-rows-kept content s i u = go (ltb (trim_start content) (trim_end content))
+take_captured : (content : List ℕ) (s i : ℕ) (u : Tables Shown) → take i (captured content s i u).rows ≡ take i u.rows
+take_captured content s i u = go (ltb (trim_start content) (trim_end content))
   where
     go : (b : Bool) → take i (if b (record { rows = documented i (record { start = s + trim_start content; len = trim_end content - trim_start content }) u.rows; warnings = u.warnings }) u).rows ≡ take i u.rows
     go true = take_documented (record { start = s + trim_start content; len = trim_end content - trim_start content }) i i u.rows (omega arith)
@@ -136,7 +135,7 @@ module _ {doc : List ℕ} {c : StartTag} {f : Fill} (r : Ready doc c f) where
           captured (take (q.lt - c.end) (drop c.end doc)) c.end i u,
           moved_stands q.end (p.stands u f w bytes (omega (arith, s.many)) s),
           opens i t fs u z ∙ closes.leads (captures c.end i) [] fs u refl,
-          rows-kept (take (q.lt - c.end) (drop c.end doc)) c.end i u,
+          take_captured (take (q.lt - c.end) (drop c.end doc)) c.end i u,
         );
       }
 

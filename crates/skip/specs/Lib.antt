@@ -1,3 +1,2 @@
 -- What reading a docstring's content says.
--- Assumes nothing.
 pub mod Outcome

@@ -1,5 +1,4 @@
 -- What putting a docstring's trimmed content into the rows says.
--- Assumes nothing.
 use Rattle.std.specs.Prelude.{ℕ, ◌-◌, ◌<◌, List, length, take, drop}
 use Rattle.document.specs.Tags.{Shown}
 use Rattle.document.specs.Rows.{Tables}

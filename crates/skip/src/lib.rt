@@ -13,7 +13,7 @@ use tags::step;
 
 // Passes over the rest of an element whose name stands at a place. `depth`: how many of the skipped elements are open, this one among them.
 #[tactic(auto, using(crate::proofs::Passing::deep))]
-pub fn skip_element(
+fn skip_element(
     doc: &[u8],
     classes: &ClassTable,
     from: usize,
@@ -86,7 +86,7 @@ fn capture(doc: &[u8], rows: &mut [u32], from: usize, lt: usize, i: usize)
 
 // A docstring for row i.
 #[tactic(auto, using(crate::proofs::Captured::documents))]
-pub fn docstring(
+fn docstring(
     doc: &[u8],
     classes: &ClassTable,
     rows: &mut [u32],

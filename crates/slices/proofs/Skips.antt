@@ -1,5 +1,4 @@
 -- Laws of looking for a byte by blocks.
--- Assumes nothing.
 use Rattle.std.proofs.Common.{◌≡◌, ℕ, zero, suc, ◌+◌, ◌-◌, ◌*◌, ◌<◌, ◌≤◌, Bool, true, false, T, List, length, get_or, sym, refl, ap, ◌∙◌, subst, arith, rules}
 use native.Mathlib.Decide.{dec_lt}
 use Rattle.slices.specs.Bytes.{other}

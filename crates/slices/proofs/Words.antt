@@ -1,5 +1,4 @@
 -- Laws of 8 bytes taken as one number: the trailing zeros of a mask count the bytes before the first that is below a bound.
--- Assumes nothing.
 use Rattle.std.proofs.Common.{◌≡◌, ℕ, zero, suc, ◌+◌, ◌-◌, ◌*◌, ◌/◌, ◌%◌, ◌^◌, ◌<◌, ◌≤◌, Bool, true, ◌⊎◌, List, length, get_or, take, drop, sym, refl, ap, ◌∙◌, subst, inl, inr, add-zero, suc-add, zero-add, mul-one, arith, length-drop, take_all, w64, Fits, rules}
 use native.Mathlib.Nat.{mul-add-mod_self_right}
 use native.Mathlib.Decide.{dec_lt}
@@ -16,8 +15,8 @@ word_sum : (f : ℕ → ℕ) → f 0 + f 1 * 256 + f 2 * 65536 + f 3 * 16777216 
 unfolding word_of
 word_sum f = omega arith
 
-pub word_of_lem : {s : List ℕ} {at a b c d e f g h : ℕ} → Byte s at a → Byte s (at + 1) b → Byte s (at + 2) c → Byte s (at + 3) d → Byte s (at + 4) e → Byte s (at + 5) f → Byte s (at + 6) g → Byte s (at + 7) h → Word s at (a + b * 256 + c * 65536 + d * 16777216 + e * 4294967296 + f * 1099511627776 + g * 281474976710656 + h * 72057594037927936)
-word_of_lem {s} {at} b₀ b₁ b₂ b₃ b₄ b₅ b₆ b₇ = record { value = omega (arith, ap (λ i. get_or s i 0) (add-zero at), word_sum (λ i. get_or s (at + i) 0)); bytes = b₀.bytes }
+pub word_from_bytes : {s : List ℕ} {at a b c d e f g h : ℕ} → Byte s at a → Byte s (at + 1) b → Byte s (at + 2) c → Byte s (at + 3) d → Byte s (at + 4) e → Byte s (at + 5) f → Byte s (at + 6) g → Byte s (at + 7) h → Word s at (a + b * 256 + c * 65536 + d * 16777216 + e * 4294967296 + f * 1099511627776 + g * 281474976710656 + h * 72057594037927936)
+word_from_bytes {s} {at} b₀ b₁ b₂ b₃ b₄ b₅ b₆ b₇ = record { value = omega (arith, ap (λ i. get_or s i 0) (add-zero at), word_sum (λ i. get_or s (at + i) 0)); bytes = b₀.bytes }
 
 -- ---- trailing zeros, 8 at a time
 
@@ -223,7 +222,7 @@ agrees_rest {a} {b} {r} {t} e g h =
     let m : starts b a ≡ starts (drop r b) (drop (0 + r) a) = (agreeing a b r g.within e g.bytes).left in
     same_long a b t e (h ∙ rw (all_left a r, all_left b r) (sym (rw z at m)))
 
-pub ruleset worded = (word_of_lem, zeros_fit, lead_word, below_of, equal_of, rules)
+pub ruleset worded = (word_from_bytes, zeros_fit, lead_word, below_of, equal_of, rules)
 
 -- what answers every need of a comparison by words
 pub ruleset agrees = (agrees_rest, same_short, rules)

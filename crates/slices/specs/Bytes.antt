@@ -1,5 +1,4 @@
 -- Lists of bytes: texts, runs of a class, equal lists and beginnings.
--- Assumes nothing.
 use Rattle.std.specs.Prelude.{ℕ, Bool, true, false, not, List, [], ◌∷◌, ◌==◌}
 use Prim.Native.Char.{code}
 use Prim.Native.String as string

@@ -1,5 +1,4 @@
 -- The hash of bytes. Nothing is asked of it but that equal bytes have equal hashes.
--- Assumes nothing.
 use Rattle.std.specs.Prelude.{◌≡◌, ℕ, ◌+◌, ◌*◌, ◌%◌, List, [], ◌∷◌}
 
 -- byte by byte, modulo 2^32

@@ -1,5 +1,4 @@
 -- The words on lists of bytes that the other definitions are written in.
--- Assumes nothing.
 pub mod Bytes
 pub mod Run
 pub mod Word

@@ -1,5 +1,4 @@
 -- What a loop over a run of bytes says: where the run ends.
--- Assumes nothing.
 use Rattle.std.specs.Prelude.{◌≡◌, ℕ, ◌+◌, ◌<◌, ◌≤◌, Bool, true, false, List, length, drop, ◌≢◌, slice_index}
 use Rattle.slices.specs.Bytes.{span}
 

@@ -1,5 +1,4 @@
 -- Bytes as one number, and where among 8 bytes the first of a kind stands.
--- Assumes nothing.
 use Rattle.std.specs.Prelude.{◌≡◌, ℕ, zero, suc, ◌+◌, ◌*◌, ◌<◌, ◌≤◌, List, length, ◌≢◌, slice_index}
 
 -- the number of k bytes, the first the lowest

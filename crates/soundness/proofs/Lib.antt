@@ -1,5 +1,4 @@
 -- Laws of the check of sound rows.
--- Assumes nothing.
 pub mod Known
 pub mod Triples
 pub mod Definitions

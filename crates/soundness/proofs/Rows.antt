@@ -1,5 +1,4 @@
 -- Rows: their places, their texts, and the first bad one.
--- Assumes nothing.
 use Prim.Native.Nat.{ℕ, zero, suc, ◌+◌, ◌*◌, ◌-◌, ◌/◌, ◌≤◌, ◌<◌}
 use mathlib.Core.Path.{◌≡◌, refl, ap, sym, ◌∙◌}
 use mathlib.Core.List.{List, []}
@@ -26,7 +25,7 @@ use Rattle.utf8.proofs.Parts.{start_none}
 use Rattle.items.specs.Words.{RowWords, word_at, Word, triple_at, TripleIs, row_of, rows_of}
 use Rattle.items.specs.Sound.{kind_at, placed, good_triple, name_use, value_use, tp_use, doc_use, valid_name, valid_value, any_text, in_document, valid_word, sound_row, first_bad, Soundness, sound, unsound, soundness, good_row}
 use Rattle.items.specs.Order.{DocumentOrder}
-use Rattle.items.proofs.Rows.{row-at, rows_past, kind_at_lem}
+use Rattle.items.proofs.Rows.{row-at, rows_past, kind_word}
 use Rattle.items.proofs.Words.{word_in}
 use Rattle.soundness.specs.Outcome.{good_doc, good_texts, Placed, Texts, RowGood, Orders, Counted, Tallied, ByTally, Prepared, RowSound, FirstBad, Judges, refusal_of, admission, Admits}
 use Rattle.soundness.specs.declared.tally.Tally.{Tally}
@@ -67,7 +66,7 @@ module _ {ws : List ℕ} {i k p : ℕ} (a : Word ws i 0 k) (g : Word ws i 1 p) w
       parent_holds {m = m} e w q =
           let f : m ≡ get_or ws ((p - 1) * 16) 0 = w.is ∙ rw add-zero in
           record {
-            is = λ n l. q ∙ sym (inner h n ∙ rw (lt-ltb 0 p (omega arith), le-leb p i (omega arith), kind_at_lem n (p - 1) ws (omega arith), ← f));
+            is = λ n l. q ∙ sym (inner h n ∙ rw (lt-ltb 0 p (omega arith), le-leb p i (omega arith), kind_word n (p - 1) ws (omega arith), ← f));
           }
 
 pub ruleset places = (root_kind, root_parent, no_parent, late_parent, parent_holds, rules)

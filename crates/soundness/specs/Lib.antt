@@ -1,3 +1,2 @@
 -- What the check of sound rows says.
--- Assumes nothing.
 pub mod Outcome

@@ -180,12 +180,7 @@ fn first_bad(table: &Table) -> Result<(), usize>
 
 // Whether the first `claimed` rows of a table are sound; if not, the place of refusal 19.
 #[tactic(auto, using(crate::proofs::Rows::judges))]
-pub fn check<'a>(
-    document: &'a [u8],
-    text: &'a [u8],
-    rows: &[u32],
-    claimed: usize,
-) -> Result<(), usize>
+fn check<'a>(document: &'a [u8], text: &'a [u8], rows: &[u32], claimed: usize) -> Result<(), usize>
     ensures { Judges document.now text.now rows.now claimed result }
 {
     if 262144 < claimed {

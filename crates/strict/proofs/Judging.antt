@@ -1,5 +1,4 @@
 -- The strict entry: what it says, on each of its ways.
--- Assumes nothing.
 use Prim.Native.Nat.{ℕ, ◌-◌, ◌≤◌}
 use mathlib.Core.Path.{◌≡◌, refl, sym, ◌∙◌}
 use mathlib.Core.List.{List}
@@ -16,7 +15,7 @@ use Rattle.document.specs.Tags.{Shown}
 use Rattle.document.specs.Rows.{Tables}
 use Rattle.document.specs.Refusals.{bare}
 use Rattle.document.specs.Reading.{State, begun, reading, accepted, refused}
-use Rattle.document.specs.Whole.{Room, read, verdict_of, rows_left_lem, warnings_left, text_left, Says}
+use Rattle.document.specs.Whole.{Room, read, verdict_of, rows_left, warnings_left, text_left, Says}
 use Rattle.document.specs.declared.Refusal.{Refusal}
 use Rattle.document.specs.Verdict.{Verdict}
 use Rattle.document.specs.declared.Counts.{Counts}
@@ -25,23 +24,11 @@ use Rattle.files.specs.declared.Reading.{Reading}
 use Rattle.files.proofs.Promises.{read_as_document, accepted_document}
 use Rattle.accepted.proofs.Folding.{meaning_accepts}
 use Rattle.accepted.proofs.Accepted.{read_accepts}
-use Rattle.reader.specs.Entry.{Refuses}
 use Rattle.breaches.specs.Least.{least}
 use Rattle.breaches.specs.Breaches.{breaches}
 use Rattle.breaches.specs.Outcome as breach
 use Rattle.strict.specs.Strict.{judged, strict, strict_text, strict_file, ReadsStrictly}
 use Rattle.strict.specs.Entry.{IsJudged, Judges}
-
--- ---- a document that is accepted
-
-module _ {doc : List ℕ} {k : Counts} {r ws ts : List ℕ} {b : Option ℕ} (e : b ≡ least (breaches doc)) where
-  pub judges_none : b ≡ None → Judges doc k r r ws ws ts ts (Ok k)
-  judges_none f = record { is = rw (sym e ∙ f) (refl, refl, refl, refl) }
-
-  pub judges_some : {p : ℕ} {x : Refusal} {r' ws' ts' : List ℕ} {v : Verdict} → b ≡ Some p → x ≡ bare 29 p → Refuses x r r' ws ws' ts ts' v → Judges doc k r r' ws ws' ts ts' v
-  judges_some f g z = record { is = rw (sym e ∙ f) (rw g at z) }
-
-pub ruleset judging = (judges_none, judges_some, rules)
 
 -- ---- the document of a file
 
@@ -64,9 +51,9 @@ refuses (refused y) b e = refl
 -- the answer and the buffers by the profile
 record Strictly (doc : List ℕ) (room : Room) (rows warnings text : List ℕ) (v : Verdict) : Type 0 where
   verdict : v ≡ verdict_of (strict doc room)
-  rows_left : rows ≡ rows_left_lem room (strict doc room)
-  warnings_left_lem : warnings ≡ warnings_left room (strict doc room)
-  text_left_lem : text ≡ text_left room (strict doc room)
+  of_rows : rows ≡ rows_left room (strict doc room)
+  of_warnings : warnings ≡ warnings_left room (strict doc room)
+  of_text : text ≡ text_left room (strict doc room)
 
 module _ {doc rows warnings text : List ℕ} {room : Room} {k : Counts} (s : Says doc room rows warnings text (Ok k)) where
   says_accepted : breach.Accepted doc
@@ -86,18 +73,18 @@ module _ {doc rows warnings text : List ℕ} {room : Room} {k : Counts} (s : Say
           let k : strict doc room ≡ read doc room = rw (u.1, f) in
           record {
             verdict = i.0 ∙ s.verdict ∙ rw k;
-            rows_left = i.1 ∙ s.rows_left ∙ rw k;
-            warnings_left_lem = i.2 ∙ s.warnings_left_lem ∙ rw k;
-            text_left_lem = i.3 ∙ s.text_left_lem ∙ rw k;
+            of_rows = i.1 ∙ s.of_rows ∙ rw k;
+            of_warnings = i.2 ∙ s.of_warnings ∙ rw k;
+            of_text = i.3 ∙ s.of_text ∙ rw k;
           }
       go (Some p) f i =
           let u = accepts doc room s.verdict in
           let q : strict doc room ≡ refused (bare 29 p) = rw (u.1, f) in
           record {
             verdict = i.verdict ∙ rw q;
-            rows_left = i.rows_left ∙ rw (q, a);
-            warnings_left_lem = i.warnings_left_lem ∙ rw (q, b);
-            text_left_lem = i.text_left_lem ∙ rw (q, c);
+            of_rows = i.of_rows ∙ rw (q, a);
+            of_warnings = i.of_warnings ∙ rw (q, b);
+            of_text = i.of_text ∙ rw (q, c);
           }
 
 -- ---- the entry
@@ -128,15 +115,15 @@ module _ {raw rows warnings x decoded : List ℕ} {room : Room} {dr : ℕ} {r : 
       let k = refused_file raw room dr (sym e ∙ s.verdict) in
       record {
         verdict = sym e ∙ s.verdict ∙ rw k;
-        rows_left = s.rows_left ∙ rw k;
-        warnings_left_lem = s.warnings_left_lem ∙ rw k;
-        text_left_lem = s.text_left_lem ∙ rw k;
-        decoded_left = s.decoded_left;
+        of_rows = s.of_rows ∙ rw k;
+        of_warnings = s.of_warnings ∙ rw k;
+        of_text = s.of_text ∙ rw k;
+        of_decoded = s.of_decoded;
         length = s.length;
       }
 
   pub file_inside : r.decoded ≤ length decoded
-  file_inside = rw (s.length, s.decoded_left) (decoded_fits raw dr)
+  file_inside = rw (s.length, s.of_decoded) (decoded_fits raw dr)
 
   module _ {k : Counts} (e : r.verdict ≡ Ok k) where
     abbrev document : List ℕ
@@ -154,10 +141,10 @@ module _ {raw rows warnings x decoded : List ℕ} {room : Room} {dr : ℕ} {r : 
         let k = says_judged says j a b c in
         record {
           verdict = rw is_document k.verdict;
-          rows_left = rw is_document k.rows_left;
-          warnings_left_lem = rw is_document k.warnings_left_lem;
-          text_left_lem = rw is_document k.text_left_lem;
-          decoded_left = s.decoded_left;
+          of_rows = rw is_document k.of_rows;
+          of_warnings = rw is_document k.of_warnings;
+          of_text = rw is_document k.of_text;
+          of_decoded = s.of_decoded;
           length = s.length;
         }
 

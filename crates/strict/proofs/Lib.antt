@@ -1,4 +1,3 @@
 -- The laws that the proofs cite, and the theorems.
--- Assumes nothing.
 pub mod Judging
 pub mod Promised

@@ -1,5 +1,4 @@
 -- The theorems of specs/Promises.antt.
--- Assumes nothing.
 use Prim.Native.Nat.{ℕ, min, ◌≤◌, ◌<◌}
 use mathlib.Core.Path.{◌≡◌, refl, ap, sym, subst, ◌∙◌}
 use mathlib.Core.List.{List, [], ◌∷◌}
@@ -18,7 +17,7 @@ use Rattle.document.specs.Elements.{among}
 use Rattle.document.specs.Reading.{State, begun, reading, accepted, refused}
 use Rattle.document.specs.Whole.{Room, read}
 use Rattle.document.specs.declared.Refusal.{Refusal}
-use Rattle.document.proofs.Tests.{never}
+use Rattle.document.proofs.Tests.{never, among_there}
 use Rattle.files.specs.Files.{document_of, read_text, read_file}
 use Rattle.breaches.specs.Least.{lesser, least}
 use Rattle.breaches.specs.Breaches.{breaches}
@@ -38,16 +37,9 @@ none_least : (ps : List ℕ) → least ps ≡ None → ps ≡ []
 none_least [] e = refl
 none_least (p ∷ ps) e = let q = some_least p ps in let y : Some q.0 ≡ None = sym q.1 ∙ e in let z : ◌≡◌ {A = ℕ} 0 1 = cc in absurd (omega arith)
 
--- among some: the first, or one of the others
+-- among some: the first
 among_first : (p q : ℕ) (ps : List ℕ) → p ≡ q → among p (q ∷ ps) ≡ true
 among_first p q ps e = rw (eq-eqb p q e)
-
-among_later : (p q : ℕ) (ps : List ℕ) → among p ps ≡ true → among p (q ∷ ps) ≡ true
-among_later p q ps e = go (eqb p q)
-  where
-    go : (t : Bool) → if t true (among p ps) ≡ true
-    go true = refl
-    go false = e
 
 -- the least is one of them, and none is less
 record Least (q : ℕ) (ps : List ℕ) : Type 0 where
@@ -77,7 +69,7 @@ least_is (p ∷ ps) q e = go (least ps) refl e (λ r f. least_is ps r f)
         record { one = first (dec_lt s p) k l; none = λ r h. within r h (omega arith) (λ j. let m = l.none r j in omega arith) }
       where
         first : Dec (s < p) → min p s ≡ q → Least s ps → among q (p ∷ ps) ≡ true
-        first (yes h) k l = let m : q ≡ s = omega arith in subst (λ (r : ℕ). among r (p ∷ ps) ≡ true) (sym m) (among_later s p ps l.one)
+        first (yes h) k l = let m : q ≡ s = omega arith in subst (λ (r : ℕ). among r (p ∷ ps) ≡ true) (sym m) (among_there s p ps l.one)
         first (no h) k l = among_first q p ps (omega arith)
 
 -- ---- of a document
@@ -117,23 +109,23 @@ document_refused doc room x e = rw e
 
 pub accepted_has_none : AcceptedHasNone
 unfolding strict_file read_file
-accepted_has_none raw room decodedRoom t e = go (document_of raw decodedRoom) refl e
+accepted_has_none raw room decoding_room t e = go (document_of raw decoding_room) refl e
   where
-    go : (o : Text) → document_of raw decodedRoom ≡ o → strict_text o room ≡ accepted t → (doc : List ℕ) × (o ≡ text doc) × (breaches doc ≡ []) × (read_text o room ≡ accepted t)
+    go : (o : Text) → document_of raw decoding_room ≡ o → strict_text o room ≡ accepted t → (doc : List ℕ) × (o ≡ text doc) × (breaches doc ≡ []) × (read_text o room ≡ accepted t)
     go (text doc) f e = let d = document_accepted doc room t e in (doc, refl, d.0, d.1)
     go (wrong n p) f e = let z : ◌≡◌ {A = ℕ} 0 1 = cc in absurd (omega arith)
 
 pub none_is_accepted : NoneIsAccepted
 unfolding strict_file read_file
-none_is_accepted raw doc room decodedRoom t d e f = rw d (document_none doc room t (rw d at e) f)
+none_is_accepted raw doc room decoding_room t d e f = rw d (document_none doc room t (rw d at e) f)
 
 pub some_is_refused : SomeIsRefused
 unfolding strict_file read_file
-some_is_refused raw doc room decodedRoom t d e f = rw d (document_some doc room t (rw d at e) f)
+some_is_refused raw doc room decoding_room t d e f = rw d (document_some doc room t (rw d at e) f)
 
 pub refused_alike : RefusedAlike
 unfolding strict_file read_file
-refused_alike raw room decodedRoom x e = go (document_of raw decodedRoom) e
+refused_alike raw room decoding_room x e = go (document_of raw decoding_room) e
   where
     go : (o : Text) → read_text o room ≡ refused x → strict_text o room ≡ refused x
     go (text doc) e = document_refused doc room x e

@@ -1,5 +1,4 @@
 -- What the steps of the strict entry say.
--- Assumes nothing.
 use Rattle.std.specs.Prelude.{ℕ, ◌≡◌, List, Ok, Option, Some, None}
 use Rattle.document.specs.Refusals.{bare}
 use Rattle.document.specs.Verdict.{Verdict}

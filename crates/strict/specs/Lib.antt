@@ -1,5 +1,4 @@
 -- The strict profile: what reading by it comes to, and what is promised of it.
--- Assumes nothing.
 pub mod Strict
 pub mod Entry
 pub mod Promises

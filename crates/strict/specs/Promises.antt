@@ -1,5 +1,4 @@
 -- What is promised of the strict profile: the theorems that proofs/Promised.antt proves.
--- Assumes nothing.
 use Rattle.std.specs.Prelude.{ℕ, ◌≤◌, ◌≡◌, List, [], true, false}
 use Rattle.slices.specs.Bytes.{empty}
 use Rattle.answers.specs.Text.{text}
@@ -17,29 +16,29 @@ use Rattle.strict.specs.Strict.{strict_file}
 -- what is accepted has no breach, and its tables are the ordinary reader's
 abbrev pub AcceptedHasNone : Type 0
 AcceptedHasNone =
-    (raw : List ℕ) (room : Room) (decodedRoom : ℕ) (t : Tables Shown) →
-    strict_file raw room decodedRoom ≡ accepted t →
-    (doc : List ℕ) × (document_of raw decodedRoom ≡ text doc) × (breaches doc ≡ []) × (read_file raw room decodedRoom ≡ accepted t)
+    (raw : List ℕ) (room : Room) (decoding_room : ℕ) (t : Tables Shown) →
+    strict_file raw room decoding_room ≡ accepted t →
+    (doc : List ℕ) × (document_of raw decoding_room ≡ text doc) × (breaches doc ≡ []) × (read_file raw room decoding_room ≡ accepted t)
 
 -- what the ordinary reader accepts and has no breach is accepted, with the same tables
 abbrev pub NoneIsAccepted : Type 0
 NoneIsAccepted =
-    (raw doc : List ℕ) (room : Room) (decodedRoom : ℕ) (t : Tables Shown) →
-    document_of raw decodedRoom ≡ text doc →
-    read_file raw room decodedRoom ≡ accepted t →
+    (raw doc : List ℕ) (room : Room) (decoding_room : ℕ) (t : Tables Shown) →
+    document_of raw decoding_room ≡ text doc →
+    read_file raw room decoding_room ≡ accepted t →
     breaches doc ≡ [] →
-    strict_file raw room decodedRoom ≡ accepted t
+    strict_file raw room decoding_room ≡ accepted t
 
 -- what the ordinary reader accepts and has a breach is refused by 29, at a breach with none before it
 abbrev pub SomeIsRefused : Type 0
 SomeIsRefused =
-    (raw doc : List ℕ) (room : Room) (decodedRoom : ℕ) (t : Tables Shown) →
-    document_of raw decodedRoom ≡ text doc →
-    read_file raw room decodedRoom ≡ accepted t →
+    (raw doc : List ℕ) (room : Room) (decoding_room : ℕ) (t : Tables Shown) →
+    document_of raw decoding_room ≡ text doc →
+    read_file raw room decoding_room ≡ accepted t →
     empty (breaches doc) ≡ false →
-    (p : ℕ) × (strict_file raw room decodedRoom ≡ refused (bare 29 p)) × (among p (breaches doc) ≡ true) × ((q : ℕ) → among q (breaches doc) ≡ true → p ≤ q)
+    (p : ℕ) × (strict_file raw room decoding_room ≡ refused (bare 29 p)) × (among p (breaches doc) ≡ true) × ((q : ℕ) → among q (breaches doc) ≡ true → p ≤ q)
 
 -- what the ordinary reader refuses is refused alike
 abbrev pub RefusedAlike : Type 0
 RefusedAlike =
-    (raw : List ℕ) (room : Room) (decodedRoom : ℕ) (x : Refusal) → read_file raw room decodedRoom ≡ refused x → strict_file raw room decodedRoom ≡ refused x
+    (raw : List ℕ) (room : Room) (decoding_room : ℕ) (x : Refusal) → read_file raw room decoding_room ≡ refused x → strict_file raw room decoding_room ≡ refused x

@@ -1,13 +1,12 @@
 -- Reading by the strict profile (docs/FORMAT.md, The strict profile): a file is read as ever, and one that is accepted and whose document has a
 -- breach is refused by 29 at the least.
--- Assumes nothing.
 use Rattle.std.specs.Prelude.{ℕ, ◌≡◌, List, Option, Some, None}
 use Rattle.answers.specs.Text.{Text, text, wrong}
 use Rattle.utf16.specs.Entry.{left}
 use Rattle.document.specs.Tags.{Shown}
 use Rattle.document.specs.Refusals.{bare}
 use Rattle.document.specs.Reading.{State, begun, reading, accepted, refused}
-use Rattle.document.specs.Whole.{Room, read, verdict_of, rows_left_lem, warnings_left, text_left}
+use Rattle.document.specs.Whole.{Room, read, verdict_of, rows_left, warnings_left, text_left}
 use Rattle.files.specs.Files.{document_of, decoded_length}
 use Rattle.files.specs.declared.Reading.{Reading}
 use Rattle.breaches.specs.Least.{least}
@@ -33,10 +32,10 @@ unfoldable pub strict_file : List ℕ → Room → ℕ → State Shown
 strict_file raw r room = strict_text (document_of raw room) r
 
 -- what reading a file by the profile answers, and what it leaves in the buffers: after 29, too, the decoded text stands
-pub record ReadsStrictly (raw : List ℕ) (room : Room) (decodedRoom : ℕ) (rows warnings text decoded : List ℕ) (r : Reading) : Type 0 where
-  pub verdict : r.verdict ≡ verdict_of (strict_file raw room decodedRoom)
-  pub rows_left : rows ≡ rows_left_lem room (strict_file raw room decodedRoom)
-  pub warnings_left_lem : warnings ≡ warnings_left room (strict_file raw room decodedRoom)
-  pub text_left_lem : text ≡ text_left room (strict_file raw room decodedRoom)
-  pub decoded_left : decoded ≡ left raw decodedRoom
-  pub length : r.decoded ≡ decoded_length raw decodedRoom
+pub record ReadsStrictly (raw : List ℕ) (room : Room) (decoding_room : ℕ) (rows warnings text decoded : List ℕ) (r : Reading) : Type 0 where
+  pub verdict : r.verdict ≡ verdict_of (strict_file raw room decoding_room)
+  pub of_rows : rows ≡ rows_left room (strict_file raw room decoding_room)
+  pub of_warnings : warnings ≡ warnings_left room (strict_file raw room decoding_room)
+  pub of_text : text ≡ text_left room (strict_file raw room decoding_room)
+  pub of_decoded : decoded ≡ left raw decoding_room
+  pub length : r.decoded ≡ decoded_length raw decoding_room

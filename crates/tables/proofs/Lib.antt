@@ -1,4 +1,3 @@
 -- The laws on tables and on triples.
--- Assumes nothing.
 pub mod Tables
 pub mod Triples

@@ -1,5 +1,4 @@
 -- Triples: whether one is inside, and the part that it shows.
--- Assumes nothing.
 use Prim.Native.Nat.{ℕ, ◌+◌, ◌-◌, ◌≤◌}
 use native.Mathlib.Nat.{add_comm, add-zero, add-sub_cancel_left}
 use mathlib.Core.Path.{◌≡◌, sym, ◌∙◌}

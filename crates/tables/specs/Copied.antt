@@ -1,5 +1,4 @@
 -- What storing words from a place on says.
--- Assumes nothing.
 use Rattle.std.specs.Prelude.{ℕ, ◌≡◌, List}
 use Rattle.std.proofs.lemmas.List.Edits.{sets}
 

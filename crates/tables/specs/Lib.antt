@@ -1,5 +1,4 @@
 -- The tables that a caller lends: what they hold while they are filled, and the triples that their rows are made of.
--- Assumes nothing.
 pub mod Table
 pub mod Copied
 pub mod Triple

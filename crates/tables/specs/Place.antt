@@ -1,5 +1,4 @@
 -- A triple that is inside its buffer, and where the bytes that a triple shows lie.
--- Assumes nothing.
 use Rattle.std.specs.Prelude.{ℕ, ◌+◌, ◌≡◌, List, true, eqb}
 use Rattle.slices.specs.Bytes.{if}
 use Rattle.tables.specs.Triple.{inside}

@@ -1,6 +1,5 @@
 -- A lent table of rows of w words: it stands for a list, of which the rows that have room whole are in it.
 -- w is 16 for rows, 4 for warnings, 1 for text.
--- Assumes nothing.
 use Rattle.std.specs.Prelude.{ℕ, zero, suc, ◌+◌, ◌*◌, ◌/◌, ◌<◌, ◌≡◌, List, [], ◌∷◌, ◌++◌, length, get_or}
 use Rattle.std.proofs.lemmas.List.Edits.{sets}
 

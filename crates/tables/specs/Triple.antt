@@ -1,5 +1,4 @@
 -- Triples: source, start, length. Source 1 is the document, 2 the text buffer.
--- Assumes nothing.
 use Rattle.std.specs.Prelude.{ℕ, ◌+◌, List, Bool, ◌&&◌, ◌||◌, eqb, leb, length, take, drop}
 use Rattle.slices.specs.Bytes.{if}
 use Rattle.tables.specs.declared.Triple.{Triple}

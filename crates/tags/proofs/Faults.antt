@@ -1,5 +1,4 @@
 -- Faults: what the refusal of a fault shows, by its number; and the token of a fault whose message shows nothing.
--- Assumes nothing.
 use Prim.Native.Nat.{ℕ, suc, ◌+◌, ◌-◌}
 use mathlib.Core.Path.{◌≡◌, refl, ◌∙◌}
 use mathlib.Core.List.{List, [], ◌∷◌}

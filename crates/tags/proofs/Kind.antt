@@ -1,12 +1,10 @@
 -- The kind of a name: by its text, and by its local name, which follows its last colon.
--- Assumes nothing.
-use Prim.Native.Nat.{ℕ, suc, ◌-◌, ◌≤◌, ◌<◌, ◌+◌, ◌^◌}
+use Prim.Native.Nat.{ℕ, ◌-◌, ◌≤◌, ◌<◌, ◌+◌, ◌^◌}
 use mathlib.Core.Path.{◌≡◌, refl, sym, ◌∙◌, ap}
 use mathlib.Core.List.{List, [], ◌∷◌}
 use mathlib.Core.Bool.{Bool, true, false}
 use borrow.Author.Rules.{rules}
 use borrow.Author.Tests.{eqb-false}
-use native.Mathlib.Numerals.{add-one}
 use native.Mathlib.Omega.{arith}
 use lib.Dec.{eqb}
 use lib.ListN.{length, take, drop}
@@ -22,7 +20,7 @@ use Rattle.scan.specs.declared.Name.{Name}
 use Rattle.scan.proofs.Prefixes.{Within, colons_within, name_from}
 use Rattle.document.specs.Elements.{local_name, kind_of}
 use Rattle.document.specs.Prefixes.{local_start}
-use Rattle.document.proofs.Prefixes.{local_name_lem}
+use Rattle.document.proofs.Prefixes.{local_names}
 use Rattle.tags.specs.Kinds.{numbered, exact_kinds, exact_kind, local_kind}
 
 -- a listed name, and one that is not, by what a text is and is not
@@ -150,21 +148,7 @@ module _ {doc : List ℕ} {at : ℕ} {name : Name} (g : Scanned doc at name) whe
     pub local_is : take (name.end - r) (drop r doc) ≡ local_name (take (name.end - at) (drop at doc))
     local_is =
         let d : local_start at (colons_from (span name_byte (drop at doc)) at) ≡ r = sym (e ∙ ap (local_start at) g.colons) in
-        name_from g (rw e inside.0) (rw e inside.1) ∙ rw (← run_span g.run, local_name_lem (span name_byte (drop at doc)) at, d)
+        name_from g (rw e inside.0) (rw e inside.1) ∙ rw (← run_span g.run, local_names (span name_byte (drop at doc)) at, d)
 
 -- what answers every need of `kind_at`
 pub ruleset placed = (local_small, local_inside, local_is, rules)
-
--- where it begins
-module _ (at : ℕ) {c : Option Colons} where
-  pub start_absent : c ≡ None → at ≡ local_start at c
-  start_absent e = rw e
-
-  pub start_between : {q : Colons} → c ≡ Some q → q.last + 1 ≡ local_start at c
-  start_between {q} e = rw e (add-one q.last)
-
-  pub start_small : {q : Colons} → c ≡ Some q → local_start at c < 2 ^ 64 → q.last + 1 < 2 ^ 64
-  start_small {q} e h = let g : suc q.last < 2 ^ 64 = rw e at h in omega (arith, g)
-
--- what answers every need of `local_start`
-pub ruleset starts = (start_absent, start_between, start_small, rules)

@@ -1,5 +1,4 @@
 -- The laws of kinds, faults, tags, tokens and steps.
--- Assumes nothing.
 pub mod Kind
 pub mod Faults
 pub mod Parts

@@ -1,5 +1,4 @@
 -- The next token: what is ignorable ends at a `<` or at the end; a tag is a closing tag or a start tag.
--- Assumes nothing.
 use Prim.Native.Nat.{ℕ, zero, suc, ◌+◌, ◌-◌, ◌≤◌, ◌<◌}
 use mathlib.Core.Path.{◌≡◌, refl, ap, sym, ◌∙◌}
 use mathlib.Core.List.{List, [], ◌∷◌}
@@ -53,9 +52,6 @@ module _ {doc : List ℕ} {lt : ℕ} {x : tokens.Next} {r : Result ClosingTag Re
 
   pub closing_there : {c : ClosingTag} → r ≡ Ok c → TagAt doc lt x (Ok (Token.Close c))
   closing_there {c} e = rw e at t
-
--- what answers every need of `tag`
-pub ruleset ways = (tag_unended, tag_closes, tag_starts, rules)
 
 -- what is ignorable ends at a `<` or at the end
 abbrev Found : List ℕ → ℕ → ℕ → Type 0

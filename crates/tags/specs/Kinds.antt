@@ -1,5 +1,4 @@
 -- The kind of a name by a list of names.
--- Assumes nothing.
 use Rattle.std.specs.Prelude.{ℕ, List, [], ◌∷◌}
 use Rattle.slices.specs.Bytes.{if, bytes, same}
 use Rattle.document.specs.Kinds as kinds

@@ -1,5 +1,4 @@
 -- What the functions on tags say.
--- Assumes nothing.
 use Rattle.std.specs.Prelude.{ℕ, ◌+◌, ◌-◌, ◌≤◌, ◌<◌, ◌≡◌, List, length, drop, get_or, Result, Ok, Err}
 use Rattle.slices.specs.Bytes.{span, past}
 use Rattle.scan.specs.Classes.{white}

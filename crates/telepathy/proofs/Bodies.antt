@@ -1,8 +1,7 @@
 -- The content of a definition: its parts and other children, and the loop over them.
--- Assumes nothing.
 use Prim.Native.Nat.{ℕ, ◌+◌, ◌-◌, ◌≤◌, ◌<◌}
 use mathlib.Core.Path.{◌≡◌, refl, sym, ◌∙◌, ap, subst}
-use mathlib.Core.List.{List, [], ◌∷◌}
+use mathlib.Core.List.{List, ◌∷◌}
 use mathlib.Core.Bool.{Bool, true, false, not}
 use borrow.Author.Rules.{rules}
 use native.Mathlib.Numerals.{add-one}
@@ -15,7 +14,7 @@ use Rattle.document.specs.Kinds as kinds
 use Rattle.document.specs.Tags.{Shown}
 use Rattle.document.specs.Tokens.{Tag}
 use Rattle.document.specs.Rows.{Row, Tables}
-use Rattle.document.specs.Elements.{kind_of, among, held_by_lem, may_hold}
+use Rattle.document.specs.Elements.{kind_of, among, held_by, may_hold}
 use Rattle.document.specs.Reading as reading
 use Rattle.document.specs.Reading.{Name, Frame, definition, State, reading, closed, judged, child, begins, noted, one_more}
 use Rattle.document.specs.Outcome.{Lent, lent, name_at, Stands, Bounded, Ready, Steps, Begins, Others, runs, whole, moved, Keeps}
@@ -32,26 +31,6 @@ use Rattle.telepathy.specs.Outcome.{DefinitionKind, PartKind, Holds, Unseen, Mor
 use Rattle.telepathy.specs.declared.Parts.{Parts}
 use Rattle.telepathy.specs.declared.Inner.{Inner}
 use Rattle.telepathy.proofs.Sorts.{by_part, by_definition}
-
--- ---- which parts a definition holds
-
-only : (c x : ℕ) → eqb c x ≡ among c (x ∷ [])
-only c x = go (eqb c x)
-  where
-    go : (b : Bool) → b ≡ if b true false
-    go true = refl
-    go false = refl
-
-pub holds_none : {k c : ℕ} → k ≡ kinds.simple_type → Holds k c false
-holds_none e = record { is = rw e }
-
-pub holds_enumvalue : {k c : ℕ} → k ≡ kinds.enum → Holds k c (eqb c kinds.enumvalue)
-holds_enumvalue {c = c} e = record { is = rw e (only c kinds.enumvalue) }
-
-pub holds_member : {k c : ℕ} → DefinitionKind k → (k ≡ kinds.simple_type → ⊥) → (k ≡ kinds.enum → ⊥) → Holds k c (eqb c kinds.member)
-holds_member {k} {c} h n m = by_definition (λ j. (j ≡ kinds.simple_type → ⊥) → (j ≡ kinds.enum → ⊥) → Holds j c (eqb c kinds.member)) (λ x y. absurd (x refl)) (λ x y. absurd (y refl)) (λ x y. record { is = only c kinds.member }) (λ x y. record { is = only c kinds.member }) h n m
-
-pub ruleset holding = (holds_none, holds_enumvalue, holds_member, rules)
 
 -- ---- a part
 
@@ -80,7 +59,7 @@ module _ {doc : List ℕ} {c : StartTag} {i : ℕ} {f : Fill} {b b' : Lent} {a :
 
 -- what a definition holds is an enumvalue or a member
 pub held_part : {k m : ℕ} {o : Bool} → DefinitionKind k → Holds k m o → o ≡ true → PartKind m
-held_part {k} {m} d y e = by_definition (λ j. among m (held_by_lem j) ≡ true → PartKind m) (λ x. let q : ◌≡◌ {A = ℕ} 0 1 = cc in absurd (omega arith)) (λ x. record { is = first (eqb m kinds.enumvalue) (eqb m kinds.member) x }) (λ x. record { is = second (eqb m kinds.enumvalue) (eqb m kinds.member) x }) (λ x. record { is = second (eqb m kinds.enumvalue) (eqb m kinds.member) x }) d (sym y.is ∙ e)
+held_part {k} {m} d y e = by_definition (λ j. among m (held_by j) ≡ true → PartKind m) (λ x. let q : ◌≡◌ {A = ℕ} 0 1 = cc in absurd (omega arith)) (λ x. record { is = first (eqb m kinds.enumvalue) (eqb m kinds.member) x }) (λ x. record { is = second (eqb m kinds.enumvalue) (eqb m kinds.member) x }) (λ x. record { is = second (eqb m kinds.enumvalue) (eqb m kinds.member) x }) d (sym y.is ∙ e)
   where
     first : (a b : Bool) → if a true false ≡ true → if a true (if b true false) ≡ true
     first true b e = refl

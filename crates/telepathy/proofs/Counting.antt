@@ -1,21 +1,18 @@
--- One part more: whether it is complete, whether one was incomplete, whether the first one's type is basic.
--- Assumes nothing.
+-- One part more: whether one was incomplete, and whether the first one's type is basic.
 use Prim.Native.Nat.{ℕ, ◌+◌, ◌<◌}
 use mathlib.Core.Path.{◌≡◌, refl, sym, ◌∙◌, ap}
 use mathlib.Core.List.{List}
 use mathlib.Core.Option.{Option}
-use mathlib.Core.Bool.{Bool, true, false, not, ◌&&◌}
+use mathlib.Core.Bool.{Bool, true, false, not}
 use borrow.Author.Rules.{rules}
 use borrow.Author.Tests.{ne_eqb}
 use native.Mathlib.Numerals.{add-one}
 use native.Mathlib.Omega.{arith}
 use Rattle.slices.specs.Bytes.{bytes}
 use Rattle.names.specs.Signature.{basic_signature}
-use Rattle.document.specs.Kinds as kinds
 use Rattle.document.specs.Tags.{Shown}
-use Rattle.document.specs.Tokens.{Tag}
-use Rattle.document.specs.Elements.{attr, some_signature}
-use Rattle.document.specs.Reading.{complete, is_there, is_some}
+use Rattle.document.specs.Elements.{attr}
+use Rattle.document.specs.Reading.{is_some}
 use Rattle.document.specs.Outcome.{ValueIs, Ready, is_absent}
 use Rattle.document.specs.declared.Value.{Value}
 use Rattle.document.specs.declared.StartTag.{StartTag}
@@ -25,58 +22,14 @@ use Rattle.shown.specs.Outcome.{Tests}
 use Rattle.elements.proofs.Rows.{lies_ty}
 use Rattle.telepathy.specs.Outcome.{PartKind, Completes, Breaks, Keyed, More}
 use Rattle.telepathy.specs.declared.Parts.{Parts}
-use Rattle.telepathy.proofs.Sorts.{by_part}
 
 -- a value that is there or not, and what a test says of it
 module _ (doc : List ℕ) (v : Value) (o : Option Shown) (h : ValueIs doc v o) where
-  there_not : is_absent v ≡ true → is_there o ≡ false
-  there_not e = rw (value_absent doc v o h e)
-
-  there_is : is_absent v ≡ false → is_there o ≡ true
-  there_is e = rw (value_there doc v o h e).1
-
-  there_by : is_there o ≡ not (is_absent v)
-  there_by = go (is_absent v) refl
-    where
-      go : (b : Bool) → is_absent v ≡ b → is_there o ≡ not b
-      go true e = there_not e
-      go false e = there_is e
-
   some_not : (p : List ℕ → Bool) → is_absent v ≡ true → is_some p o ≡ false
   some_not p e = rw (value_absent doc v o h e)
 
   some_is : {p : List ℕ → Bool} {r : Bool} → is_absent v ≡ false → Tests p doc v r → r ≡ is_some p o
   some_is {p} e t = let s = value_there doc v o h e in t.is s.0 s.2 ∙ sym (ap (is_some p) s.1)
-
-and-false : (b : Bool) → (b && false) ≡ false
-and-false true = refl
-and-false false = refl
-
-enumvalue : (k : ℕ) (t : Tag) → k ≡ kinds.enumvalue → complete k t ≡ (is_there (attr (bytes "suffix") t) && is_there (attr (bytes "value") t))
-enumvalue k t e = rw e
-
-member : {k : ℕ} (t : Tag) → PartKind k → (k ≡ kinds.enumvalue → ⊥) → complete k t ≡ (is_there (attr (bytes "name") t) && is_some some_signature (attr (bytes "type") t))
-member t h n = by_part (λ m. (m ≡ kinds.enumvalue → ⊥) → complete m t ≡ (is_there (attr (bytes "name") t) && is_some some_signature (attr (bytes "type") t))) (λ x. absurd (x refl)) (λ x. refl) h n
-
-module _ {doc : List ℕ} {c : StartTag} where
-  -- an enumvalue
-  module _ (k : c.kind ≡ kinds.enumvalue) where
-    pub complete_unsuffixed : is_absent c.values.suffix ≡ true → Completes doc c false
-    complete_unsuffixed e = record { is = λ t z. sym (enumvalue c.kind t k ∙ rw (there_not doc c.values.suffix (attr (bytes "suffix") t) z.values.suffix e)) }
-
-    pub complete_valued : {r : Bool} → is_absent c.values.suffix ≡ false → r ≡ not (is_absent c.values.value) → Completes doc c r
-    complete_valued n q = record { is = λ t z. q ∙ sym (enumvalue c.kind t k ∙ rw (there_is doc c.values.suffix (attr (bytes "suffix") t) z.values.suffix n) (there_by doc c.values.value (attr (bytes "value") t) z.values.value)) }
-
-  -- a member
-  module _ (h : PartKind c.kind) (k : c.kind ≡ kinds.enumvalue → ⊥) where
-    pub complete_unnamed : is_absent c.values.name ≡ true → Completes doc c false
-    complete_unnamed e = record { is = λ t z. sym (member t h k ∙ rw (there_not doc c.values.name (attr (bytes "name") t) z.values.name e)) }
-
-    pub complete_untyped : is_absent c.values.ty ≡ true → Completes doc c false
-    complete_untyped e = record { is = λ t z. sym (member t h k ∙ rw (some_not doc c.values.ty (attr (bytes "type") t) z.values.ty some_signature e) (and-false (is_there (attr (bytes "name") t)))) }
-
-    pub complete_typed : {r : Bool} → is_absent c.values.name ≡ false → is_absent c.values.ty ≡ false → Tests some_signature doc c.values.ty r → Completes doc c r
-    complete_typed n m i = record { is = λ t z. some_is doc c.values.ty (attr (bytes "type") t) z.values.ty m i ∙ sym (member t h k ∙ rw (there_is doc c.values.name (attr (bytes "name") t) z.values.name n)) }
 
 module _ {doc : List ℕ} {c : StartTag} {p : Parts} where
   pub breaks_before : p.broken ≡ true → Breaks doc c p true

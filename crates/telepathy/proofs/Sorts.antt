@@ -1,5 +1,4 @@
 -- The kinds of definitions and of their parts, and the ways of a part.
--- Assumes nothing.
 use Prim.Native.Nat.{ℕ, ◌+◌, ◌≤◌, ◌<◌}
 use mathlib.Core.Path.{◌≡◌, refl, ◌∙◌, ap}
 use mathlib.Core.List.{List, [], ◌∷◌}
@@ -16,13 +15,13 @@ use Rattle.document.specs.Kinds as kinds
 use Rattle.document.specs.Tags.{Shown}
 use Rattle.document.specs.Tokens.{Tag}
 use Rattle.document.specs.Rows.{Row, Tables}
-use Rattle.document.specs.Elements.{among, held_by_lem}
+use Rattle.document.specs.Elements.{among, held_by}
 use Rattle.document.specs.Reading.{Frame, State, parent_of, with_row, noted, entered, begins}
 use Rattle.document.specs.Outcome.{Lent, lent, Stands, Ready, TagIs, Opening, Begins, Others, Child, Contents, Onward, Ends, runs, whole}
 use Rattle.document.specs.declared.StartTag.{StartTag}
 use Rattle.document.specs.declared.Fill.{Fill}
 use Rattle.document.specs.declared.Refusal.{Refusal}
-use Rattle.document.proofs.Openings.{tag_named, opening_fault, opening_bounds, opening_owner, opening_contents}
+use Rattle.document.proofs.Openings.{opening_fault, opening_bounds, opening_owner, opening_contents}
 use Rattle.document.proofs.Readers.{keeping}
 use Rattle.document.proofs.Loops.{child_other, name_inside}
 use Rattle.telepathy.specs.Outcome.{DefinitionKind, PartKind}
@@ -74,10 +73,6 @@ module _ {doc : List ℕ} {k : ℕ} {c : StartTag} {p : ℕ} {f : Fill} {rows ro
   unfolding begins
   after t fs u z h = let i = done.is t z in (i.0, rw (h, i.1), λ w s. i.2 u w s)
 
-  further : (r : Result Fill Refusal) → Onward doc g r → Onward doc f r
-  further (Err x) h = tt
-  further (Ok m) h = (omega (arith, done.onward.0, h.0), omega (arith, done.onward.1, h.1), h.2)
-
   pub opening_then :
       {w : List ℕ} {b : Lent} {r : Result Fill Refusal} →
       Onward doc f r →
@@ -93,7 +88,7 @@ module _ {doc : List ℕ} {k : ℕ} {c : StartTag} {p : ℕ} {f : Fill} {rows ro
 pub part_done : {doc : List ℕ} {c : StartTag} {p : ℕ} {f : Fill} {rows rows' w bytes bytes' : List ℕ} {a : Result Fill Refusal} {g : Fill} {b : Lent} {r : Result Fill Refusal} → PartKind c.kind → Opening doc c.kind c p f rows rows' bytes bytes' a → a ≡ Ok g → Contents doc [] true c f.rows g (lent rows' w bytes') b r → Begins doc c.kind c p f (lent rows w bytes) b r
 part_done h o e l =
     opening_contents o e (by_part (λ m. among m kinds.definitions ≡ false) refl refl h) (by_part (λ m. eqb m kinds.node ≡ false) refl refl h)
-    (rw (by_part (λ m. held_by_lem m ≡ []) refl refl h, by_part (λ m. not (eqb m kinds.annotation) ≡ true) refl refl h) l)
+    (rw (by_part (λ m. held_by m ≡ []) refl refl h, by_part (λ m. not (eqb m kinds.annotation) ≡ true) refl refl h) l)
 
 pub part_parent : {doc : List ℕ} {c : StartTag} {f : Fill} {i : ℕ} → Ready doc c f → i < f.rows → i + 1 ≤ 1048576
 part_parent r h = omega (arith, r.few, r.sound.small, r.fits.inside, r.fits.within)

@@ -1,3 +1,2 @@
 -- What reading a Telepathy type definition says.
--- Assumes nothing.
 pub mod Outcome

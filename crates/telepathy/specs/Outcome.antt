@@ -1,5 +1,4 @@
 -- What the functions say: a definition's kind and its parts, why it is dropped, and how a run goes on in it.
--- Assumes nothing.
 use Rattle.std.specs.Prelude.{ℕ, ◌+◌, ◌≤◌, ◌<◌, ◌≡◌, List, ◌∷◌, Bool, true, false, not, ◌||◌, eqb, take, Result, Ok, Err}
 use Rattle.slices.specs.Bytes.{if, bytes}
 use Rattle.names.specs.Signature.{basic_signature}
@@ -7,7 +6,7 @@ use Rattle.document.specs.Kinds as kinds
 use Rattle.document.specs.Tags.{Shown}
 use Rattle.document.specs.Tokens.{Tag}
 use Rattle.document.specs.Rows.{Row, Tables}
-use Rattle.document.specs.Elements.{among, held_by_lem, attr}
+use Rattle.document.specs.Elements.{among, held_by, attr}
 use Rattle.document.specs.Reading as reading
 use Rattle.document.specs.Reading.{Name, tag_name, Definition, Frame, element, definition, State, refused, closed, judged, child, begins, tag_reason, parts_reason, reason_of, complete, is_some, one_more}
 use Rattle.document.specs.Outcome as outcome
@@ -28,7 +27,7 @@ pub record PartKind (k : ℕ) : Type 0 where
 
 -- whether a definition holds parts of a kind
 pub record Holds (k c : ℕ) (r : Bool) : Type 0 where
-  pub is : r ≡ among c (held_by_lem k)
+  pub is : r ≡ among c (held_by k)
 
 -- the parts that were seen, as the definition has them
 abbrev pub seen : Parts → reading.Parts

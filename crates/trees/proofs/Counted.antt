@@ -1,15 +1,15 @@
 -- Laws of how many rows stand in a row: no more than the rows after it.
--- Assumes nothing.
 use Prim.Native.Nat.{ℕ, zero, suc, ◌+◌, ◌-◌, ◌≤◌, ◌<◌}
 use native.Mathlib.Omega.{arith}
-use mathlib.Core.Path.{◌≡◌, refl, ap, sym, subst, ◌∙◌}
+use mathlib.Core.Path.{◌≡◌, refl, ap, ◌∙◌}
 use mathlib.Core.List.{List, [], ◌∷◌, map}
 use mathlib.Core.Bool.{Bool, true, false, ◌&&◌}
 use borrow.Author.Tests.{ne_eqb, eqb-true}
-use lib.Dec.{T, eqb}
+use lib.Dec.{eqb}
 use lib.ListN.{length, drop}
 use Rattle.slices.specs.Bytes.{if}
 use Rattle.document.specs.Elements.{among}
+use Rattle.document.proofs.Tests.{among_each}
 use Rattle.items.specs.Words.{rows_of}
 use Rattle.items.proofs.Rows.{length_rows_of}
 use Rattle.trees.specs.Trees.{Forest, joined, sizes}
@@ -25,19 +25,6 @@ abbrev picks : ℕ → ℕ → ℕ
 picks s k =
     pick (among k types) s + (pick (among k args) s + (pick (among k members) s + (pick (among k annotations) s + pick (among k nodes) s)))
 
-module _ (P : ℕ → Type 0) where
-  abbrev pub All : List ℕ → Type 0
-  All [] = Unit
-  All (x ∷ xs) = P x × All xs
-
-  pub only : (k : ℕ) (xs : List ℕ) → All xs → among k xs ≡ true → P k
-  only k [] a e = absurd (subst T (sym e) tt)
-  only k (x ∷ xs) a e = go (eqb k x) refl (only k xs a.1)
-    where
-      go : (b : Bool) → eqb k x ≡ b → (among k xs ≡ true → P k) → P k
-      go true p f = subst P (sym (eqb-true k x p)) a.0
-      go false p f = f (sym (ap (λ b. if b true (among k xs)) p) ∙ e)
-
 kind_once : (s k : ℕ) → picks s k ≤ s
 kind_once s k = go (among k types) refl
   where
@@ -45,23 +32,23 @@ kind_once s k = go (among k types) refl
     P z = picks s z ≤ s
 
     last : (e : Bool) → among k types ≡ false → among k args ≡ false → among k members ≡ false → among k annotations ≡ false → among k nodes ≡ e → P k
-    last true a b c d e = only P k nodes (omega arith, tt) e
+    last true a b c d e = among_each P k nodes e (omega arith, tt)
     last false a b c d e = rw (a, b, c, d, e) (omega arith)
 
     fourth : (x : Bool) → among k types ≡ false → among k args ≡ false → among k members ≡ false → among k annotations ≡ x → P k
-    fourth true a b c e = only P k annotations (omega arith, tt) e
+    fourth true a b c e = among_each P k annotations e (omega arith, tt)
     fourth false a b c e = last (among k nodes) a b c e refl
 
     third : (x : Bool) → among k types ≡ false → among k args ≡ false → among k members ≡ x → P k
-    third true a b e = only P k members (omega arith, (omega arith, (omega arith, (omega arith, (omega arith, (omega arith, tt)))))) e
+    third true a b e = among_each P k members e (omega arith, (omega arith, (omega arith, (omega arith, (omega arith, (omega arith, tt))))))
     third false a b e = fourth (among k annotations) a b e refl
 
     second : (x : Bool) → among k types ≡ false → among k args ≡ x → P k
-    second true a e = only P k args (omega arith, tt) e
+    second true a e = among_each P k args e (omega arith, tt)
     second false a e = third (among k members) a e refl
 
     go : (x : Bool) → among k types ≡ x → P k
-    go true e = only P k types (omega arith, (omega arith, (omega arith, (omega arith, tt)))) e
+    go true e = among_each P k types e (omega arith, (omega arith, (omega arith, (omega arith, tt))))
     go false e = second (among k args) e refl
 
 -- the rows in all groups of parent p, from row k on

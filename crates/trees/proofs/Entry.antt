@@ -1,5 +1,4 @@
 -- Laws of the entry: what sound rows are known to have, which row is written, and what is answered.
--- Assumes nothing.
 use Prim.Native.Nat.{ℕ, zero, suc, ◌+◌, ◌-◌, ◌*◌, ◌≤◌, ◌<◌}
 use native.Mathlib.Omega.{arith}
 use native.Mathlib.Nat.{add-zero}
@@ -19,7 +18,7 @@ use Rattle.document.specs.Elements.{among, may_hold}
 use Rattle.items.specs.Words.{Word, triple_at, row_of, rows_of, RowWords}
 use Rattle.items.specs.Sound.{kind_at, placed, good_triple, doc_use, any_text, sound, soundness}
 use Rattle.items.specs.Writing.{checked}
-use Rattle.items.proofs.Rows.{row_word, kind_at_lem, row_parts, RowIs, sound_claimed, sound_held, sound_row_lem}
+use Rattle.items.proofs.Rows.{row_word, kind_word, row_parts, RowIs, sound_claimed, sound_held, row_is_sound}
 use Rattle.soundness.specs.Outcome.{Admits}
 use Rattle.soundness.proofs.Rows.{admitted, refused_as, admitted_as}
 use Rattle.trees.specs.Shape.{shape_at}
@@ -28,8 +27,8 @@ use Rattle.trees.specs.Writing.{too_deep, tree_written, is_writable, tree_writin
 use Rattle.trees.specs.Steps.{group_kinds, group_of, Held}
 use Rattle.std.specs.Prelude.{Result, Ok, Err}
 use Rattle.slices.proofs.Runs.{and_both}
+use Rattle.document.proofs.Tests.{Each, among_each}
 use Rattle.trees.specs.Walk.{Walks, Writable, WritesSound}
-use Rattle.trees.proofs.Counted.{All, only}
 
 -- ---- sound rows
 
@@ -41,8 +40,8 @@ held_grouped : (k c : ℕ) → may_hold k c ≡ true → Grouped c
 unfolding may_hold
 held_grouped k c h = go (eqb k kinds.node) (eqb k kinds.interface) (among k kinds.callables) (among k kinds.values) (eqb k kinds.enum) (among k (kinds.struct ∷ kinds.mapping ∷ [])) h
   where
-    from : (l : List ℕ) → All Grouped l → among c l ≡ true → Grouped c
-    from l a e = only Grouped c l a e
+    from : (l : List ℕ) → Each Grouped l → among c l ≡ true → Grouped c
+    from l a e = among_each Grouped c l e a
 
     go : (a b u v p q : Bool) → among c (if a kinds.in_node (if b kinds.in_interface (if u kinds.in_callable (if v kinds.in_value (if p (kinds.enumvalue ∷ []) (if q (kinds.member ∷ []) [])))))) ≡ true → Grouped c
     go true b u v p q e = from kinds.in_node (refl, (refl, (refl, (refl, (refl, (refl, tt)))))) e
@@ -54,7 +53,7 @@ held_grouped k c h = go (eqb k kinds.node) (eqb k kinds.interface) (among k kind
     go false false false false false false e = absurd (subst T (sym e) tt)
 
 placed_grouped : (rows : List RowWords) (i : ℕ) (r : RowWords) → placed rows i r ≡ true → Grouped r.kind
-placed_grouped rows zero r e = only Grouped r.kind (kinds.node ∷ []) (refl, tt) (rw (and_both (eqb r.kind kinds.node) (eqb r.parent 0) e).0)
+placed_grouped rows zero r e = among_each Grouped r.kind (kinds.node ∷ []) (rw (and_both (eqb r.kind kinds.node) (eqb r.parent 0) e).0) (refl, tt)
 placed_grouped rows (suc i) r e =
     held_grouped (kind_at rows (r.parent - 1)) r.kind (and_both (ltb 0 r.parent && leb r.parent (suc i)) (may_hold (kind_at rows (r.parent - 1)) r.kind) e).1
 
@@ -67,7 +66,7 @@ placed_parent rows (suc i) r h e =
 
 module _ (d x ws : List ℕ) (n : ℕ) (g : soundness d x ws n ≡ sound) where
   row_is : (k : ℕ) → k < n → RowIs d x (rows_of n ws) k (row_of (drop (k * 16) ws))
-  row_is k h = row_parts d x (rows_of n ws) k (row_of (drop (k * 16) ws)) (sound_row_lem d x ws n g k h)
+  row_is k h = row_parts d x (rows_of n ws) k (row_of (drop (k * 16) ws)) (row_is_sound d x ws n g k h)
 
   pub sound_rows_held : length d ≤ 1048576 → length x ≤ 1048576 → Held d x ws n
   sound_rows_held a b = record {
@@ -89,7 +88,7 @@ module _ (d x ws : List ℕ) (n : ℕ) (g : soundness d x ws n ≡ sound) where
 
 writable_is : {ws : List ℕ} {n i k : ℕ} {b : Bool} → i < n → Word ws i 0 k → Writable k b → is_writable ws n i ≡ b
 writable_is {ws} {n} {i} {k} {b} l w y =
-    let e : kind_at (rows_of n ws) i ≡ k = kind_at_lem n i ws l ∙ ap (λ z. get_or ws z 0) (sym (add-zero (i * 16))) ∙ sym w.is in
+    let e : kind_at (rows_of n ws) i ≡ k = kind_word n i ws l ∙ ap (λ z. get_or ws z 0) (sym (add-zero (i * 16))) ∙ sym w.is in
     ap (λ z. z && not (among (kind_at (rows_of n ws) i) kinds.parts)) (lt-ltb i n l)
     ∙ ap (λ z. not (among z kinds.parts)) e
     ∙ ap not y.is

@@ -1,5 +1,4 @@
 -- The laws of the rows in a row, of the bytes of one element, and of the walk that writes a tree.
--- Assumes nothing.
 pub mod Parts
 pub mod Standing
 pub mod Texts

@@ -1,11 +1,10 @@
 -- Laws of one element: whether something follows its attributes, its bytes, and whether it is too deep.
--- Assumes nothing.
 use Prim.Native.Nat.{ℕ, zero, suc, ◌+◌, ◌-◌, ◌*◌, ◌≤◌, ◌<◌}
 use native.Mathlib.Omega.{arith}
 use mathlib.Core.Path.{◌≡◌, refl, ap, sym, subst, ◌∙◌}
 use mathlib.Core.List.{List, [], ◌∷◌, ◌++◌, append_assoc}
 use mathlib.Core.Option.{Option, none, some}
-use mathlib.Core.Bool.{Bool, true, false, not, ◌&&◌, ◌||◌, and-false}
+use mathlib.Core.Bool.{Bool, true, false, not, ◌&&◌, ◌||◌, and-false, or-false, and-true}
 use borrow.Author.Rules.{rules}
 use borrow.Author.Tests.{eq-eqb, ne_eqb, eqb-true, leb-true, leb-false, le-leb, lt-leb}
 use native.Mathlib.Numerals.{add-one}
@@ -23,6 +22,7 @@ use Rattle.items.specs.Words.{Word, word_at, triple_at, absent, docstring_by}
 use Rattle.items.specs.Sound.{Use, good_triple, doc_use, any_text, in_document}
 use Rattle.items.specs.Written.{Pair, pairs, ending, tag, closing_tag, concat, element}
 use Rattle.items.proofs.Rows.{row_word}
+use Rattle.items.proofs.Written.{concat-append}
 use Rattle.trees.specs.Trees.{tree, Forest, bare, more, map_tree, map_forest}
 use Rattle.trees.specs.Shape.{links_of, under}
 use Rattle.trees.specs.Written.{Element, docstring, element_at, tag_of, attributes, docstrings, written_tree, written_forest}
@@ -72,11 +72,7 @@ in_first d x t h k = go (eqb t.source 1) refl
   where
     fits : (a b : Bool) → (a && leb (t.start + t.len) (length d)) || (b && leb (t.start + t.len) (length x)) ≡ true → a ≡ true → b ≡ false → leb (t.start + t.len) (length d) ≡ true
     fits true true e f g = absurd (subst T g tt)
-    fits true false e f g = or_no (leb (t.start + t.len) (length d)) e
-      where
-        or_no : (c : Bool) → c || false ≡ true → c ≡ true
-        or_no true e = refl
-        or_no false e = e
+    fits true false e f g = sym (or-false (leb (t.start + t.len) (length d))) ∙ e
     fits false b e f g = absurd (subst T (sym f) tt)
 
     zero_source : t.source ≡ 0 → t.start + t.len ≤ length d
@@ -181,10 +177,6 @@ pub element_some : (n : List ℕ) (ps : List Pair) (cs : List (List ℕ)) → em
 element_some n ps [] h = absurd (subst T h tt)
 element_some n ps (c ∷ cs) h = refl
 
-concat_both : (a b : List (List ℕ)) → concat (a ++ b) ≡ concat a ++ concat b
-concat_both [] b = refl
-concat_both (c ∷ a) b = ap (◌++◌ c) (concat_both a b) ∙ sym (append_assoc c (concat a) (concat b))
-
 open_empty : (g : ℕ → Element) (e : Element) (f : Forest ℕ) → empty (docstrings e.doc ++ written_forest (map_forest g f)) ≡ not (is_open e f)
 open_empty g e bare = go (docstrings e.doc)
   where
@@ -219,7 +211,7 @@ module _ (d x ws : List ℕ) (k : ℕ) (f : Forest ℕ) where
       ap (λ t. element (tag_of t) ps cs) (row_word k 0 ws)
       ∙ element_some n ps cs (open_empty (element_at d x ws) (element_at d x ws k) f ∙ ap not h)
       ∙ ap (λ l. l ++ (concat cs ++ closing_tag n)) (tag_bytes n ps false)
-      ∙ ap (λ l. ((60 ∷ n ++ pairs ps) ++ bytes ">") ++ (l ++ closing_tag n)) (concat_both (docstrings (element_at d x ws k).doc) (written_forest (map_forest (element_at d x ws) f)))
+      ∙ ap (λ l. ((60 ∷ n ++ pairs ps) ++ bytes ">") ++ (l ++ closing_tag n)) (concat-append (docstrings (element_at d x ws k).doc) (written_forest (map_forest (element_at d x ws) f)))
       ∙ together (60 ∷ n ++ pairs ps) (bytes ">") (concat (docstrings (element_at d x ws k).doc)) (bytes_in d x ws f) (closing_tag n)
 
   -- ---- too deep
@@ -237,11 +229,7 @@ module _ (d x ws : List ℕ) (k : ℕ) (f : Forest ℕ) where
       ∙ ap (too_deeps (element_at d x ws) a) (closed_bare h)
 
   node_open : is_open (element_at d x ws k) f ≡ true → {c : Bool} → eqb (word_at ws k 0) kinds.node ≡ c → is_open_node (element_at d x ws k) f ≡ c
-  node_open h {c} e = ap (λ b. eqb (element_at d x ws k).kind kinds.node && b) h ∙ ap (λ t. eqb t kinds.node && true) (row_word k 0 ws) ∙ ap (λ b. b && true) e ∙ go c
-    where
-      go : (c : Bool) → c && true ≡ c
-      go true = refl
-      go false = refl
+  node_open h {c} e = ap (λ b. eqb (element_at d x ws k).kind kinds.node && b) h ∙ ap (λ t. eqb t kinds.node && true) (row_word k 0 ws) ∙ ap (λ b. b && true) e ∙ and-true c
 
   abbrev answer : ℕ → Bool → Bool → Option ℕ
   answer a b c = if b (if c (some k) (too_deeps (element_at d x ws) (suc a) f)) (too_deeps (element_at d x ws) a f)

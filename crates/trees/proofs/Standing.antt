@@ -1,5 +1,4 @@
 -- Laws of how rows stand and of the search for children.
--- Assumes nothing.
 use Prim.Native.Nat.{ℕ, zero, suc, ◌+◌, ◌-◌, ◌*◌, ◌≤◌, ◌<◌}
 use native.Mathlib.Omega.{arith}
 use mathlib.Core.Path.{◌≡◌, refl, ap, sym, subst, ◌∙◌}
@@ -9,6 +8,7 @@ use borrow.Author.Rules.{rules}
 use Rattle.std.proofs.Math.Logic.{∥∥₁_elim}
 use Rattle.std.proofs.Math.Bool.{Bool-set}
 use borrow.Author.Tests.{eq-eqb, ne_eqb, eqb-true, eqb-false, ltb-true, leb-true, leb-false, not-false}
+use Rattle.std.proofs.lemmas.Bool.{not-true}
 use lib.Dec.{eqb, leb, ltb}
 use lib.ListN.{length, get_or}
 use Rattle.std.specs.Bool.{MatchBool}
@@ -29,13 +29,13 @@ use Rattle.trees.specs.declared.children.Standing.{Standing}
 -- ---- the group of a kind
 
 -- a kind is in one group
-group_is : (k g : ℕ) → g < 5 → among k (group_kinds g) ≡ true → group_of k ≡ g
-group_is k zero l e = among_each (λ j. group_of j ≡ 0) k types e (refl, (refl, (refl, (refl, tt))))
-group_is k (suc zero) l e = among_each (λ j. group_of j ≡ 1) k args e (refl, tt)
-group_is k (suc (suc zero)) l e = among_each (λ j. group_of j ≡ 2) k members e (refl, (refl, (refl, (refl, (refl, (refl, tt))))))
-group_is k (suc (suc (suc zero))) l e = among_each (λ j. group_of j ≡ 3) k annotations e (refl, tt)
-group_is k (suc (suc (suc (suc zero)))) l e = among_each (λ j. group_of j ≡ 4) k nodes e (refl, tt)
-group_is k (suc (suc (suc (suc (suc g))))) l e = absurd (omega (arith, l))
+pub group_is : (g k : ℕ) → among k (group_kinds g) ≡ true → group_of k ≡ g
+group_is zero k e = among_each (λ j. group_of j ≡ 0) k types e (refl, (refl, (refl, (refl, tt))))
+group_is (suc zero) k e = among_each (λ j. group_of j ≡ 1) k args e (refl, tt)
+group_is (suc (suc zero)) k e = among_each (λ j. group_of j ≡ 2) k members e (refl, (refl, (refl, (refl, (refl, (refl, tt))))))
+group_is (suc (suc (suc zero))) k e = among_each (λ j. group_of j ≡ 3) k annotations e (refl, tt)
+group_is (suc (suc (suc (suc zero)))) k e = among_each (λ j. group_of j ≡ 4) k nodes e (refl, tt)
+group_is (suc (suc (suc (suc (suc g))))) k e = never e
 
 node_not : (g : ℕ) → g < 4 → among kinds.node (group_kinds g) ≡ false
 node_not zero l = refl
@@ -47,14 +47,19 @@ node_not (suc (suc (suc (suc g)))) l = absurd (omega (arith, l))
 -- ---- nodes stand last
 
 pub late_self : {ws : List ℕ} {k node a : ℕ} → Word ws k 0 a → a ≡ kinds.node → Late ws k node false
-late_self w h = record { not = λ e f g. absurd (f (sym w.is ∙ h)) }
+late_self w h = record { late = λ e. never e; not = λ e f g. absurd (f (sym w.is ∙ h)) }
 
 module _ {ws : List ℕ} {k node p a : ℕ} (w : Word ws k 1 p) (v : Word ws (p - 1) 0 a) where
   pub late_other : (a ≡ kinds.node → ⊥) → Late ws k node false
-  late_other h = record { not = λ e g f. absurd (h (v.is ∙ ap (λ j. word_at ws (j - 1) 0) w.is ∙ f)) }
+  late_other h = record { late = λ e. never e; not = λ e g f. absurd (h (v.is ∙ ap (λ j. word_at ws (j - 1) 0) w.is ∙ f)) }
 
-  pub late_node : RowKept ws k → Late ws k node (not (eqb (p - 1) node))
-  late_node h = record {
+  pub late_node : {b : ℕ} → RowKept ws k → Word ws k 0 b → (b ≡ kinds.node → ⊥) → a ≡ kinds.node → Late ws k node (not (eqb (p - 1) node))
+  late_node h u f g = record {
+    late = λ e. (
+      (λ z. f (u.is ∙ z)),
+      sym (v.is ∙ ap (λ j. word_at ws (j - 1) 0) w.is) ∙ g,
+      λ z. eqb-false (p - 1) node (not-true (eqb (p - 1) node) e) (omega (arith, w.is, z)),
+    );
     not = λ e g f. omega (arith, w.is, h.above, eqb-true (p - 1) node (not-false (eqb (p - 1) node) e));
   }
 
@@ -63,24 +68,35 @@ pub ruleset lates = (late_self, late_other, late_node, rules)
 -- a loop over the rows from row 1 on: node is the last node up to here, or 0
 pub record Lasting (ws : List ℕ) (node k : ℕ) : Type 0 where
   pub some : 0 < k
+  pub low : node < k
+  pub kind : 0 < node → word_at ws node 0 ≡ kinds.node
   pub seen : (j : ℕ) → j < k → word_at ws j 0 ≡ kinds.node → j ≤ node
   pub last : NodesLast ws k
 
 pub last_begins : (ws : List ℕ) → Lasting ws 0 1
-last_begins ws = record { some = omega arith; seen = λ j l e. omega (arith, l); last = λ j k a b. absurd (omega (arith, a, b)) }
-
-pub last_stops : (ws : List ℕ) (n : ℕ) → NodesStand ws n false
-last_stops ws n = record { last = λ e. never e }
+last_begins ws = record { some = omega arith; low = omega arith; kind = λ l. absurd (omega (arith, l)); seen = λ j l e. omega (arith, l); last = λ j k a b. absurd (omega (arith, a, b)) }
 
 pub last_held : {ws : List ℕ} {n k : ℕ} → RowsHeld ws n → 0 < k → k < n → RowKept ws k
 last_held {k = k} h a b = let p = h.parents k b a in record { held = omega (arith, h.held, b); above = p.0; before = p.1 }
 
 module _ {ws : List ℕ} {node k : ℕ} (g : Lasting ws node k) where
   pub last_ends : {n : ℕ} → n ≤ k → NodesStand ws n true
-  last_ends l = record { last = λ e i j a b. g.last i j a (omega (arith, b, l)) }
+  last_ends l = record { last = λ e i j a b. g.last i j a (omega (arith, b, l)); exact = λ o. refl }
 
   pub last_kept : {n : ℕ} → RowsHeld ws n → k < n → RowKept ws k
   last_kept h b = last_held h g.some b
+
+  -- row k stands late: after the last node, and in another
+  pub last_stops : {n : ℕ} {b : Bool} → RowsHeld ws n → k < n → Late ws k node b → b ≡ true → NodesStand ws n false
+  last_stops {n} h l a e = record { last = λ t. never t; exact = λ o. absurd (late o (a.late e)) }
+    where
+      late : NodesLast ws n → (word_at ws k 0 ≡ kinds.node → ⊥) × (word_at ws (word_at ws k 1 - 1) 0 ≡ kinds.node) × (word_at ws k 1 ≡ suc node → ⊥) → ⊥
+      late o t =
+          let r = last_held h g.some l in
+          let s : word_at ws k 1 - 1 ≤ node = g.seen (word_at ws k 1 - 1) (omega (arith, r.above, r.before)) t.1 in
+          let m : word_at ws k 1 ≤ node = below (word_at ws k 1) (suc node) (λ d. omega (arith, d)) (λ d. absurd (t.2 (omega (arith, d, s)))) in
+          let p = o node k g.low l (g.kind (omega (arith, r.above, m))) (ne_eqb (word_at ws k 0) kinds.node t.0) t.1 in
+          omega (arith, p, m)
 
   pub last_more : {b : Bool} {r : ℕ} → Late ws k node b → b ≡ false → LastNode ws k node r → Lasting ws r (k + 1)
   last_more {b} {r} h q v = go (eqb (word_at ws k 0) kinds.node) refl
@@ -91,6 +107,8 @@ module _ {ws : List ℕ} {node k : ℕ} (g : Lasting ws node k) where
           let x : r ≡ k = v.here f in
           record {
             some = omega arith;
+            low = omega (arith, x);
+            kind = λ l. ap (λ u. word_at ws u 0) x ∙ f;
             seen = λ j l e. omega (arith, l, x);
             last = λ i j a b c d e. below j k (λ l. g.last i j a l c d e) (λ l.
                 let z : k ≡ j = omega (arith, l, b) in
@@ -101,6 +119,8 @@ module _ {ws : List ℕ} {node k : ℕ} (g : Lasting ws node k) where
           let x : r ≡ node = v.before f in
           record {
             some = omega arith;
+            low = omega (arith, x, g.low);
+            kind = λ l. ap (λ u. word_at ws u 0) x ∙ g.kind (omega (arith, x, l));
             seen = λ j l e. below j k (λ m. omega (arith, x, g.seen j m e)) (λ m.
                 let z : k ≡ j = omega (arith, l, m) in
                 absurd (f (ap (λ u. word_at ws u 0) z ∙ e)));
@@ -126,7 +146,7 @@ module _ {ws : List ℕ} {i g k p : ℕ} (w : Word ws k 1 p) where
   child_is {a} {r} h q v e = record { is = ap (λ j. eqb j g) (e ∙ ap (λ j. group_of j) v.is) ∙ go (among (word_at ws k 0) (group_kinds g)) refl }
     where
       go : (b : Bool) → among (word_at ws k 0) (group_kinds g) ≡ b → eqb (group_of (word_at ws k 0)) g ≡ b && eqb (word_at ws k 1) (suc i)
-      go true f = eq-eqb (group_of (word_at ws k 0)) g (group_is (word_at ws k 0) g q.group f) ∙ sym (eq-eqb (word_at ws k 1) (suc i) (omega (arith, h, w.is)))
+      go true f = eq-eqb (group_of (word_at ws k 0)) g (group_is g (word_at ws k 0) f) ∙ sym (eq-eqb (word_at ws k 1) (suc i) (omega (arith, h, w.is)))
       go false f = ne_eqb (group_of (word_at ws k 0)) g (λ y. never (sym f ∙ ap (λ j. among (word_at ws k 0) (group_kinds j)) (sym y) ∙ q.grouped))
 
 pub ruleset childs = (child_other, child_is, rules)

@@ -1,11 +1,10 @@
 -- Laws of putting the bytes of one element.
--- Assumes nothing.
 use Prim.Native.Nat.{ℕ, ◌+◌, ◌*◌, ◌≤◌, ◌<◌, ◌^◌}
 use native.Mathlib.Omega.{arith}
 use mathlib.Core.Path.{◌≡◌, refl, ap, sym, ◌∙◌}
 use mathlib.Core.List.{List, [], ◌∷◌, ◌++◌, append_assoc, append-nil}
 use mathlib.Core.Option.{Option, none, some}
-use mathlib.Core.Bool.{Bool, true, false, ◌&&◌, ◌||◌}
+use mathlib.Core.Bool.{Bool, true, false, ◌&&◌, and-false, or-false}
 use borrow.Author.Rules.{rules}
 use borrow.Author.Tests.{ne_eqb, eqb-true, leb-true}
 use lib.Dec.{eqb, leb}
@@ -154,14 +153,8 @@ doc_empty d t e = go (absent t)
     go true = refl
     go false = rw e
 
-absent_no : (a b : Bool) → a && b && false ≡ false
-absent_no true true = refl
-absent_no true false = refl
-absent_no false true = refl
-absent_no false false = refl
-
 long_there : (t : Triple) → (t.len ≡ 0 → ⊥) → absent t ≡ false
-long_there t h = rw (ne_eqb t.len 0 h) (absent_no (eqb t.source 0) (eqb t.start 0))
+long_there t h = rw (ne_eqb t.len 0 h) (and-false (eqb t.source 0 && eqb t.start 0))
 
 second_true : (a b c e : Bool) → a && b && c && e ≡ true → b ≡ true
 second_true true true c e h = refl
@@ -176,11 +169,7 @@ from_document : (d x : List ℕ) (t : Triple) → inside d x t ≡ true → in_d
 from_document d x t e f = go (eqb t.source 1) refl
   where
     zero_source : eqb t.source 1 ≡ false → t.source ≡ 0
-    zero_source h = eqb-true t.source 0 (first (eqb t.source 0) (rw h at f))
-      where
-        first : (a : Bool) → a || false ≡ true → a ≡ true
-        first true g = refl
-        first false g = g
+    zero_source h = eqb-true t.source 0 (sym (or-false (eqb t.source 0)) ∙ rw h at f)
 
     nowhere : t.source ≡ 0 → inside d x t ≡ false
     nowhere h = rw h
@@ -190,11 +179,7 @@ from_document d x t e f = go (eqb t.source 1) refl
     go false h = never (sym (nowhere (zero_source h)) ∙ e)
 
 inside_document : (d x : List ℕ) (t : Triple) → inside d x t ≡ true → t.source ≡ 1 → t.start + t.len ≤ length d
-inside_document d x t e f = leb-true (t.start + t.len) (length d) (first (leb (t.start + t.len) (length d)) (rw f at e))
-  where
-    first : (a : Bool) → a || false ≡ true → a ≡ true
-    first true g = refl
-    first false g = g
+inside_document d x t e f = leb-true (t.start + t.len) (length d) (sym (or-false (leb (t.start + t.len) (length d))) ∙ rw f at e)
 
 shown_document : (d x : List ℕ) (t : Triple) → inside d x t ≡ true → t.source ≡ 1 → shown d x t ≡ take t.len (drop t.start d)
 unfolding shown

@@ -1,6 +1,5 @@
 -- Laws of the walk: what each turn leaves to do.
--- Assumes nothing.
-use Prim.Native.Nat.{ℕ, zero, suc, ◌+◌, ◌-◌, ◌*◌, ◌≤◌, ◌<◌}
+use Prim.Native.Nat.{ℕ, suc, ◌+◌, ◌-◌, ◌*◌, ◌≤◌, ◌<◌}
 use native.Mathlib.Omega.{arith}
 use mathlib.Core.Path.{◌≡◌, refl, ap, sym, subst, ◌∙◌}
 use mathlib.Core.List.{List, [], ◌++◌, append_assoc, append-nil}
@@ -8,7 +7,7 @@ use mathlib.Core.Option.{Option, none, some}
 use mathlib.Core.Bool.{Bool, true, false}
 use borrow.Author.Rules.{rules}
 use borrow.Author.Tests.{eq-eqb, eqb-true}
-use lib.Dec.{T, eqb}
+use lib.Dec.{eqb}
 use lib.ListN.{length}
 use Rattle.slices.specs.Bytes.{if}
 use Rattle.utf8.proofs.Sequences.{below}
@@ -18,7 +17,7 @@ use Rattle.document.specs.Elements.{among}
 use Rattle.items.specs.Words.{Word, word_at}
 use Rattle.items.specs.Written.{closing_tag}
 use Rattle.trees.specs.Trees.{tree, more, sizes}
-use Rattle.trees.specs.Shape.{links_of, under, shape_at, types, args, members, annotations, nodes}
+use Rattle.trees.specs.Shape.{links_of, under, shape_at, types, args, annotations, nodes}
 use Rattle.trees.specs.Written.{element_at, tree_at, tag_of, written_tree}
 use Rattle.trees.specs.Writing.{first, too_deep, too_deeps}
 use Rattle.trees.specs.Steps.{group_kinds, group_of, Held, Stands, NextAt, NoNext, Next, ClosePut}
@@ -31,20 +30,12 @@ use Rattle.std.specs.declared.ops.ControlFlow.{ControlFlow}
 use Rattle.std.specs.declared.ops.ControlFlow.TheVariants.{Continue, Break}
 use Rattle.slices.proofs.Runs.{and_both}
 use Rattle.trees.specs.Walk.{rest, bytes_of, bytes_in, inside_of, AmongOpen, IsAround, Resumes, Begins, Above, at_top, up, Walking, Going, TopOpen, Walks, DeepRow, Goes, Enters, Leaves, Turns, LeavesIs}
-use Rattle.trees.proofs.Standing.{held_row, held_few}
+use Rattle.trees.proofs.Standing.{held_row, held_few, group_is}
 use Rattle.trees.proofs.Zipper.{rest_all_on, rest_next, rest_next_on, rest_later, rest_none, rest_pass}
-use Rattle.trees.proofs.Counted.{only, under_most}
+use Rattle.trees.proofs.Counted.{under_most}
 use Rattle.trees.proofs.Opening.{closed_shallow, open_deep, open_shallow}
 
 -- ---- groups
-
-group_is : (g k : ℕ) → among k (group_kinds g) ≡ true → group_of k ≡ g
-group_is zero k e = only (λ z. group_of z ≡ 0) k types (refl, (refl, (refl, (refl, tt)))) e
-group_is (suc zero) k e = only (λ z. group_of z ≡ 1) k args (refl, tt) e
-group_is (suc (suc zero)) k e = only (λ z. group_of z ≡ 2) k members (refl, (refl, (refl, (refl, (refl, (refl, tt)))))) e
-group_is (suc (suc (suc zero))) k e = only (λ z. group_of z ≡ 3) k annotations (refl, tt) e
-group_is (suc (suc (suc (suc zero)))) k e = only (λ z. group_of z ≡ 4) k nodes (refl, tt) e
-group_is (suc (suc (suc (suc (suc g))))) k e = absurd (subst T (sym e) tt)
 
 group_few : (k : ℕ) → group_of k < 5
 group_few k = go (among k types) (among k args) (among k annotations) (among k nodes)

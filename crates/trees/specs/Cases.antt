@@ -1,5 +1,4 @@
 -- Worked cases: tables, each with what writing one of its rows with all under it answers.
--- Assumes nothing.
 use Rattle.std.specs.Prelude.{ℕ, ◌≡◌, refl, List, [], ◌∷◌, ◌++◌, map}
 use Rattle.slices.specs.Bytes.{bytes}
 use Rattle.utf8.specs.WellFormed.{sequence, ill_formed}

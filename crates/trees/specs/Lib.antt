@@ -1,5 +1,4 @@
 -- The whole tree of a row: its shape, what its elements show, its bytes, and what writing it answers.
--- Assumes nothing.
 pub mod Trees
 pub mod Shape
 pub mod Written

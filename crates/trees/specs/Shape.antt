@@ -1,5 +1,4 @@
 -- The shape of a table (docs/FORMAT.md, Trees): which rows stand in which, in the order in which they are written.
--- Assumes nothing.
 use Rattle.std.specs.Prelude.{ℕ, suc, List, [], ◌∷◌, map, Bool, true, false, ◌&&◌, eqb, drop}
 use Rattle.document.specs.Kinds as kinds
 use Rattle.document.specs.Elements.{among}

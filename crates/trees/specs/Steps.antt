@@ -1,5 +1,4 @@
 -- What the functions that write a tree need and say: d is the document, x the text, ws the words of the rows, of which n are claimed.
--- Assumes nothing.
 use Rattle.std.specs.Prelude.{ℕ, zero, suc, ◌+◌, ◌-◌, ◌*◌, ◌≤◌, ◌<◌, ◌^◌, ◌≡◌, List, [], ◌∷◌, ◌++◌, Bool, true, false, ◌&&◌, eqb, length, drop, Result, Ok, Err}
 use Rattle.std.proofs.Math.Option.{Option, some}
 use Rattle.slices.specs.Bytes.{if}
@@ -54,6 +53,8 @@ NodesLast ws n =
 pub record Stands (ws : List ℕ) (n : ℕ) (s : Standing) : Type 0 where
   pub ordered : s.ordered ≡ true → DocumentOrder ws n
   pub last : s.last ≡ true → NodesLast ws n
+  pub exact_ordered : DocumentOrder ws n → s.ordered ≡ true
+  pub exact_last : NodesLast ws n → s.last ≡ true
 
 -- whether row k is a child of row i in group g
 abbrev pub child_in : List ℕ → ℕ → ℕ → ℕ → Bool
@@ -116,8 +117,9 @@ pub record RowKept (ws : List ℕ) (k : ℕ) : Type 0 where
   pub above : 0 < word_at ws k 1
   pub before : word_at ws k 1 ≤ k
 
--- if not, and row k is no node and stands in a node, that is the last node
+-- if not, and row k is no node and stands in a node, that is the last node; if so, it is no node and stands in another
 pub record Late (ws : List ℕ) (k node : ℕ) (r : Bool) : Type 0 where
+  pub late : r ≡ true → (word_at ws k 0 ≡ kinds.node → ⊥) × (word_at ws (word_at ws k 1 - 1) 0 ≡ kinds.node) × (word_at ws k 1 ≡ suc node → ⊥)
   pub not : r ≡ false → (word_at ws k 0 ≡ kinds.node → ⊥) → word_at ws (word_at ws k 1 - 1) 0 ≡ kinds.node → word_at ws k 1 ≡ suc node
 
 -- the last node up to row k, if `node` is the last before it
@@ -127,6 +129,7 @@ pub record LastNode (ws : List ℕ) (k node r : ℕ) : Type 0 where
 
 pub record NodesStand (ws : List ℕ) (n : ℕ) (r : Bool) : Type 0 where
   pub last : r ≡ true → NodesLast ws n
+  pub exact : NodesLast ws n → r ≡ true
 
 -- row k is after row i and held, and its kind is in its group
 pub record Asked (ws : List ℕ) (i g k : ℕ) : Type 0 where

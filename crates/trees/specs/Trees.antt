@@ -1,5 +1,4 @@
 -- Trees: something, and the trees that stand in it, in order.
--- Assumes nothing.
 use Rattle.std.specs.Prelude.{ℕ, suc, ◌+◌}
 
 mutual

@@ -1,5 +1,4 @@
 -- What the functions that walk over a tree need and say: d is the document, x the text, ws the words of the rows, of which n are claimed.
--- Assumes nothing.
 use Rattle.std.specs.Prelude.{ℕ, zero, suc, ◌+◌, ◌-◌, ◌*◌, ◌≤◌, ◌<◌, ◌^◌, ◌≡◌, List, [], ◌++◌, Bool, true, false, eqb, length, drop, Result, Ok, Err}
 use Rattle.std.proofs.Math.Option.{Option, none, some}
 use Rattle.faults.specs.declared.Fault.{Fault}

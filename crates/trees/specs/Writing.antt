@@ -1,5 +1,4 @@
 -- What writing a tree answers and leaves (docs/FORMAT.md, Answers), for the room lent.
--- Assumes nothing.
 use Rattle.std.specs.Prelude.{ℕ, suc, List, Bool, true, not, ◌&&◌, ◌||◌, eqb, leb, ltb, length, Result}
 use Rattle.std.proofs.Math.Option.{Option, none, some}
 use Rattle.faults.specs.declared.Fault.{Fault}

@@ -1,5 +1,4 @@
 -- What the elements of a tree show, and their bytes (docs/FORMAT.md, Trees).
--- Assumes nothing.
 use Rattle.std.specs.Prelude.{ℕ, ◌*◌, List, [], ◌∷◌, ◌++◌, false, eqb, take, drop}
 use Rattle.std.proofs.Math.Option.{Option, none, some}
 use Rattle.slices.specs.Bytes.{if, bytes}

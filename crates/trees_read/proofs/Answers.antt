@@ -1,5 +1,4 @@
 -- The document of a written tree is accepted if it is short enough and the room is there: its rows show those of the tree.
--- Assumes nothing.
 use Prim.Native.Nat.{ℕ, suc, ◌+◌, ◌/◌}
 use native.Mathlib.Omega.{arith}
 use mathlib.Core.Path.{◌≡◌, refl, ap, sym, ◌∙◌}

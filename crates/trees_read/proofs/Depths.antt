@@ -1,34 +1,31 @@
 -- How deep rows stand: while a document is read, the row of an open element stands as deep as elements are open up to it, and a node
 -- that holds a row or has a docstring is at most the 1,024th.
--- Assumes nothing.
 use Prim.Native.Nat.{ℕ, zero, suc, ◌≤◌, ◌<◌}
 use mathlib.Core.Path.{◌≡◌, refl, ap, sym, subst, ◌∙◌}
 use mathlib.Core.List.{List, [], ◌∷◌, ◌++◌}
 use mathlib.Core.Option.{Option, none, some}
-use mathlib.Core.Bool.{Bool, true, false, not, ◌&&◌}
+use mathlib.Core.Bool.{Bool, true, false}
 use borrow.Author.Tests.{eq-eqb, eqb-true, eqb-false, leb-false}
 use native.Mathlib.Omega.{arith}
-use lib.Dec.{eqb, leb}
+use lib.Dec.{eqb}
 use lib.ListN.{length, take, get_or, length-append, get_or-append}
 use lib.Seq.{length-take-le, get_or-take, get_or-append_seam}
-use Rattle.slices.specs.Bytes.{same}
 use Rattle.utf8.proofs.Sequences.{below}
 use Rattle.document.specs.Kinds.{definitions, parts}
-use Rattle.document.specs.Kinds as kinds
 use Rattle.document.specs.Tags.{Shown}
 use Rattle.document.specs.Tokens.{Tag, Token, start, close, fault, end, tokens}
 use Rattle.document.specs.Rows.{Doc, Row, Tables, documented}
-use Rattle.document.specs.Elements.{kind_of, among, may_hold, Opened, opens, refuses, opens_as}
-use Rattle.document.specs.Reading.{Definition, Purpose, ignored, captures, Frame, element, definition, passing, State, begun, reading, accepted, refused, name_of, row_of, parent_of, noted_in, noted, frame_of, with_row, closed, judged, passed, shut, too_deep, opened, begins, unsupported, docstring_in, child, turn, step, fold, run, tag_name}
+use Rattle.document.specs.Elements.{among, opens, opens_as}
+use Rattle.document.specs.Reading.{Definition, Purpose, ignored, captures, Frame, element, definition, passing, State, begun, row_of, parent_of, noted_in, noted, frame_of, too_deep, step, fold, run, tag_name}
 use Rattle.document.specs.Outcome.{whole}
-use Rattle.document.proofs.Tests.{never, either}
-use Rattle.document.proofs.Steps.{kind_in, takes_docs, Begins, Known, Kept, Closes, Ways, step_kept}
+use Rattle.document.proofs.Tests.{either}
+use Rattle.document.proofs.Steps.{kind_in, TakesDocs, Begins, Known, Kept, Closes, Ways, step_kept}
 use Rattle.rows.proofs.Words.{length_documented}
 use Rattle.items.proofs.Order.{Falls, falls_more}
 use Rattle.accepted.proofs.Folding.{Accepts}
 use Rattle.accepted.proofs.Entries.{Brief, Entry, start_opens}
 use Rattle.accepted.proofs.Frames.{Agree}
-use Rattle.accepted.proofs.Entering.{none_passing, begins_kind}
+use Rattle.accepted.proofs.Entering.{begins_kind}
 use Rattle.accepted.proofs.States.{blank, row_at, at_more, at_last, at_first, at_documented}
 
 -- ---- depths
@@ -154,7 +151,7 @@ module _ (n : ℕ) (b : ℕ → Brief) (k : ℕ) where
   in_deep [] g h = (refl, omega arith)
   in_deep (element c m r ∷ fs) g h = (h.2, omega (arith, h.0))
   in_deep (definition d ∷ fs) g h = (h.2, omega (arith, h.0))
-  in_deep (passing p ns ∷ fs) g h = none_passing k g
+  in_deep (passing p ns ∷ fs) g h = absurd g.0
 
 low_row : (b : ℕ → Brief) (k r l : ℕ) → (b r).kind ≡ k → Deep (parents b) (suc l) (suc r) → (k ≡ 1 → l < 1024) → Low b r
 low_row b k r l e h s z d g =
@@ -162,10 +159,10 @@ low_row b k r l e h s z d g =
     let m = s (sym e ∙ z) in
     omega arith
 
-in_low : (n : ℕ) (b : ℕ → Brief) (f : Frame) (fs : List Frame) → (takes_docs f ≡ true) → LowFrames (f ∷ fs) → Nest n b (f ∷ fs) → (row_of f < n) × Low b (row_of f)
+in_low : (n : ℕ) (b : ℕ → Brief) (f : Frame) (fs : List Frame) → TakesDocs f → LowFrames (f ∷ fs) → Nest n b (f ∷ fs) → (row_of f < n) × Low b (row_of f)
 in_low n b (element c m r) fs t s h = (h.0, low_row b c r (length fs) h.1 h.2 s.0)
 in_low n b (definition d) fs t s h = (h.0, low_row b d.kind d.row (length fs) h.1 h.2 s.0)
-in_low n b (passing p ns) fs t s h = never t
+in_low n b (passing p ns) fs t s h = absurd t.0
 
 over_low : (n : ℕ) (b : ℕ → Brief) (k q : ℕ) (fs : List Frame) → Begins n k fs → LowFrames fs → Nest n b fs → parent_of fs ≡ suc q → (q < n) × Low b q
 over_low n b k q [] g s h e = absurd (omega arith)
@@ -175,7 +172,7 @@ over_low n b k q (element c m r ∷ fs) g s h e =
 over_low n b k q (definition d ∷ fs) g s h e =
     let z : d.row ≡ q = omega arith in
     subst (λ j. (j < n) × Low b j) z (h.0, low_row b d.kind d.row (length fs) h.1 h.2 s.0)
-over_low n b k q (passing p ns ∷ fs) g s h e = none_passing k g
+over_low n b k q (passing p ns ∷ fs) g s h e = absurd g.0
 
 -- ---- docstrings
 
@@ -343,10 +340,7 @@ documented_depths i d fs rs low h = record {
 popped : (fs : List Frame) (rs : List (Row Shown)) {gs : List Frame} → Nest (length rs) (row_at rs) fs → Depths gs rs → Depths fs rs
 popped fs rs w h = record { falls = h.falls; nest = w; holding = h.holding; documented = h.documented }
 
--- ---- open nodes, step by step
-
-low_frames : Known Shown
-low_frames = record { first = Unit {0}; inside = λ fs u. LowFrames fs; done = λ u. Unit {0}; fault = λ x. Unit {0} }
+-- ---- depths, step by step
 
 noted_low : (k : ℕ) (t : Tag) (fs : List Frame) → LowFrames fs → LowFrames (noted k t fs)
 noted_low k t fs h = either LowFrames (among k parts) (λ c. go fs h) (λ c. h)
@@ -357,160 +351,94 @@ noted_low k t fs h = either LowFrames (among k parts) (λ c. go fs h) (λ c. h)
     go (definition d ∷ fs) h = (h.0, h.1)
     go (passing p ns ∷ fs) h = h
 
-module _ (doc : List ℕ) where
-  abbrev Keeps : State Shown → Type 0
-  Keeps s = Kept low_frames s
-
-  closed_low : (fs : List Frame) (u : Tables Shown) → LowFrames fs → Keeps (closed fs u)
-  unfolding low_frames
-  closed_low [] u h = tt
-  closed_low (f ∷ fs) u h = h
-
-  shut_low : (f : Frame) (fs : List Frame) (u : Tables Shown) (lt : ℕ) → LowFrames fs → Keeps (shut doc f fs u lt)
-  unfolding low_frames
-  shut_low (element k n r) fs u lt h = closed_low fs u h
-  shut_low (definition d) fs u lt h = closed_low fs (judged d u) h
-  shut_low (passing p []) fs u lt h = closed_low fs (passed doc p lt u) h
-  shut_low (passing p (n ∷ [])) fs u lt h = closed_low fs (passed doc p lt u) h
-  shut_low (passing p (n ∷ m ∷ ns)) fs u lt h = ((λ e. absurd (omega arith)), h)
-
-  begins_low : (k : ℕ) (t : Tag) (fs : List Frame) (u : Tables Shown) → LowFrames fs → Keeps (begins whole doc k t fs u)
-  unfolding begins low_frames
-  begins_low k t fs u h = go (opens_as whole k (parent_of fs) t)
-    where
-      frame : too_deep whole doc k fs ≡ false → LowFrames (frame_of k t (length u.rows) ∷ noted k t fs)
-      frame d =
-          either (λ (f : Frame). LowFrames (f ∷ noted k t fs)) (among k definitions)
-          (λ c. ((λ e. few d e), noted_low k t fs h))
-          (λ c. ((λ e. few d e), noted_low k t fs h))
-        where
-          few : too_deep whole doc k fs ≡ false → k ≡ 1 → length (noted k t fs) < 1024
-          few d e = rw (noted_long k t fs) (leb-false 1024 (length fs) (rw (eq-eqb k 1 e) at d))
-
-      go : (o : Opened Shown) → Keeps (opened whole doc k t o fs u)
-      go (opens r) =
-          either Keeps t.self
-          (λ c. shut_low (frame_of k t (length u.rows)) (noted k t fs) (with_row r u) 0 (noted_low k t fs h))
-          (λ c. either Keeps (too_deep whole doc k fs) (λ d. tt) (λ d. frame d))
-      go (refuses x) = tt
-
-  unsupported_low : (t : Tag) (fs : List Frame) (u : Tables Shown) → LowFrames fs → Keeps (unsupported whole doc t fs u)
-  unfolding unsupported low_frames
-  unsupported_low t fs u h = either Keeps t.self (λ c. closed_low fs _ h) (λ c. ((λ e. absurd (omega arith)), h))
-
-  docstring_low : (t : Tag) (fs : List Frame) (i : ℕ) (u : Tables Shown) → LowFrames fs → Keeps (docstring_in whole doc t fs i u)
-  unfolding docstring_in low_frames
-  docstring_low t fs i u h = either Keeps t.self (λ c. closed_low fs u h) (λ c. ((λ e. absurd (omega arith)), h))
-
-  child_low : (k i : ℕ) (t : Tag) (fs : List Frame) (u : Tables Shown) → LowFrames fs → Keeps (child whole doc k i t fs u)
-  child_low k i t fs u h =
-      let c = kind_of t.name in
-      either Keeps (eqb c kinds.docstring && not (eqb k kinds.annotation))
-      (λ e. docstring_low t fs i u h)
-      (λ e. either Keeps (may_hold k c) (λ b. begins_low c t fs u h) (λ b. unsupported_low t fs u h))
-
-  turn_low : (t : Token) (f : Frame) (fs : List Frame) (u : Tables Shown) → LowFrames (f ∷ fs) → Keeps (turn whole doc f fs u t)
-  unfolding low_frames
-  turn_low (start t) (element k n i) fs u h = child_low k i t (element k n i ∷ fs) u h
-  turn_low (start t) (definition d) fs u h = child_low d.kind d.row t (definition d ∷ fs) u h
-  turn_low (start t) (passing p ns) fs u h =
-      either Keeps t.self (λ c. h) (λ c. either Keeps (leb 1024 (length ns)) (λ d. tt) (λ d. ((λ e. absurd (omega arith)), h.1)))
-  turn_low (close lt n q) f fs u h = either Keeps (same n (name_of f).bytes) (λ c. shut_low f fs u lt h.1) (λ c. tt)
-  turn_low (fault n p) f fs u h = tt
-  turn_low (end p) f fs u h = tt
-
-  step_low : (s : State Shown) (t : Token) → Keeps s → Keeps (step whole doc s t)
-  unfolding step low_frames
-  step_low begun (start t) h = begins_low kinds.node t [] (record { rows = []; warnings = [] }) tt
-  step_low begun (close lt n q) h = tt
-  step_low begun (fault n p) h = tt
-  step_low begun (end p) h = tt
-  step_low (reading [] u) t h = tt
-  step_low (reading (f ∷ fs) u) t h = turn_low t f fs u h
-  step_low (accepted u) t h = tt
-  step_low (refused x) t h = tt
-
--- ---- depths, step by step
+-- each open node under the innermost element
+abbrev Under : List Frame → Type 0
+Under [] = Unit {0}
+Under (f ∷ fs) = LowFrames fs
 
 held : Known Shown
-held = record { first = Unit {0}; inside = λ fs u. Depths fs u.rows; done = λ u. Depths [] u.rows; fault = λ x. Unit {0} }
+held = record { first = Unit {0}; inside = λ fs u. LowFrames fs × Depths fs u.rows; done = λ u. Depths [] u.rows; fault = λ x. Unit {0} }
 
--- before a token
-before : Known Shown
-before = record { first = Unit {0}; inside = λ fs u. LowFrames fs × Depths fs u.rows; done = λ u. Depths [] u.rows; fault = λ x. Unit {0} }
+-- between the row of a tag `/>`, which may be a node of any depth, and the end of its element
+own : Known Shown
+own = record { first = Unit {0}; inside = λ fs u. Under fs × Depths fs u.rows; done = λ u. Depths [] u.rows; fault = λ x. Unit {0} }
 
 module _ (doc : List ℕ) where
-  closes : Closes whole doc held held
-  unfolding held
+  frame_low : (k : ℕ) (t : Tag) (i : ℕ) (fs : List Frame) → too_deep whole doc k fs ≡ false → LowFrames fs → LowFrames (frame_of k t i ∷ noted k t fs)
+  frame_low k t i fs d h =
+      either (λ (f : Frame). LowFrames (f ∷ noted k t fs)) (among k definitions)
+      (λ c. ((λ e. few e), noted_low k t fs h))
+      (λ c. ((λ e. few e), noted_low k t fs h))
+    where
+      few : k ≡ 1 → length (noted k t fs) < 1024
+      few e = rw (noted_long k t fs) (leb-false 1024 (length fs) (rw (eq-eqb k 1 e) at d))
+
+  closes : Closes whole doc own held
+  unfolding held own
   closes = record {
-    element = λ k n r fs u h. popped fs u.rows (nest_wider r (length u.rows) (row_at u.rows) fs (omega (arith, h.nest.0)) h.nest.3) h;
-    whole = λ d fs u e h. popped fs u.rows (nest_wider d.row (length u.rows) (row_at u.rows) fs (omega (arith, h.nest.0)) h.nest.3) h;
-    broken = λ d fs u e h. dropped_depths d fs u.rows h;
-    root = λ u h. h;
+    element = λ k n r fs u h. (h.0, popped fs u.rows (nest_wider r (length u.rows) (row_at u.rows) fs (omega (arith, h.1.nest.0)) h.1.nest.3) h.1);
+    whole = λ d fs u e h. (h.0, popped fs u.rows (nest_wider d.row (length u.rows) (row_at u.rows) fs (omega (arith, h.1.nest.0)) h.1.nest.3) h.1);
+    broken = λ d fs u e h. (h.0, dropped_depths d fs u.rows h.1);
+    root = λ u h. h.1;
   }
 
-  closes_before : Closes whole doc before held
-  unfolding held before
-  closes_before = record {
-    element = λ k n r fs u h. closes.element k n r fs u h.1;
-    whole = λ d fs u e h. closes.whole d fs u e h.1;
-    broken = λ d fs u e h. dropped_depths d fs u.rows h.1;
-    root = λ u h. h;
+  closes_held : Closes whole doc held held
+  unfolding held own
+  closes_held = record {
+    element = λ k n r fs u h. closes.element k n r fs u (h.0.1, h.1);
+    whole = λ d fs u e h. closes.whole d fs u e (h.0.1, h.1);
+    broken = λ d fs u e h. closes.broken d fs u e (h.0.1, h.1);
+    root = λ u h. h.1;
   }
 
-  ways : (t : Token) → Ways whole doc before held held t
-  unfolding held before
+  ways : (t : Token) → Ways whole doc held own held t
+  unfolding held own
   ways (start t) = record {
     closes = closes;
-    moves = λ fs u h. h.1;
-    row = λ k r fs u c b n e h. row_depths k t r fs u.rows b (entry k r fs u b e) h.0 h.1;
-    own_row = λ k r fs u c b n e h. row_depths k t r fs u.rows b (entry k r fs u b e) h.0 h.1;
+    moves = λ f fs u c h. h;
+    row = λ k r fs u c b n e d h. (frame_low k t (length u.rows) fs d h.0, row_depths k t r fs u.rows b (entry k r fs u b e) h.0 h.1);
+    own_row = λ k r fs u c b n e h. (noted_low k t fs h.0, row_depths k t r fs u.rows b (entry k r fs u b e) h.0 h.1);
     refusal = λ k p x e. tt;
     deep = tt;
-    warning = λ fs u c h. h.1;
-    skips = λ fs u h. popped (passing ignored (tag_name t ∷ []) ∷ fs) u.rows (tt, h.1.nest) h.1;
-    docstring = λ f fs u d h. popped (passing (captures t.after (row_of f)) (tag_name t ∷ []) ∷ f ∷ fs) u.rows (in_low (length u.rows) (row_at u.rows) f fs d h.0 h.1.nest, h.1.nest) h.1;
-    within = λ p ns fs u h. popped (passing p (tag_name t ∷ ns) ∷ fs) u.rows h.1.nest h.1;
+    warning = λ f fs u c h. h;
+    skips = λ f fs u c r h. (((λ e. absurd (omega arith)), h.0), popped (passing ignored (tag_name t ∷ []) ∷ f ∷ fs) u.rows (tt, h.1.nest) h.1);
+    docstring = λ f fs u c d h. (
+      ((λ e. absurd (omega arith)), h.0),
+      popped (passing (captures t.after (row_of f)) (tag_name t ∷ []) ∷ f ∷ fs) u.rows (in_low (length u.rows) (row_at u.rows) f fs d h.0 h.1.nest, h.1.nest) h.1,
+    );
+    within = λ p ns fs u c d h. (((λ e. absurd (omega arith)), h.0.1), popped (passing p (tag_name t ∷ ns) ∷ fs) u.rows h.1.nest h.1);
   }
     where
       entry : (k : ℕ) (r : Row Shown) (fs : List Frame) (u : Tables Shown) → Begins (length u.rows) k fs → opens_as whole k (parent_of fs) t ≡ opens r → Entry k (parent_of fs) t r
       entry k r fs u b e = rw e at (start_opens (parent_of fs) t k (begins_kind (length u.rows) k fs b))
   ways (close lt n q) = record {
-    closes = closes_before;
-    passed = λ p ns fs u h. popped fs u.rows h.1.nest.1 h.1;
-    docstring = λ s r ns fs u h. documented_depths r _ fs u.rows h.1.nest.0.1 (popped fs u.rows h.1.nest.1 h.1);
-    within = λ p n ns fs u h. popped (passing p ns ∷ fs) u.rows h.1.nest h.1;
+    closes = closes_held;
+    passed = λ p ns fs u l h. (h.0.1, popped fs u.rows h.1.nest.1 h.1);
+    docstring = λ s r ns fs u l e h. (h.0.1, documented_depths r _ fs u.rows h.1.nest.0.1 (popped fs u.rows h.1.nest.1 h.1));
+    within = λ p n ns fs u l e h. (((λ e. absurd (omega arith)), h.0.1), popped (passing p ns ∷ fs) u.rows h.1.nest h.1);
     another = λ f fs u h. tt;
     none = tt;
   }
   ways (fault n p) = tt
   ways (end p) = (tt, λ f fs u h. tt)
 
-  joint : (s : State Shown) → Kept low_frames s → Kept held s → Kept before s
-  unfolding low_frames held before
-  joint begun l h = tt
-  joint (reading fs u) l h = (l, h)
-  joint (accepted u) l h = h
-  joint (refused x) l h = tt
-
-  step_depths : (s : State Shown) (t : Token) → Kept before s → Kept held (step whole doc s t)
-  unfolding held before
+  step_depths : (s : State Shown) (t : Token) → Kept held s → Kept held (step whole doc s t)
+  unfolding held
   step_depths s t h =
-      step_kept whole doc before held held s t (record {
+      step_kept whole doc held own held s t (record {
         ways = ways t;
         empty = λ h. (tt, record { falls = λ k l. absurd (omega arith); nest = tt; holding = λ c r l. absurd (omega arith); documented = λ r d l. absurd (omega arith) });
-        ended = λ u h. h.1;
         done = λ u h. h;
         fault = λ x h. tt;
       }) h
 
-  fold_depths : (s : State Shown) (ts : List Token) → Kept low_frames s → Kept held s → Kept held (fold whole doc s ts)
-  fold_depths s [] l h = h
-  fold_depths s (t ∷ ts) l h = fold_depths (step whole doc s t) ts (step_low doc s t l) (step_depths s t (joint s l h))
+  fold_depths : (s : State Shown) (ts : List Token) → Kept held s → Kept held (fold whole doc s ts)
+  fold_depths s [] h = h
+  fold_depths s (t ∷ ts) h = fold_depths (step whole doc s t) ts (step_depths s t h)
 
   run_depths : Kept held (run whole doc 0 begun)
-  unfolding run held low_frames
-  run_depths = fold_depths begun (tokens doc 0) tt tt
+  unfolding run held
+  run_depths = fold_depths begun (tokens doc 0) tt
 
   pub accepts_depths : {u : Tables Shown} → Accepts doc u → Depths [] u.rows
   unfolding held

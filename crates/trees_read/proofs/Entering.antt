@@ -1,5 +1,4 @@
 -- A written start tag opens an element that has what its kind needs: its row, its frame, and its part in a definition.
--- Assumes nothing.
 use Prim.Native.Nat.{ℕ, suc, ◌≤◌}
 use native.Mathlib.Omega.{arith}
 use mathlib.Core.Path.{◌≡◌, refl}
@@ -83,21 +82,21 @@ tag_names shapes.struct = (refl, refl, refl, refl)
 tag_names shapes.member = (refl, refl, refl, refl)
 tag_names shapes.mapping = (refl, refl, refl, refl)
 
-pub kind_of_lem : {k : ℕ} → Known k → kind_of (tag_of k) ≡ k
+pub tag_kind : {k : ℕ} → Known k → kind_of (tag_of k) ≡ k
 unfolding tag_of kind_of
-kind_of_lem shapes.node = refl
-kind_of_lem shapes.interface = refl
-kind_of_lem shapes.method = refl
-kind_of_lem shapes.property = refl
-kind_of_lem shapes.signal = refl
-kind_of_lem shapes.annotation = refl
-kind_of_lem shapes.arg = refl
-kind_of_lem shapes.simple_type = refl
-kind_of_lem shapes.enum = refl
-kind_of_lem shapes.enumvalue = refl
-kind_of_lem shapes.struct = refl
-kind_of_lem shapes.member = refl
-kind_of_lem shapes.mapping = refl
+tag_kind shapes.node = refl
+tag_kind shapes.interface = refl
+tag_kind shapes.method = refl
+tag_kind shapes.property = refl
+tag_kind shapes.signal = refl
+tag_kind shapes.annotation = refl
+tag_kind shapes.arg = refl
+tag_kind shapes.simple_type = refl
+tag_kind shapes.enum = refl
+tag_kind shapes.enumvalue = refl
+tag_kind shapes.struct = refl
+tag_kind shapes.member = refl
+tag_kind shapes.mapping = refl
 
 pub no_docstring : {k : ℕ} → Known k → eqb k kinds.docstring ≡ false
 no_docstring shapes.node = refl

@@ -1,5 +1,4 @@
 -- What the statements on trees say of the entries.
--- Assumes nothing.
 use Prim.Native.Nat.{ℕ, ◌-◌, ◌≤◌, ◌<◌}
 use mathlib.Core.Path.{◌≡◌, refl, ap, sym, subst, ◌∙◌}
 use mathlib.Core.List.{List, [], ◌∷◌, ◌++◌}
@@ -20,7 +19,7 @@ use Rattle.document.specs.Tags.{Shown}
 use Rattle.document.specs.Rows.{Row, Tables, words_from, texts}
 use Rattle.document.specs.Elements.{among}
 use Rattle.document.specs.Reading.{State, begun, reading, accepted, refused}
-use Rattle.document.specs.Whole.{Room, read, meaning, verdict_of, filled, rows_left_lem, text_left, Says}
+use Rattle.document.specs.Whole.{Room, read, meaning, verdict_of, filled, rows_left, text_left, Says}
 use Rattle.document.specs.declared.Counts.{Counts}
 use Rattle.document.specs.Verdict.{Verdict, counts}
 use Rattle.items.specs.Words.{rows_of}
@@ -58,10 +57,10 @@ module _ {t : Tree Element} {lent : Room} {rows warnings x : List ℕ} {v : Verd
       counted = rw (b.rows, b.bytes, b.silent)
 
       rows_are : rows ≡ filled lent.rows (words_from 0 u.rows)
-      rows_are = rw b.accepts at p.rows_left
+      rows_are = rw b.accepts at p.of_rows
 
       x_is : x ≡ filled lent.text (texts u.rows)
-      x_is = rw b.accepts at p.text_left_lem
+      x_is = rw b.accepts at p.of_text
 
       tree_left : (x w : List ℕ) → x ≡ filled lent.text (texts u.rows) → w ≡ filled lent.rows (words_from 0 u.rows) → tree_at (written_tree t) x w (length u.rows) 0 ≡ tree_of (written_tree t) u
       tree_left x w e f =
@@ -164,9 +163,9 @@ module _ (doc : List ℕ) (u : Tables Shown) (e : meaning doc ≡ accepted u) (y
       let k : kind_at (rows_of n ws) 0 ≡ 1 = ap (λ rs. kind_at rs 0) (rows_words 0 u.rows z) ∙ kind_first 0 u.rows l ∙ ((accepts_holds doc a.sound.utf8 a).fine 0 l).0.0 in
       rw (lt-ltb 0 n l, k)
 
-  pub tree_written_lem : length x ≤ 1048576 → (room : ℕ) → tree_writing doc x ws n 0 room ≡ roomy room (text (written_tree (tree_at doc x ws n 0)))
+  pub tree_made : length x ≤ 1048576 → (room : ℕ) → tree_writing doc x ws n 0 room ≡ roomy room (text (written_tree (tree_at doc x ws n 0)))
   unfolding tree_writing
-  tree_written_lem l room =
+  tree_made l room =
       let a = meaning_accepts doc u e in
       no_refusal (ltb 1048576 (length doc)) (ltb 1048576 (length x)) (is_writable ws n 0) (soundness doc x ws n) (too_deep (element_at doc x ws) 0 (shape_at ws n 0)) (tree_at doc x ws n 0) room
       (le-ltb 1048576 (length doc) a.sound.small)
@@ -177,17 +176,17 @@ module _ (doc : List ℕ) (u : Tables Shown) (e : meaning doc ≡ accepted u) (y
 
   written_back : {room : ℕ} {out : List ℕ} {r : Result ℕ Fault} → ((lent : Room) → Fits (tree_of doc u) lent → ReadsBack (tree_of doc u) lent) → length x ≤ 1048576 → WritesTree doc x ws n 0 room out r → Writable (tree_at doc x ws n 0) room out r
   written_back {room} h l w =
-      writable (tree_writing doc x ws n 0 room) (tree_written_lem l room) w.says.answer w.says.left
+      writable (tree_writing doc x ws n 0 room) (tree_made l room) w.says.answer w.says.left
       (subst (λ t. (lent : Room) → Fits t lent → ReadsBack t lent) (sym (left_tree doc u e y z)) h)
 
 -- A
 pub entries_of_reader : ReaderTrees → ReaderEntries
-entries_of_reader h doc rows warnings x lent n c w s l room out r p = go (read doc lent) refl s.verdict s.rows_left s.text_left_lem
+entries_of_reader h doc rows warnings x lent n c w s l room out r p = go (read doc lent) refl s.verdict s.of_rows s.of_text
   where
     Goes : List ℕ → List ℕ → ℕ → Type 0
     Goes x rows n = length x ≤ 1048576 → WritesTree doc x rows n 0 room out r → Writable (tree_at doc x rows n 0) room out r
 
-    go : (q : State Shown) → read doc lent ≡ q → Ok (counts n c w) ≡ verdict_of q → rows ≡ rows_left_lem lent q → x ≡ text_left lent q → Writable (tree_at doc x rows n 0) room out r
+    go : (q : State Shown) → read doc lent ≡ q → Ok (counts n c w) ≡ verdict_of q → rows ≡ rows_left lent q → x ≡ text_left lent q → Writable (tree_at doc x rows n 0) room out r
     go begun q e f g = let z : ◌≡◌ {A = ℕ} 0 1 = cc in absurd (omega arith)
     go (reading fs u) q e f g = let z : ◌≡◌ {A = ℕ} 0 1 = cc in absurd (omega arith)
     go (accepted u) q e f g =

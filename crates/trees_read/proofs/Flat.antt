@@ -1,9 +1,8 @@
 -- The rows that a written tree is read as, and how many they are.
--- Assumes nothing.
 use Prim.Native.Nat.{ℕ, suc, ◌+◌}
 use native.Mathlib.Omega.{arith}
-use mathlib.Core.Path.{◌≡◌, refl, ap, sym, ◌∙◌}
-use mathlib.Core.List.{List, [], ◌∷◌, ◌++◌, append_assoc}
+use mathlib.Core.Path.{◌≡◌, refl, ap}
+use mathlib.Core.List.{List, [], ◌∷◌, ◌++◌}
 use mathlib.Core.Option.{Option, none, some}
 use mathlib.Core.Bool.{false}
 use lib.ListN.{length, length-append}
@@ -42,10 +41,6 @@ abbrev mutual
   pub flats : ℕ → ℕ → ℕ → Forest Element → List Row
   flats p i at bare = []
   flats p i at (more t f) = flat p i at t ++ flats p (i + size t) (at + length (written_tree t)) f
-
-pub concat-append : (xs ys : List (List ℕ)) → concat (xs ++ ys) ≡ concat xs ++ concat ys
-concat-append [] ys = refl
-concat-append (x ∷ xs) ys = ap (◌++◌ x) (concat-append xs ys) ∙ sym (append_assoc x (concat xs) (concat ys))
 
 mutual
   pub length_flat : (p i at : ℕ) (t : Tree Element) → length (flat p i at t) ≡ size t

@@ -1,14 +1,14 @@
 -- Steps in an open element: a written start tag, a closing tag, a docstring; and what a definition has seen of its parts.
--- Assumes nothing.
 use Prim.Native.Nat.{ℕ, suc, ◌≤◌}
 use native.Mathlib.Omega.{arith}
 use mathlib.Core.Path.{◌≡◌, refl, ap, sym, subst, ◌∙◌}
 use mathlib.Core.List.{List, [], ◌∷◌, ◌++◌}
-use mathlib.Core.Bool.{Bool, true, false, ◌||◌}
+use mathlib.Core.Bool.{Bool, true, false, or-false}
 use borrow.Author.Tests.{eqb-true, ne_eqb}
 use lib.Dec.{eqb}
 use lib.ListN.{length}
 use Rattle.slices.specs.Bytes.{if}
+use Rattle.slices.proofs.Runs.{same_self}
 use Rattle.document.specs.Kinds as kinds
 use Rattle.document.specs.Tokens.{Tag, start, close}
 use Rattle.document.specs.Elements.{among, kind_of, may_hold}
@@ -17,14 +17,14 @@ use Rattle.document.specs.Reading.{Parts, Frame, parts_reason, noted, closed, sh
 use Rattle.items.specs.Content.{present}
 use Rattle.roundtrip.proofs.Tags.{tag_at}
 use Rattle.roundtrip.proofs.Held.{keeps, Row, marked, table, inside}
-use Rattle.roundtrip.proofs.Elements.{name_from, same_self}
+use Rattle.roundtrip.proofs.Elements.{name_from}
 use Rattle.trees.specs.Trees.{Tree, tree, Forest, bare, more}
 use Rattle.trees.specs.Written.{Element, tag_of, doc_tag}
 use Rattle.trees_read.proofs.Good as good
 use Rattle.trees_read.proofs.Good.{kind_in, Goods}
 use Rattle.trees_read.proofs.Runs.{catching}
 use Rattle.trees_read.proofs.Shapes.{Known}
-use Rattle.trees_read.proofs.Entering.{bare_for, framed_by, framed, no_parts, plus, start_at, Enters, kind_of_lem, no_docstring}
+use Rattle.trees_read.proofs.Entering.{bare_for, framed_by, framed, no_parts, plus, start_at, Enters, tag_kind, no_docstring}
 
 -- ---- parts
 
@@ -38,10 +38,6 @@ element_in (tree e f) = e
 abbrev pub parts_after : Forest Element → Parts → Parts
 parts_after bare p = p
 parts_after (more t f) p = parts_after f (plus_if (element_in t) p)
-
-or-false : (b : Bool) → (b || false) ≡ b
-or-false true = refl
-or-false false = refl
 
 broken_one : (e : Element) (p : Parts) → (plus_if e p).broken ≡ p.broken
 broken_one e p = go (among e.kind kinds.parts)
@@ -81,9 +77,6 @@ only_members k c h m = go (eqb k kinds.struct) refl (eqb k kinds.mapping) refl h
 
 member_part : (c : ℕ) → eqb c kinds.member ≡ true → among c kinds.parts ≡ true
 member_part c e = rw (eqb-true c kinds.member e)
-
-kind_in_lem : (t : Tree Element) → kind_in t ≡ (element_in t).kind
-kind_in_lem (tree e f) = refl
 
 value_in : (t : Tree Element) → good.value_in t ≡ present (element_in t).value
 value_in (tree e f) = refl
@@ -176,7 +169,7 @@ module _ (doc : List ℕ) where
     begins_entered self fs rs = rw (x.opened (parent_of fs) at self)
 
     child_begins : (self : Bool) (k i : ℕ) (fs : List Frame) (rs : List Row) → may_hold k e.kind ≡ true → child keeps doc k i (start_at at e self) fs (table rs []) ≡ begins keeps doc e.kind (start_at at e self) fs (table rs [])
-    child_begins self k i fs rs m = rw (kind_of_lem h, no_docstring h, m)
+    child_begins self k i fs rs m = rw (tag_kind h, no_docstring h, m)
 
     -- in an open element
     module _ (k : ℕ) (n : reading.Name) (a i : ℕ) (p : Parts) (fs : List Frame) (rs : List Row) (m : may_hold k e.kind ≡ true) where

@@ -1,6 +1,5 @@
 -- Trees that are read back: their elements have what their kinds need, stand where they may, have the members that they need, are arranged
 -- in groups, and are not too deep.
--- Assumes nothing.
 use Prim.Native.Nat.{ℕ, suc}
 use mathlib.Core.Path.{◌≡◌}
 use mathlib.Core.List.{List}

@@ -1,5 +1,4 @@
 -- Laws of written trees and of reading them.
--- Assumes nothing.
 pub mod Good
 pub mod Flat
 pub mod Runs

@@ -1,5 +1,4 @@
 -- The rows that a written tree is read as give the tree again.
--- Assumes nothing.
 use Prim.Native.Nat.{ℕ, zero, suc, ◌+◌, ◌*◌, ◌≤◌}
 use native.Mathlib.Omega.{arith}
 use mathlib.Core.Path.{◌≡◌, refl, sym, ap, ◌∙◌}
@@ -16,13 +15,14 @@ use Rattle.items.specs.Words.{row_of, viewed, rows_shown}
 use Rattle.items.specs.View.{over}
 use Rattle.items.specs.Content.{Row}
 use Rattle.items.specs.Written.{Pair, tag, closing_tag, concat, element}
+use Rattle.items.proofs.Written.{concat-append}
 use Rattle.trees.specs.Trees.{Tree, tree, Forest, bare, more, joined, map_tree, map_forest, size, sizes}
 use Rattle.trees.specs.Shape.{Link, link_of, links_of, grouped, chosen, forest, under, shape_at, types, args, members, annotations, nodes}
 use Rattle.trees.specs.Written.{Element, element_of, element_at, docstring, tree_at, tag_of, attributes, doc_tag, docstrings, written_tree, written_forest}
 use Rattle.trees.proofs.Opening.{element_some}
 use Rattle.trees.proofs.Zipper.{joined_bare}
 use Rattle.trees_read.proofs.Good.{Good, Goods, Fit, Documented, kind_in, of_kinds, any_tree, open_in}
-use Rattle.trees_read.proofs.Flat.{content_at, doc_at, row_for, flat, flats, concat-append, length_flat}
+use Rattle.trees_read.proofs.Flat.{content_at, doc_at, row_for, flat, flats, length_flat}
 
 -- ---- forests
 

@@ -1,5 +1,4 @@
 -- Runs at a place of a document where the bytes are known: one token, and a docstring.
--- Assumes nothing.
 use Prim.Native.Nat.{ℕ, ◌+◌, ◌-◌, ◌≤◌, ◌<◌}
 use native.Mathlib.Omega.{arith}
 use native.Mathlib.Nat.{add-zero}
@@ -9,7 +8,7 @@ use mathlib.Core.Bool.{Bool, false}
 use borrow.Author.Tests.{lt-ltb}
 use lib.ListN.{length, length-append, length-drop, drop}
 use lib.Seq.{drop-drop, drop-append_seam, take-append_seam}
-use Rattle.slices.specs.Bytes.{empty}
+use Rattle.slices.proofs.Ends.{not_empty}
 use Rattle.document.specs.Rows.{Doc, with_doc, documented}
 use Rattle.document.specs.Tokens.{Token, start, close, more, next, tokens}
 use Rattle.document.specs.Reading as reading
@@ -58,10 +57,6 @@ unfolding run
 text_run doc at s r h e n p fs rs =
     let q = inside (passing p (n ∷ []) ∷ fs) rs [] in
     rw (e, after doc at s (60 ∷ 47 ∷ r) e, h.lexed at r, fold-append doc q (h.toks at) (tokens (60 ∷ 47 ∷ r) (at + length s)), h.folds doc at n p fs (table rs []))
-
-not_empty : (s : List ℕ) → empty s ≡ false → 0 < length s
-not_empty [] h = let z : ◌≡◌ {A = ℕ} 0 1 = cc in absurd (omega arith)
-not_empty (b ∷ s) h = omega arith
 
 -- its closing tag
 text_closed : (doc : List ℕ) (at i : ℕ) (s r : List ℕ) → Passable keeps s → drop (text_at at) doc ≡ s ++ r → (f : Frame) (fs : List Frame) (rs : List Row) (q : ℕ) → step keeps doc (inside (catching at i ∷ f ∷ fs) rs []) (close (text_at at + length s) doc_tag q) ≡ inside (f ∷ fs) (documented i (record { start = text_at at; len = length s }) rs) []

@@ -1,5 +1,4 @@
 -- Elements that have what their kinds need, kind by kind.
--- Assumes nothing.
 use Prim.Native.Nat.{ℕ, zero, suc}
 use native.Mathlib.Omega.{arith}
 use mathlib.Core.Path.{◌≡◌, refl, subst, sym}
@@ -13,7 +12,8 @@ use Rattle.slices.proofs.Runs.{and_both}
 use Rattle.names.specs.Names.{interface_name, member_name, property_name}
 use Rattle.names.specs.Signature.{signature}
 use Rattle.document.specs.Kinds as kinds
-use Rattle.document.specs.Elements.{among, some_signature, held_by_lem, may_hold}
+use Rattle.document.specs.Elements.{among, some_signature, held_by, may_hold}
+use Rattle.document.proofs.Tests.{Each, among_each}
 use Rattle.items.specs.Sound.{Use, name_use, value_use, tp_use, valid_name, valid_value, valid_word, any_text}
 use Rattle.trees_read.proofs.Good.{Fitting, Fit}
 
@@ -33,35 +33,23 @@ pub data Known : ℕ → Type 0 where
   member : Known 12
   mapping : Known 13
 
-abbrev AllKnown : List ℕ → Type 0
-AllKnown [] = Unit {0}
-AllKnown (k ∷ ks) = Known k × AllKnown ks
-
-known_among : (c : ℕ) (ks : List ℕ) → AllKnown ks → among c ks ≡ true → Known c
-known_among c [] h e = let z : ◌≡◌ {A = ℕ} 0 1 = cc in absurd (omega arith)
-known_among c (k ∷ ks) h e = go (eqb c k) refl e (λ e. known_among c ks h.1 e)
-  where
-    go : (b : Bool) → eqb c k ≡ b → if b true (among c ks) ≡ true → (among c ks ≡ true → Known c) → Known c
-    go true f e r = subst Known (sym (eqb-true c k f)) h.0
-    go false f e r = r e
-
 either : (P : List ℕ → Type 0) (b : Bool) {x y : List ℕ} → P x → P y → P (if b x y)
 either P true h k = h
 either P false h k = k
 
-known_held : (k : ℕ) → AllKnown (held_by_lem k)
+known_held : (k : ℕ) → Each Known (held_by k)
 known_held k =
-    either AllKnown (eqb k kinds.node) (node, (interface, (simple_type, (enum, (struct, (mapping, tt))))))
-    (either AllKnown (eqb k kinds.interface) (method, (property, (signal, (annotation, (simple_type, (enum, (struct, (mapping, tt))))))))
-    (either AllKnown (among k kinds.callables) (annotation, (arg, tt))
-    (either AllKnown (among k kinds.values) (annotation, tt)
-    (either AllKnown (eqb k kinds.enum) (enumvalue, tt)
-    (either AllKnown (among k (kinds.struct ∷ kinds.mapping ∷ [])) (member, tt) tt)))))
+    either (Each Known) (eqb k kinds.node) (node, (interface, (simple_type, (enum, (struct, (mapping, tt))))))
+    (either (Each Known) (eqb k kinds.interface) (method, (property, (signal, (annotation, (simple_type, (enum, (struct, (mapping, tt))))))))
+    (either (Each Known) (among k kinds.callables) (annotation, (arg, tt))
+    (either (Each Known) (among k kinds.values) (annotation, tt)
+    (either (Each Known) (eqb k kinds.enum) (enumvalue, tt)
+    (either (Each Known) (among k (kinds.struct ∷ kinds.mapping ∷ [])) (member, tt) tt)))))
 
 -- what stands in an element is of a known kind
 pub held_known : (k c : ℕ) → may_hold k c ≡ true → Known c
 unfolding may_hold
-held_known k c h = known_among c (held_by_lem k) (known_held k) h
+held_known k c h = among_each Known c (held_by k) h (known_held k)
 
 -- nodes stand in nodes only
 pub node_in_node : (k : ℕ) → may_hold k kinds.node ≡ true → eqb k kinds.node ≡ true

@@ -1,5 +1,4 @@
 -- The tree of sound rows is good, where their docstrings are and no node is too deep.
--- Assumes nothing.
 use Prim.Native.Nat.{ℕ, zero, suc, ◌+◌, ◌*◌, ◌-◌, ◌≤◌, ◌<◌}
 use native.Mathlib.Omega.{arith}
 use mathlib.Core.Path.{◌≡◌, refl, sym, ap, ◌∙◌, subst}
@@ -17,10 +16,10 @@ use Rattle.names.specs.Signature.{basic_signature}
 use Rattle.tables.specs.Triple as triples
 use Rattle.tables.specs.declared.Triple.{Triple}
 use Rattle.document.specs.Kinds as kinds
-use Rattle.document.specs.Elements.{among, held_by_lem, may_hold}
+use Rattle.document.specs.Elements.{among, held_by, may_hold}
 use Rattle.items.specs.Words.{RowWords, absent, row_of, rows_of, shown_by}
 use Rattle.items.specs.Sound.{Use, name_use, value_use, tp_use, valid_name, valid_value, any_text, kind_at, good_triple, members_of, any_member, keyed, counted, sound, soundness}
-use Rattle.items.proofs.Rows.{RowIs, kind_at_lem, row_word, row_parts, sound_row_lem, before_it}
+use Rattle.items.proofs.Rows.{RowIs, kind_word, row_word, row_parts, row_is_sound, before_it}
 use Rattle.items.proofs.Words.{present_shown}
 use Rattle.trees.specs.Trees.{Tree, tree, Forest, bare, more, joined, map_tree, map_forest}
 use Rattle.trees.specs.Shape.{Link, link_of, links_of, grouped, chosen, forest, shape_at, types, args, members, annotations, nodes}
@@ -168,11 +167,11 @@ rows_from ws k (suc m) = row_at ws k ∷ rows_from ws (suc k) m
 abbrev links_from : List ℕ → ℕ → ℕ → List Link
 links_from ws k m = map link_of (rows_from ws k m)
 
-rows_from_lem : (m k : ℕ) (ws : List ℕ) → rows_of m (drop (k * 16) ws) ≡ rows_from ws k m
-rows_from_lem zero k ws = refl
-rows_from_lem (suc m) k ws =
+rows_from_row : (m k : ℕ) (ws : List ℕ) → rows_of m (drop (k * 16) ws) ≡ rows_from ws k m
+rows_from_row zero k ws = refl
+rows_from_row (suc m) k ws =
     let e : k * 16 + 16 ≡ suc k * 16 = omega arith in
-    ap (◌∷◌ (row_at ws k)) (ap (rows_of m) (drop-drop 16 (k * 16) ws ∙ ap (λ (j : ℕ). drop j ws) e) ∙ rows_from_lem m (suc k) ws)
+    ap (◌∷◌ (row_at ws k)) (ap (rows_of m) (drop-drop 16 (k * 16) ws ∙ ap (λ (j : ℕ). drop j ws) e) ∙ rows_from_row m (suc k) ws)
 
 -- ---- the forests of a table
 
@@ -204,7 +203,7 @@ only_members k c = go (eqb k 11) refl (eqb k 13) refl
     one true e h = eqb-true c 12 e
     one false e h = absurd (not_both h)
 
-    go : (a : Bool) → eqb k 11 ≡ a → (b : Bool) → eqb k 13 ≡ b → if a true (if b true false) ≡ true → among c (held_by_lem k) ≡ true → c ≡ 12
+    go : (a : Bool) → eqb k 11 ≡ a → (b : Bool) → eqb k 13 ≡ b → if a true (if b true false) ≡ true → among c (held_by k) ≡ true → c ≡ 12
     go true e b f h q = let z = eqb-true k 11 e in one (eqb c 12) refl (rw z at q)
     go false e true f h q = let z = eqb-true k 13 f in one (eqb c 12) refl (rw z at q)
     go false e false f h q = absurd (not_both h)
@@ -252,13 +251,13 @@ module _ (document text ws : List ℕ) (n : ℕ) (ok : soundness document text w
   shows = element_at document text ws
 
   is : (i : ℕ) → i < n → RowIs document text (rows_of n ws) i (row_at ws i)
-  is i h = row_parts document text (rows_of n ws) i (row_at ws i) (sound_row_lem document text ws n ok i h)
+  is i h = row_parts document text (rows_of n ws) i (row_at ws i) (row_is_sound document text ws n ok i h)
 
   earlier : (i : ℕ) → i < n → (row_at ws i).parent ≤ i
   earlier i h = before_it (rows_of n ws) i (row_at ws i) (is i h).placed
 
   kind_row : (i : ℕ) → i < n → kind_at (rows_of n ws) i ≡ (row_at ws i).kind
-  kind_row i h = let z : i * 16 + 0 ≡ i * 16 = omega arith in kind_at_lem n i ws h ∙ sym (row_word i 0 ws ∙ ap (λ (k : ℕ). get_or ws k 0) z)
+  kind_row i h = let z : i * 16 + 0 ≡ i * 16 = omega arith in kind_word n i ws h ∙ sym (row_word i 0 ws ∙ ap (λ (k : ℕ). get_or ws k 0) z)
 
   -- a row may stand in its parent
   held : (i j : ℕ) → i < n → j < i → (row_at ws i).parent ≡ suc j → may_hold (row_at ws j).kind (row_at ws i).kind ≡ true
@@ -359,7 +358,7 @@ module _ (document text ws : List ℕ) (n : ℕ) (ok : soundness document text w
         goods = subst (λ f. Goods o (row_at ws k).kind f) (sym groups) (goods_grouped o (row_at ws k).kind each goods_each)
 
         rows_all : members_of (suc k) (rows_of n ws) ≡ members_of (suc k) (rows_from ws (suc k) m)
-        rows_all = ap (members_of (suc k)) (rows_from_lem n 0 ws) ∙ skip (suc k) 0 n k m (omega arith) (omega arith) l
+        rows_all = ap (members_of (suc k)) (rows_from_row n 0 ws) ∙ skip (suc k) 0 n k m (omega arith) (omega arith) l
 
         counts : among (row_at ws k).kind held_kinds ≡ true → (any_tree all ≡ any_member (members_of (suc k) (rows_of n ws))) × (keyed_in all ≡ keyed document text (members_of (suc k) (rows_of n ws)))
         counts q =
@@ -396,6 +395,6 @@ pub sound_good : (document text ws : List ℕ) (n : ℕ) → soundness document 
 unfolding shape_at
 sound_good document text ws zero ok h docs deep = absurd (omega arith)
 sound_good document text ws (suc m) ok h docs deep =
-    let l : links_of m (drop 16 ws) ≡ links_from ws 1 m = ap (map link_of) (rows_from_lem m 1 ws) in
+    let l : links_of m (drop 16 ws) ≡ links_from ws 1 m = ap (map link_of) (rows_from_row m 1 ws) in
     let g = good_step document text ws (suc m) ok docs 0 m 0 (omega arith) (λ gs o. goods_forest document text ws (suc m) ok docs m 1 gs 0 o (omega arith) (omega arith)) in
     (rw l (g (rw l at deep)), eqb-true (get_or ws 0 0) kinds.node (and_both (eqb (get_or ws 0 0) kinds.node) (eqb (get_or ws 1 0) 0) (is document text ws (suc m) ok 0 (omega arith)).placed).0)

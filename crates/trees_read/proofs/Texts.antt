@@ -1,5 +1,4 @@
 -- A written tree is well_formed UTF-8.
--- Assumes nothing.
 use Prim.Native.Nat.{ℕ}
 use mathlib.Core.Path.{◌≡◌, refl, sym, subst}
 use mathlib.Core.List.{List, [], ◌∷◌, ◌++◌}
@@ -17,12 +16,12 @@ use Rattle.document.specs.Kinds as kinds
 use Rattle.document.specs.Elements.{among}
 use Rattle.items.specs.Sound.{Use}
 use Rattle.items.specs.Written.{Pair, pairs, concat}
+use Rattle.items.proofs.Written.{concat-append}
 use Rattle.items.proofs.Written.{pairs-append}
 use Rattle.roundtrip.proofs.Texts.{first, whole_tag, whole_close, whole_element}
 use Rattle.trees.specs.Trees.{Tree, tree, Forest, bare, more}
 use Rattle.trees.specs.Written.{Element, tag_of, given, name_key, value_key, tp_key, word_pairs, attributes, doc_tag, docstrings, written_tree, written_forest}
 use Rattle.trees_read.proofs.Good.{Fitting, Documented, Fit, open_in, Good, Goods}
-use Rattle.trees_read.proofs.Flat.{concat-append}
 
 either : {A : Type 0} (P : A → Type 0) (b : Bool) {x y : A} → P x → P y → P (if b x y)
 either P true h k = h

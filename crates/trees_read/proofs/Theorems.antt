@@ -1,6 +1,5 @@
 -- The theorems: good trees are read, and their rows regrow them; the rows of a document that is accepted, and sound rows with no docstring,
 -- give good trees; and a tree that reads back is written as the same bytes again.
--- Assumes nothing.
 use Prim.Native.Nat.{ℕ, zero, suc, ◌≤◌, ◌<◌}
 use mathlib.Core.Path.{◌≡◌, refl, ap, sym, subst, ◌∙◌}
 use mathlib.Core.List.{List, [], ◌∷◌, ◌++◌, append-nil}
@@ -40,13 +39,13 @@ use Rattle.trees_read.proofs.Regrown.{regrown}
 use Rattle.trees_read.proofs.SoundTrees.{sound_good}
 use Rattle.trees_read.proofs.Sizes.{tree_size}
 use Rattle.trees_read.proofs.Answers.{Answers, reads}
-use Rattle.trees_read.proofs.Entries.{tree_written_lem, entries_of_reader, entries_of_sound}
+use Rattle.trees_read.proofs.Entries.{tree_made, entries_of_reader, entries_of_sound}
 
 -- ---- written again
 
 pub again : (t : Tree Element) (room : Room) (u : Tables Shown) → read (written_tree t) room ≡ accepted u → tree_of (written_tree t) u ≡ t → (lent : ℕ) → length (written_tree t) ≤ lent → tree_writing (written_tree t) (texts u.rows) (words_from 0 u.rows) (length u.rows) 0 lent ≡ text (written_tree t)
 again t room u e s lent l =
-    rw (append-nil (texts u.rows), append-nil (words_from 0 u.rows)) at (tree_written_lem doc u m [] [] short lent)
+    rw (append-nil (texts u.rows), append-nil (words_from 0 u.rows)) at (tree_made doc u m [] [] short lent)
     ∙ ap (λ b. roomy lent (text (written_tree b))) s
     ∙ whole
   where

@@ -1,5 +1,4 @@
 -- A written tree is read as its rows, with no warning.
--- Assumes nothing.
 use Prim.Native.Nat.{ℕ, suc, ◌+◌, ◌≤◌}
 use native.Mathlib.Omega.{arith}
 use native.Mathlib.Nat.{add-zero}
@@ -19,6 +18,7 @@ use Rattle.document.specs.Reading.{Parts, Frame, parts_reason, closed, too_deep,
 use Rattle.document.proofs.Runs.{run_accepted}
 use Rattle.items.specs.Content as content
 use Rattle.items.specs.Written.{Pair, tag, closing_tag, concat, element}
+use Rattle.items.proofs.Written.{concat-append}
 use Rattle.roundtrip.proofs.Tags.{TagName, Keys, tag_at}
 use Rattle.roundtrip.proofs.Held.{keeps, Row, State, marked, table, inside}
 use Rattle.roundtrip.proofs.Elements.{name_from, tag_name}
@@ -26,7 +26,7 @@ use Rattle.trees.specs.Trees.{Tree, tree, Forest, bare, more, size}
 use Rattle.trees.specs.Written.{Element, tag_of, attributes, docstrings, written_tree, written_forest}
 use Rattle.trees.specs.Writing.{is_open, is_open_node}
 use Rattle.trees_read.proofs.Good.{Fit, Documented, kind_in, open_in, Good, Goods}
-use Rattle.trees_read.proofs.Flat.{content_at, doc_at, row_for, flat, flats, concat-append, length_flat}
+use Rattle.trees_read.proofs.Flat.{content_at, doc_at, row_for, flat, flats, length_flat}
 use Rattle.trees_read.proofs.Runs.{after, tag_run, close_run, written, documented_last, docstring_run}
 use Rattle.trees_read.proofs.Shapes.{Known, held_known, node_in_node}
 use Rattle.trees_read.proofs.Entering.{bare_for, framed, no_parts, start_at, Enters, enters, tag_names}

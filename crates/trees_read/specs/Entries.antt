@@ -1,5 +1,4 @@
 -- The same of the code: in the records that the contracts of `write_tree` and of the reader cite.
--- Assumes nothing.
 use Rattle.std.specs.Prelude.{ℕ, ◌≤◌, ◌<◌, ◌≡◌, List, length, take, Ok, Result, Err}
 use Rattle.faults.specs.declared.Fault.{Fault}
 use Rattle.faults.specs.Fault.{fault}

@@ -1,4 +1,3 @@
 -- What is said of written trees and the reader.
--- Assumes nothing.
 pub mod Statement
 pub mod Entries

@@ -1,5 +1,4 @@
 -- A tree that was written is read back as itself.
--- Assumes nothing.
 use Rattle.std.specs.Prelude.{ℕ, ◌*◌, ◌/◌, ◌≤◌, ◌<◌, ◌≡◌, List, [], ◌++◌, true, length, drop}
 use Rattle.std.proofs.Math.Option.{none}
 use Rattle.answers.specs.Text.{text}

@@ -1,5 +1,4 @@
 -- What the entry answers, and the text that it leaves, on each of its ways.
--- Assumes nothing.
 use Prim.Native.Nat.{ℕ, ◌%◌, ◌≤◌, ◌<◌}
 use mathlib.Core.Path.{◌≡◌, sym, ◌∙◌}
 use mathlib.Core.List.{List, []}

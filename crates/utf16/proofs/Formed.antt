@@ -1,5 +1,4 @@
 -- What is decoded: it is what the units say, well_formed, at most 3/2 of the document's bytes, within the limit and the room, and stands in the buffer.
--- Assumes nothing.
 use Prim.Native.Nat.{ℕ, zero, suc, ◌+◌, ◌-◌, ◌*◌, ◌/◌, ◌%◌, ◌≤◌, ◌<◌}
 use mathlib.Core.Path.{◌≡◌, refl}
 use mathlib.Core.List.{List, [], ◌∷◌, ◌++◌}
@@ -93,8 +92,8 @@ pair_scalar h u p q =
     let j = class_true 0xdc00 0xdfff u q in
     record { small = omega (arith, i.0, i.1, j.0, j.1); apart = λ m n. omega (arith, m, n) }
 
-scalar_value_lem : {c : ℕ} → Scalar c → scalar_value c ≡ true
-scalar_value_lem {c} s = below c 0xd800 (λ h. rw (le-leb c 0xd7ff (omega arith))) (λ h. rw (lt-leb c 0xd7ff (omega arith), le-leb 0xe000 c (above h), le-leb c 0x10ffff (omega (arith, s.small))))
+scalar_is_value : {c : ℕ} → Scalar c → scalar_value c ≡ true
+scalar_is_value {c} s = below c 0xd800 (λ h. rw (le-leb c 0xd7ff (omega arith))) (λ h. rw (lt-leb c 0xd7ff (omega arith), le-leb 0xe000 c (above h), le-leb c 0x10ffff (omega (arith, s.small))))
   where
     above : 0xd800 ≤ c → 0xe000 ≤ c
     above h = below c 0xe000 (λ k. absurd (s.apart h k)) (λ k. k)
@@ -126,7 +125,7 @@ said_none = record { values = refl; is = refl; whole = none_whole; short = omega
 
 said_more : {l cs : List ℕ} (us : List ℕ) (c : ℕ) → Scalar c → utf16 c ≡ us → length (utf8 c) ≤ 3 * length us → Said l cs → Said (us ++ l) (c ∷ cs)
 said_more {l} {cs} us c h e k s = record {
-  values = rw (scalar_value_lem h) s.values;
+  values = rw (scalar_is_value h) s.values;
   is = rw (e, s.is);
   whole = whole_append (whole_char (utf8_char c h)) s.whole;
   short = rw (length-append (utf8 c) (in_bytes cs), length-append us l) (omega (arith, k, s.short));

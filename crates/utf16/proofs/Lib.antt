@@ -1,5 +1,4 @@
 -- The laws on documents in UTF-16.
--- Assumes nothing.
 pub mod Units
 pub mod Limits
 pub mod Decoding

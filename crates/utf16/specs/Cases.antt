@@ -1,5 +1,4 @@
 -- Worked documents, among them the Unicode Standard's table 3-4: each with the room lent, and what it decodes to.
--- Assumes nothing.
 use Rattle.std.specs.Prelude.{ℕ, ◌≡◌, refl, List, [], ◌∷◌, map, true, false, length, replicate}
 use Rattle.utf8.specs.Encoding.{utf8}
 use Rattle.answers.specs.Text.{Text, text, wrong}

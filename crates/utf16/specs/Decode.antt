@@ -1,5 +1,4 @@
 -- The scalar values that the code units of a document say, and their UTF-8.
--- Assumes nothing.
 use Rattle.std.specs.Prelude.{ℕ, ◌+◌, List, [], ◌∷◌, ◌++◌, Bool, drop}
 use Rattle.slices.specs.Bytes.{if}
 use Rattle.utf8.specs.Encoding.{utf8}

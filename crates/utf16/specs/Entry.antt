@@ -1,5 +1,4 @@
 -- What the entry `decode` answers and leaves, for the room lent.
--- Assumes nothing.
 use Rattle.std.specs.Prelude.{ℕ, ◌%◌, List, [], ◌∷◌, Bool, ◌||◌, eqb, ltb, length, replicate, Option, Some, None, Result, Ok, Err}
 use Rattle.slices.specs.Bytes.{if, starts}
 use Rattle.answers.specs.Text.{Text, text, wrong, left_of}

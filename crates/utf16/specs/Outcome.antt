@@ -1,5 +1,4 @@
 -- What the functions on units say.
--- Assumes nothing.
 use Rattle.std.specs.Prelude.{ℕ, ◌+◌, ◌*◌, ◌≤◌, ◌<◌, ◌≡◌, List, [], ◌∷◌, Bool, true, false, length, get_or, Option, Some, None, Result, Ok, Err}
 use Rattle.slices.specs.Bytes.{if}
 use Rattle.answers.specs.Puts.{Puts}

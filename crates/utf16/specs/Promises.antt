@@ -1,5 +1,4 @@
 -- What is promised of every decoded text.
--- Assumes nothing.
 use Rattle.std.specs.Prelude.{ℕ, ◌*◌, ◌≤◌, ◌≡◌, List, Bool, true, ltb, length, take, drop, Some, Ok}
 use Rattle.slices.specs.Bytes.{all, starts}
 use Rattle.utf8.specs.WellFormed.{ill_formed}

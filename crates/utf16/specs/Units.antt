@@ -1,6 +1,5 @@
 -- The code units of UTF-16: the Unicode Standard, definitions D71 to D76 (surrogates and scalar values), D91 (UTF-16), D96 and D97 (its byte orders),
 -- and table 3-5, UTF-16 Bit Distribution.
--- Assumes nothing.
 use Rattle.std.specs.Prelude.{ℕ, ◌+◌, ◌-◌, ◌*◌, ◌/◌, ◌%◌, List, [], ◌∷◌, ◌++◌, Bool, ◌&&◌, ◌||◌, leb, ltb}
 use Rattle.slices.specs.Bytes.{if}
 

@@ -1,5 +1,4 @@
 -- A part of a text whose beginning is well_formed, by the bytes at its two ends.
--- Assumes nothing.
 use Prim.Native.Nat.{ℕ, ◌+◌, ◌≤◌, ◌<◌}
 use mathlib.Core.Path.{◌≡◌, sym, ap, ◌∙◌}
 use mathlib.Core.List.{List}

@@ -1,5 +1,4 @@
 -- One sequence: which row of the table its first byte picks, what follows that byte, and what stands before other bytes.
--- Assumes nothing.
 use Prim.Native.Nat.{ℕ, zero, suc, ◌≤◌, ◌<◌}
 use mathlib.Core.Path.{◌≡◌, refl, ap, sym, ◌∙◌}
 use mathlib.Core.List.{List, [], ◌∷◌, ◌++◌, append-nil}

@@ -1,8 +1,7 @@
 -- Well-formed texts: they are characters, one after the other; where they may be cut, and how they are put together.
--- Assumes nothing.
 use Prim.Native.Nat.{ℕ, zero, suc, ◌+◌, ◌≤◌, ◌<◌}
 use mathlib.Core.Path.{◌≡◌, refl, ap, sym, ◌∙◌}
-use mathlib.Core.List.{List, [], ◌∷◌, ◌++◌, append-nil, append_assoc}
+use mathlib.Core.List.{List, [], ◌∷◌, ◌++◌, append-nil, append_assoc, reverse, reverse-cons}
 use mathlib.Core.Bool.{true}
 use borrow.Author.Tests.{ltb-true}
 use native.Mathlib.Nat.{add-zero}
@@ -160,6 +159,12 @@ all_append (c ∷ cs) ds h k = (h.0, all_append cs ds h.1 k)
 pub joined_append : (cs ds : List (List ℕ)) → joined (cs ++ ds) ≡ joined cs ++ joined ds
 joined_append [] ds = refl
 joined_append (c ∷ cs) ds = rw (joined_append cs ds) (sym (append_assoc c (joined cs) (joined ds)))
+
+pub reversed_long : (cs : List (List ℕ)) → length (joined (reverse cs)) ≡ length (joined cs)
+reversed_long [] = refl
+reversed_long (c ∷ cs) =
+    let e : length (joined (c ∷ [])) ≡ length c = length-append c [] ∙ omega arith in
+    rw (reverse-cons c cs, joined_append (reverse cs) (c ∷ []), length-append (joined (reverse cs)) (joined (c ∷ [])), length-append c (joined cs), e, reversed_long cs) (omega arith)
 
 pub whole_append : {a b : List ℕ} → Whole a → Whole b → Whole (a ++ b)
 whole_append v w = record {

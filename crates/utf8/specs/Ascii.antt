@@ -1,5 +1,4 @@
 -- Runs of bytes below 128.
--- Assumes nothing.
 use Rattle.std.specs.Prelude.{ℕ, ◌+◌, ◌≤◌, ◌<◌, List, length, get_or}
 
 -- none of the n bytes from a place is larger than m

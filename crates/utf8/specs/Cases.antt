@@ -1,5 +1,4 @@
 -- Worked examples of the definitions: where the first ill-formed sequence of a text begins, and where a text begins and ends once it is trimmed.
--- Assumes nothing.
 use Rattle.std.specs.Prelude.{ℕ, ◌≡◌, refl, List, [], ◌∷◌, map}
 use Rattle.utf8.specs.WellFormed.{sequence, ill_formed}
 use Rattle.utf8.specs.WhiteSpace.{characters, trim_start, trim_end}

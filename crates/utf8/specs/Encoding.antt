@@ -1,5 +1,4 @@
 -- The UTF-8 of a character.
--- Assumes nothing.
 use Rattle.std.specs.Prelude.{ℕ, ◌+◌, ◌/◌, ◌%◌, List, [], ◌∷◌, ltb}
 use Rattle.slices.specs.Bytes.{if}
 

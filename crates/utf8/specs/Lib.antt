@@ -1,5 +1,4 @@
 -- Well-formed UTF-8, and White_Space at both ends of a text.
--- Assumes nothing.
 pub mod WellFormed
 pub mod WhiteSpace
 pub mod Sequence

@@ -1,5 +1,4 @@
 -- The bytes that follow the first of a sequence.
--- Assumes nothing.
 use Rattle.std.specs.Prelude.{ℕ, suc, List, length}
 use Rattle.slices.specs.Bytes.{if}
 use Rattle.utf8.specs.WellFormed.{Range, to, begins}

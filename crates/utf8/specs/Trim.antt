@@ -1,5 +1,4 @@
 -- Where a well_formed text may be cut, and what the steps of trimming say.
--- Assumes nothing.
 use Rattle.std.specs.Prelude.{ℕ, ◌+◌, ◌-◌, ◌≤◌, ◌<◌, ◌≡◌, List, reverse, length, take, drop}
 use Rattle.slices.specs.Bytes.{if}
 use Rattle.utf8.specs.WellFormed.{sequence, ill_formed}

@@ -1,5 +1,4 @@
 -- Well-formed UTF-8, by the Unicode Standard's table 3-7, Well-Formed UTF-8 Byte Sequences.
--- Assumes nothing.
 use Rattle.std.specs.Prelude.{ℕ, zero, suc, List, [], ◌∷◌, Bool, true, false, ◌&&◌, eqb, leb, length}
 use Rattle.slices.specs.Bytes.{if}
 

@@ -1,5 +1,4 @@
 -- Where a text begins and ends once Unicode White_Space is trimmed from both ends.
--- Assumes nothing.
 use Rattle.std.specs.Prelude.{ℕ, zero, suc, pred, ◌+◌, ◌-◌, ◌*◌, ◌≡◌, List, [], ◌∷◌, reverse, Bool, ◌&&◌, ◌||◌, eqb, leb, length, take, drop}
 use Rattle.slices.specs.Bytes.{if}
 use Rattle.utf8.specs.WellFormed.{sequence}

@@ -1,5 +1,4 @@
 -- What a writer is once bytes are put.
--- Assumes nothing.
 use Rattle.std.specs.Prelude.{ℕ, ◌≡◌, List, length}
 use denote.Ref.{at_last}
 use Rattle.answers.specs.Puts.{Puts}

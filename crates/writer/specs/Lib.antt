@@ -1,3 +1,2 @@
 -- What a writer is once bytes are put.
--- Assumes nothing.
 pub mod Added

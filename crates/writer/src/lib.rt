@@ -9,21 +9,21 @@ ghost use Rattle.writer.specs.Added.{Adds};
 use scan::ClassTable;
 
 #[derive(Drop)]
-pub struct Writer<'a> {
-    pub buf: &'a mut [u8],
-    pub len: usize,
+struct Writer<'a> {
+    buf: &'a mut [u8],
+    len: usize,
 }
 
 impl<'a> Writer<'a> {
     // The borrow goes into the writer, and the count with it.
-    pub fn new(buf: &'a mut [u8], len: usize) -> Writer<'a>
+    fn new(buf: &'a mut [u8], len: usize) -> Writer<'a>
         ensures { (result.buf ≡ buf.entry) × (result.len ≡ len) }
     {
         Writer { buf, len }
     }
 
     // Puts bytes as they are.
-    pub fn put(&mut self, s: &[u8])
+    fn put(&mut self, s: &[u8])
         requires { self.old.len + length s.now < 2 ^ 62 }
         ensures { Adds s.now self.old self.new }
     {
@@ -32,7 +32,7 @@ impl<'a> Writer<'a> {
     }
 
     // Puts the escaped bytes of a value.
-    pub fn put_escaped(&mut self, value: &[u8], classes: &ClassTable)
+    fn put_escaped(&mut self, value: &[u8], classes: &ClassTable)
         requires { self.old.len + 6 * length value.now < 2 ^ 62 }
         ensures { Adds (escape value.now) self.old self.new }
     {

@@ -1,5 +1,4 @@
 -- The laws of scanning rows and writing items.
--- Assumes nothing.
 pub mod Scans
 pub mod Texts
 pub mod Args

@@ -1,15 +1,12 @@
 -- Laws of writing a method or a signal: its args and annotations are those among the rows after it.
--- Assumes nothing.
 use Prim.Native.Nat.{ℕ, zero, suc, ◌+◌, ◌-◌, ◌*◌, ◌≤◌, ◌<◌}
 use native.Mathlib.Omega.{arith}
-use mathlib.Core.Path.{◌≡◌, refl, ap, sym, subst, ◌∙◌}
+use mathlib.Core.Path.{◌≡◌, refl, ap, sym, ◌∙◌}
 use mathlib.Core.List.{List, [], ◌∷◌, ◌++◌, map, append_assoc, append-nil}
-use mathlib.Core.Bool.{Bool, true, false, not, ◌&&◌, ◌||◌}
+use mathlib.Core.Bool.{Bool, true, false, not, ◌||◌}
 use borrow.Author.Rules.{rules}
-use borrow.Author.Tests.{eq-eqb, ne_eqb, eqb-true}
-use lib.Dec.{T, eqb}
-use lib.ListN.{length, drop, get_or, length-map}
-use lib.Seq.{get_or-drop}
+use borrow.Author.Tests.{eq-eqb, ne_eqb}
+use lib.ListN.{length, drop, length-map}
 use Rattle.slices.specs.Bytes.{if, bytes, empty}
 use Rattle.tables.specs.Triple.{shown}
 use Rattle.answers.specs.Puts.{Puts}
@@ -17,11 +14,12 @@ use Rattle.answers.proofs.Putting.{puts_none, puts_then, puts_as}
 use Rattle.references.specs.Escape.{escape}
 use Rattle.document.specs.Kinds as kinds
 use Rattle.items.proofs.Rows.{length_rows_of}
-use Rattle.items.specs.Words.{RowWords, triple_at, viewed, rows_shown, word_at, is_child}
+use Rattle.items.specs.Words.{RowWords, triple_at, viewed, rows_shown, is_child}
 use Rattle.items.specs.Written.{Annotation, Arg, named, tag, closing_tag, concat, written_annotation, written_arg, written_member}
 use Rattle.items.specs.Content.{Row, annotations, arg_of, args, member_of}
 use Rattle.items.proofs.Children.{args_append}
 use Rattle.items.proofs.Words.{present_shown}
+use Rattle.items.proofs.Written.{concat-append}
 use Rattle.writers.specs.Rows.{words_in, row_at, rows_in, any_child, Child, SomeChildren, Held, RowHeld, Last}
 use Rattle.writers.specs.Writes.{annotations_in, ArgPut, if_arg, IfArgPut, ArgsScannable, Turn, args_in, tag_of, MemberTagPut, MemberEndPut, MemberScannable, ChildrenPut, MemberPut, CountFits, KindPut}
 use Rattle.writers.proofs.Scans.{last_all}
@@ -35,13 +33,6 @@ module _ {ws : List ℕ} {m p i n : ℕ} {b : Bool} (c : Child ws 7 p i b) where
   arg_not f = record { puts = rw (sym c.is ∙ f) puts_none; most = omega arith }
 
   module _ {o : Bool} (h : Turn ws m p o i n) where
-    child_parent : b ≡ true → word_at ws i 1 ≡ p
-    child_parent f = parent_of (eqb (get_or (drop (i * 16) ws) 0 0) 7) (sym c.is ∙ f)
-      where
-        parent_of : (a : Bool) → a && eqb (get_or (drop (i * 16) ws) 1 0) p ≡ true → word_at ws i 1 ≡ p
-        parent_of true g = sym (get_or-drop (i * 16) ws 1 0) ∙ eqb-true (get_or (drop (i * 16) ws) 1 0) p g
-        parent_of false g = absurd (subst T (sym g) tt)
-
     module _ {to : ℕ} (l : Last ws m i to) where
       pub arg_there : {d x t t' : List ℕ} {r : ℕ} → b ≡ true → ArgPut d x ws i to n t t' r → IfArgPut d x ws m p i n t t' r
       unfolding if_arg
@@ -174,10 +165,6 @@ any_arg d x t p i (r ∷ rs) = go (is_child kinds.arg p r.kind r.parent) (any_ar
     go : (b : Bool) → any_child 7 p rs ≡ not (empty (args t p (suc i) (map (viewed d x) rs))) → if b true (any_child 7 p rs) ≡ not (empty (if b (arg_of t i (viewed d x r) ∷ args t p (suc i) (map (viewed d x) rs)) (args t p (suc i) (map (viewed d x) rs))))
     go true e = refl
     go false e = e
-
-pub concat-append : (l r : List (List ℕ)) → concat (l ++ r) ≡ concat l ++ concat r
-concat-append [] r = refl
-concat-append (c ∷ l) r = ap (◌++◌ c) (concat-append l r) ∙ sym (append_assoc c (concat l) (concat r))
 
 some_of : (l r : List (List ℕ)) → not (empty (l ++ r)) ≡ not (empty l) || not (empty r)
 some_of [] r = refl

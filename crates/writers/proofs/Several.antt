@@ -1,12 +1,11 @@
 -- Laws of writing several items: the run of a row, the rows asked for, the texts and their ends, and what is answered.
--- Assumes nothing.
 use Prim.Native.Nat.{ℕ, zero, suc, ◌+◌, ◌-◌, ◌*◌, ◌≤◌, ◌<◌}
 use native.Mathlib.Nat.{mul-one}
 use native.Mathlib.Omega.{arith}
 use mathlib.Core.Path.{◌≡◌, refl, ap, sym, subst, ◌∙◌}
 use mathlib.Core.List.{List, [], ◌∷◌, ◌++◌, append_assoc, append-nil}
 use mathlib.Core.Option.{Option, none, some}
-use mathlib.Core.Bool.{Bool, true, false, not, ◌||◌}
+use mathlib.Core.Bool.{Bool, true, false, not, ◌||◌, or-true, not-not}
 use borrow.Author.Rules.{rules}
 use borrow.Author.Tests.{lt-ltb, le-ltb, ltb-true, ltb-false, not-true, not-false}
 use lib.Dec.{eqb, ltb}
@@ -27,6 +26,7 @@ use Rattle.items.specs.Several.{there, first_missing, bytes_of, texts_of, ends_f
 use Rattle.items.specs.Writing.{checked}
 use Rattle.items.proofs.Children.{args_append}
 use Rattle.items.proofs.Order.{run_ends}
+use Rattle.items.proofs.Written.{concat-append}
 use Rattle.soundness.specs.Outcome as outcome
 use Rattle.soundness.specs.Outcome.{Admits}
 use Rattle.soundness.proofs.Rows.{refused_as, admitted_as}
@@ -44,16 +44,16 @@ use Rattle.faults.specs.declared.Fault.{Fault}
 use Rattle.writers.proofs.Scans.{last_all}
 use Rattle.writers.proofs.Texts.{shown_one}
 use Rattle.writers.proofs.Args.{shown_parts, own_annotations}
-use Rattle.writers.proofs.Members.{clear_args, length-rows, own_args, concat-append}
+use Rattle.writers.proofs.Members.{clear_args, length-rows, own_args}
 use Rattle.writers.proofs.Entry.{content_is, content_past, admitted_document, admitted_text, admitted_rows, admits}
 
 -- ---- the run of a row
 
 pub run_end_is : {ws : List ℕ} {n i r : ℕ} (o : Maybe ℕ) → i < n
-    → MatchOption o ((k : ℕ) → i + 1 ≤ k → k < n → ⊤) (λ k. (i + 1 ≤ k) × (k < n) × (word_at ws k 1 ≤ i) × ((j : ℕ) → i + 1 ≤ j → j < k → ⊤))
+    → MatchOption o ((k : ℕ) → i + 1 ≤ k → k < n → i < word_at ws k 1) (λ k. (i + 1 ≤ k) × (k < n) × (word_at ws k 1 ≤ i) × ((j : ℕ) → i + 1 ≤ j → j < k → i < word_at ws j 1))
     → r ≡ unwrap_or o n → RunEnd ws n i r
-run_end_is None l h e = rw e record { onward = l; within = omega arith; is = λ k. absurd (omega arith) }
-run_end_is (Some k) l h e = rw e record { onward = omega (arith, h.0); within = omega (arith, h.1); is = λ _. h.2 }
+run_end_is None l h e = rw e record { onward = l; within = omega arith; before = λ k a b. h k (omega (arith, a)) b; is = λ k. absurd (omega arith) }
+run_end_is (Some k) l h e = rw e record { onward = omega (arith, h.0); within = omega (arith, h.1); before = λ j a b. h.3 j (omega (arith, a)) b; is = λ _. h.2 }
 
 pub reach_run : {ws : List ℕ} {n i r : ℕ} {o : Bool} → outcome.Orders ws n o → o ≡ true → RunEnd ws n i r → Reach ws n i r
 reach_run {ws} {n} {i} {r} a e g = record {
@@ -398,13 +398,9 @@ pub ruleset adding = (add_begins, add_small, add_ends, add_item, add_slot, add_o
 -- ---- what is left
 
 pub refuses : {a p room : ℕ} {ends out' ends' : List ℕ} {r : Result ℕ Fault} → Wiped 0 ends ends' → Says (wrong a p) room out' r → Clears a p room (length ends) out' ends' r
-refuses {ends = ends} z s = record { says = s; ends_left_lem = z.is ∙ clear_all ends }
+refuses {ends = ends} z s = record { says = s; of_ends = z.is ∙ clear_all ends }
 
 pub ruleset refusing = (refuses, rules)
-
-or-true : (a : Bool) → a || true ≡ true
-or-true true = refl
-or-true false = refl
 
 either_false : (a b : Bool) → a || b ≡ false → (a ≡ false) × (b ≡ false)
 either_false true b e = let z : ◌≡◌ {A = ℕ} 0 1 = cc in absurd (omega arith)
@@ -421,15 +417,11 @@ rest_cleared {n} {t} {t'} {xs} s h z =
     let k : n ≡ length xs = sym (mul-one n) ∙ sym s.many in
     z.is ∙ rw mul-one at (clear_rest {w = 1} (omega arith) s (rw mul-one h)) ∙ ap (λ j. xs ++ replicate (length t - j) 0) k
 
-twice : (a : Bool) → a ≡ not (not a)
-twice true = refl
-twice false = refl
-
 over_is : {n room count : ℕ} {out ends : List ℕ} {b c : Bool} → Fits n room b → not b ≡ c → (ts : List (List ℕ)) → Stand ts count n out ends → ltb room (length (concat ts)) || ltb 4294967295 (length (concat ts)) ≡ c
 over_is {n} {room} f e ts s =
     sym (over_capped room (length (concat ts)))
     ∙ ap (λ j. ltb room j || ltb 4294967295 j) (sym s.counts)
-    ∙ twice (ltb room n || ltb 4294967295 n)
+    ∙ sym (not-not (ltb room n || ltb 4294967295 n))
     ∙ ap not (sym f.is)
     ∙ e
 
@@ -438,7 +430,7 @@ module _ {n count : ℕ} {out ends out' ends' : List ℕ} {b : Bool} (f : Fits n
   finish_over e c = record {
     left = λ ts s l. record {
       says = rw (over_is f e ts s, ← s.counts) c.says;
-      ends_left_lem = rw (over_is f e ts s) c.ends_left_lem;
+      of_ends = rw (over_is f e ts s) c.of_ends;
     };
   }
 
@@ -451,7 +443,7 @@ module _ {n count : ℕ} {out ends out' ends' : List ℕ} {b : Bool} (f : Fits n
         let room : n ≤ length out = omega (arith, m, ltb-false (length out) (length (concat ts)) o.0) in
         record {
           says = rw (over_is f e ts s) (record { answer = ap Ok m; left = rest_cleared (s.bytes small) room z });
-          ends_left_lem = rw (over_is f e ts s) (rest_cleared (s.words small) l w);
+          of_ends = rw (over_is f e ts s) (rest_cleared (s.words small) l w);
         };
   }
 
@@ -472,13 +464,13 @@ module _ {d x ws is : List ℕ} {n room slots : ℕ} {out ends : List ℕ} {v : 
   unfolding several_ends
   several_refused {y} e c =
       let z : several_writing d x ws n is room slots ≡ wrong y.number y.place = g.says room ∙ rw e in
-      record { says = rw z c.says; ends_left_lem = rw z c.ends_left_lem }
+      record { says = rw z c.says; of_ends = rw z c.of_ends }
 
   pub several_written : v ≡ Ok tt → WritesFit d x ws n is room slots out ends r → WritesSeveral d x ws n is room slots out ends r
   unfolding several_ends
   several_written e w =
       let z : several_writing d x ws n is room slots ≡ fitted room (concat (texts_of (content_at d x ws n) is)) = g.says room ∙ rw e in
-      record { says = rw z w.left.says; ends_left_lem = rw z w.left.ends_left_lem }
+      record { says = rw z w.left.says; of_ends = rw z w.left.of_ends }
 
 module _ {d x ws is : List ℕ} {n slots : ℕ} {v : Result (Unit {0}) Fault} (g : Vets d x ws n is slots v) (e : v ≡ Ok tt) where
   pub several_admitted : Admitted d x ws n

@@ -1,5 +1,4 @@
 -- What the steps of the entry `write` say.
--- Assumes nothing.
 use Rattle.std.specs.Prelude.{ℕ, ◌≤◌, ◌≡◌, List, length, Result}
 use Rattle.faults.specs.declared.Fault.{Fault}
 use Rattle.answers.specs.Text.{Says}

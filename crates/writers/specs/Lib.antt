@@ -1,5 +1,4 @@
 -- What the functions that scan rows and write items say.
--- Assumes nothing.
 pub mod Rows
 pub mod Writes
 pub mod Entry

@@ -1,5 +1,4 @@
 -- Rows of a table by their numbers, and what the functions that look for children say.
--- Assumes nothing.
 use Rattle.std.specs.Prelude.{ℕ, suc, ◌+◌, ◌-◌, ◌*◌, ◌≤◌, ◌<◌, ◌≡◌, List, [], ◌∷◌, Bool, true, false, not, ◌&&◌, ◌||◌, eqb, ltb, length, drop}
 use Rattle.slices.specs.Bytes.{if}
 use Rattle.document.specs.Kinds as kinds
@@ -81,10 +80,11 @@ strays ws p last q = ltb p q && eqb (word_at ws (q - 1) 1) p && not (eqb q (suc 
 pub record Stray (ws : List ℕ) (p last q : ℕ) (r : Bool) : Type 0 where
   pub is : r ≡ strays ws p last q
 
--- r is the first row after row i whose parent is not after row i, or n
+-- r is the first row after row i whose parent stands before row i, or n
 pub record RunEnd (ws : List ℕ) (n i r : ℕ) : Type 0 where
   pub onward : i < r
   pub within : r ≤ n
+  pub before : (k : ℕ) → i < k → k < r → i < word_at ws k 1
   pub is : r < n → word_at ws r 1 ≤ i
 
 -- no row from row r on stands in row i, or in a row between them

@@ -1,5 +1,4 @@
 -- What the steps of the entry `write_items` say.
--- Assumes nothing.
 use Rattle.std.specs.Prelude.{ℕ, ◌≤◌, ◌<◌, ◌≡◌, List, Bool, true, false, not, ◌&&◌, ◌||◌, ltb, length, get_or, replicate, Option, None, Some, Result, Ok, Err}
 use Rattle.tables.specs.Table.{Rep}
 use Rattle.answers.specs.Text.{Text, wrong, Says}
@@ -78,7 +77,7 @@ pub record Fits (n room : ℕ) (r : Bool) : Type 0 where
 -- what is answered and left of texts
 pub record Left (ts : List (List ℕ)) (room slots : ℕ) (out ends : List ℕ) (r : Result ℕ Fault) : Type 0 where
   pub says : Says (fitted room (concat ts)) room out r
-  pub ends_left_lem : ends ≡ ends_left slots (ends_from 0 ts) (fitted room (concat ts))
+  pub of_ends : ends ≡ ends_left slots (ends_from 0 ts) (fitted room (concat ts))
 
 pub record FinishesItems (count n : ℕ) (out ends out' ends' : List ℕ) (r : Result ℕ Fault) : Type 0 where
   pub left : (ts : List (List ℕ)) → Stand ts count n out ends → count ≤ length ends → Left ts (length out) (length ends) out' ends' r
@@ -89,4 +88,4 @@ pub record WritesFit (d x ws : List ℕ) (n : ℕ) (is : List ℕ) (room slots :
 -- zeros are left
 pub record Clears (a p room slots : ℕ) (out ends : List ℕ) (r : Result ℕ Fault) : Type 0 where
   pub says : Says (wrong a p) room out r
-  pub ends_left_lem : ends ≡ replicate slots 0
+  pub of_ends : ends ≡ replicate slots 0

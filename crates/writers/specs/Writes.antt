@@ -1,6 +1,5 @@
 -- What the functions that put parts of an item say: d is the document, x the text, ws the words of the rows; n bytes are put
 -- before, and r are after.
--- Assumes nothing.
 use Rattle.std.specs.Prelude.{ℕ, suc, ◌+◌, ◌-◌, ◌*◌, ◌≤◌, ◌<◌, ◌^◌, ◌≡◌, List, [], ◌∷◌, ◌++◌, map, Bool, eqb, length, drop}
 use Rattle.std.proofs.Math.Option.{Option, some}
 use Rattle.slices.specs.Bytes.{if, bytes}

@@ -1,5 +1,5 @@
 // The children of a row: whether there are some, where the next one is, where their own children end.
-ghost use Rattle.std.specs.Prelude.{◌*◌, ◌+◌, ◌≤◌, ◌<◌, length};
+ghost use Rattle.std.specs.Prelude.{◌≡◌, true, ◌*◌, ◌+◌, ◌≤◌, ◌<◌, length};
 ghost use Rattle.items.specs.Words.{Word};
 ghost use Rattle.writers.specs.Rows.{Child, SomeChild, SomeChildren, NextChild, Stray, Held, Ordered, ChildOf, Last, RunEnd, Reach};
 ghost use Rattle.soundness.specs.Outcome as outcome;
@@ -90,7 +90,8 @@ pub fn last_child(rows: &[u32], n: usize, j: usize, p: usize, ordered: bool) -> 
     requires rows { Held rows.now n }
     requires within { j < n }
     requires child { ChildOf rows.now n p j ordered }
-    ensures { Last rows.now n j result }
+    ensures last { Last rows.now n j result }
+    ensures next { ordered ≡ true → NextChild rows.now p (j + 1) n result }
 {
     if ordered {
         next_child(rows, j + 1, n, p)
@@ -99,7 +100,7 @@ pub fn last_child(rows: &[u32], n: usize, j: usize, p: usize, ordered: bool) -> 
     }
 }
 
-// The first row after row i whose parent is not after row i, or n: where what stands in row i ends, in document order.
+// The first row after row i whose parent stands before row i, or n: where what stands in row i ends, in document order.
 // Not an Option: a range of rows ends at n too. Not one with `next_child`: the tests differ, and each has its clause.
 fn run_end(rows: &[u32], n: usize, i: usize) -> usize
     requires rows { Held rows.now n }
@@ -115,7 +116,8 @@ pub fn reach(rows: &[u32], n: usize, i: usize, ordered: bool) -> usize
     requires rows { Held rows.now n }
     requires within { i < n }
     requires order { outcome.Orders rows.now n ordered }
-    ensures { Reach rows.now n i result }
+    ensures past { Reach rows.now n i result }
+    ensures own { ordered ≡ true → RunEnd rows.now n i result }
 {
     if ordered { run_end(rows, n, i) } else { n }
 }

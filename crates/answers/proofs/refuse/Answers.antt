@@ -1,5 +1,4 @@
 -- `answers::refuse` meets its contract.
--- Assumes nothing.
 use Rattle.answers.proofs.Answers.{steps}
 use Rattle.answers.proofs.refuse.Goals as goal
 

@@ -1,5 +1,4 @@
 -- `attributes::attribute_at` meets its contract.
--- Assumes nothing.
 use Rattle.attributes.proofs.Found.{finds}
 use Rattle.attributes.proofs.attribute_at.Goals as goal
 

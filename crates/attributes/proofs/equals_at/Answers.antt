@@ -1,5 +1,4 @@
 -- `attributes::equals_at` meets its contract.
--- Assumes nothing.
 use Rattle.attributes.proofs.Found.{finds}
 use Rattle.attributes.proofs.equals_at.Goals as goal
 

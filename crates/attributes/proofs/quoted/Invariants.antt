@@ -1,5 +1,4 @@
 -- `attributes::quoted` meets its contract: the form of what is left, after the form so far, is what was asked.
--- Assumes nothing.
 use Rattle.attributes.proofs.Found.{Quoting}
 use Rattle.attributes.proofs.quoted.Given as goal
 

@@ -1,5 +1,4 @@
 -- What `attributes::quoted_value` leaves to show.
--- Assumes nothing.
 use native.Mathlib.Omega.{arith}
 use Rattle.attributes.proofs.Found.{value_found}
 use Rattle.attributes.proofs.quoted_value.Goals as goal

@@ -1,5 +1,4 @@
 -- `breaches::attribute_breach` meets its contract. Its name, and its value.
--- Assumes nothing.
 use Rattle.breaches.proofs.Collecting.{attributing}
 use Rattle.breaches.proofs.attribute_breach.Goals as goal
 

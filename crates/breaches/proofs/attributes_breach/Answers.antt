@@ -1,5 +1,4 @@
 -- What `breaches::attributes_breach` leaves to show. Its loop is in Invariants.antt.
--- Assumes nothing.
 use Rattle.breaches.proofs.Collecting.{collecting}
 use Rattle.breaches.proofs.attributes_breach.Goals as goal
 

@@ -1,5 +1,4 @@
 -- `breaches::attributes_breach` meets its contract. The invariant: what is left to find is found from here on.
--- Assumes nothing.
 use Prim.Native.Nat.{◌-◌}
 use lib.ListN.{length}
 use Rattle.breaches.proofs.Collecting.{Collecting}

@@ -1,5 +1,4 @@
 -- `breaches::ignored_breach` meets its contract. A comment, or nothing to look at.
--- Assumes nothing.
 use Rattle.breaches.proofs.Comments.{comments}
 use Rattle.breaches.proofs.ignored_breach.Goals as goal
 

@@ -1,5 +1,4 @@
 -- `breaches::least_breach` meets its contract. The least by each rule.
--- Assumes nothing.
 use Rattle.breaches.proofs.Whole.{wholes}
 use Rattle.breaches.proofs.least_breach.Goals as goal
 

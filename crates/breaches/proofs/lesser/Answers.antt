@@ -1,5 +1,4 @@
 -- `breaches::lesser` meets its contract. By what the two are.
--- Assumes nothing.
 use Rattle.breaches.proofs.Order.{lessers}
 use Rattle.breaches.proofs.lesser.Goals as goal
 

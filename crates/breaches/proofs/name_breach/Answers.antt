@@ -1,5 +1,4 @@
 -- `breaches::name_breach` meets its contract. The first fault is the least.
--- Assumes nothing.
 use Rattle.std.proofs.Common.{rules}
 use Rattle.breaches.proofs.Faults.{part_name}
 use Rattle.breaches.proofs.name_breach.Goals as goal

@@ -1,5 +1,4 @@
 -- `breaches::root_breach` meets its contract. The first token is the root's start tag.
--- Assumes nothing.
 use Rattle.breaches.proofs.Whole.{roots}
 use Rattle.breaches.proofs.root_breach.Goals as goal
 

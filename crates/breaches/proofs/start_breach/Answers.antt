@@ -1,5 +1,4 @@
 -- `breaches::start_breach` meets its contract. The name, the attributes, the end.
--- Assumes nothing.
 use Rattle.breaches.proofs.Tagged.{startings}
 use Rattle.breaches.proofs.start_breach.Goals as goal
 

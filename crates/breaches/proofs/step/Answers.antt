@@ -1,5 +1,4 @@
 -- `breaches::step` meets its contract. A closing tag, or a start tag.
--- Assumes nothing.
 use Rattle.breaches.proofs.Walking.{steps}
 use Rattle.breaches.proofs.step.Goals as goal
 

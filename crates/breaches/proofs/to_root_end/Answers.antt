@@ -1,5 +1,4 @@
 -- What `breaches::to_root_end` leaves to show. Its loop is in Invariants.antt.
--- Assumes nothing.
 use Rattle.breaches.proofs.Walking.{loops}
 use Rattle.breaches.proofs.to_root_end.Goals as goal
 

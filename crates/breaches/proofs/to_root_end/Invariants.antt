@@ -1,5 +1,4 @@
 -- `breaches::to_root_end` meets its contract. The invariant: what is left to find is found from here on.
--- Assumes nothing.
 use Prim.Native.Nat.{◌-◌}
 use lib.ListN.{length}
 use Rattle.breaches.specs.Outcome.{Walking}

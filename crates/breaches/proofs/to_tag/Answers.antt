@@ -1,5 +1,4 @@
 -- What `breaches::to_tag` leaves to show. Its loop is in Invariants.antt.
--- Assumes nothing.
 use mathlib.Core.Path.{◌≡◌}
 use Rattle.std.specs.Prelude.{Ok}
 use Rattle.scan.specs.declared.Markup.TheVariants.{Ignored}

@@ -1,5 +1,4 @@
 -- `breaches::value_breach` meets its contract. The first fault is the least.
--- Assumes nothing.
 use Rattle.profile.specs.Profile.{raw}
 use Rattle.std.proofs.Common.{rules}
 use Rattle.breaches.proofs.Faults.{part_places}

@@ -1,5 +1,4 @@
 -- What `children::children` leaves to show.
--- Assumes nothing.
 use Rattle.std.proofs.lemmas.Result.{err_from_is_err_and}
 use Rattle.document.proofs.Loops.{loop_begins, loop_fault, loop_close, loop_child, loop_child_fault}
 use Rattle.document.proofs.Readers.{keeps_same, keeps_more, child_kept}

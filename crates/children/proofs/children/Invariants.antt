@@ -1,5 +1,4 @@
 -- `children::children` meets its contract: the run has come from the start to the present place. The measure is what is left of the document.
--- Assumes nothing.
 use Prim.Native.Nat.{◌-◌}
 use lib.ListN.{length}
 use Rattle.document.specs.Outcome.{lent_to, Keeps}

@@ -1,5 +1,4 @@
 -- What `children::contents` leaves to show.
--- Assumes nothing.
 use Rattle.document.proofs.Openings.{contents_children}
 use Rattle.children.proofs.contents.Goals as goal
 

@@ -1,5 +1,4 @@
 -- `columns::put_all` meets its contract. The invariant: the words of the rows before `from` are put.
--- Assumes nothing.
 use Rattle.std.proofs.Common.{◌-◌}
 use Rattle.columns.proofs.Filling.{Filled}
 use Rattle.columns.proofs.put_all.Given as goal

@@ -1,5 +1,4 @@
 -- `columns::put_block` meets its contract. The invariant: the words before `k` of each row of the block are put.
--- Assumes nothing.
 use Rattle.columns.proofs.Filling.{Going}
 use Rattle.columns.proofs.put_block.Given as goal
 

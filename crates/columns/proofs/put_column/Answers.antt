@@ -1,5 +1,4 @@
 -- What `columns::put_column` leaves to show. Its loop is in Invariants.antt.
--- Assumes nothing.
 use Rattle.std.proofs.Common.{refl, arith}
 use Rattle.columns.proofs.Putting.{column-more, column_ends, putting}
 use Rattle.columns.proofs.put_column.Goals as goal

@@ -1,5 +1,4 @@
 -- `columns::put_column` meets its contract. The invariant: the words of the rows before `r` are put, and `above` is the word above row `r`.
--- Assumes nothing.
 use Rattle.columns.proofs.Putting.{ColumnGoing}
 use Rattle.columns.proofs.put_column.Given as goal
 

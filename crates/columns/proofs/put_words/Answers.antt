@@ -1,5 +1,4 @@
 -- What `columns::put_words` leaves to show. Its loop is in Invariants.antt.
--- Assumes nothing.
 use Rattle.std.proofs.Common.{refl, arith}
 use Rattle.columns.proofs.Putting.{words_more, words_end, putting}
 use Rattle.columns.proofs.put_words.Goals as goal

@@ -1,5 +1,4 @@
 -- `columns::put_words` meets its contract. The invariant: the word `k` of the rows before `r` is put, and `above` is the last of them.
--- Assumes nothing.
 use Rattle.columns.proofs.Putting.{WordsGoing}
 use Rattle.columns.proofs.put_words.Given as goal
 

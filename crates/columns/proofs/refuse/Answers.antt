@@ -1,5 +1,4 @@
 -- What `columns::refuse` leaves to show.
--- Assumes nothing.
 use Rattle.columns.proofs.Answers.{refuses}
 use Rattle.columns.proofs.refuse.Goals as goal
 

@@ -1,5 +1,4 @@
 -- `document::raw` meets its contract.
--- Assumes nothing.
 use Rattle.document.proofs.Held.{lying}
 use Rattle.document.proofs.raw.Goals as goal
 

@@ -1,5 +1,4 @@
 -- `elements::access_word` meets its contract.
--- Assumes nothing.
 use Rattle.std.proofs.Common.{rules}
 use Rattle.slices.specs.Bytes.{bytes}
 use Rattle.elements.proofs.Rows.{access_bad, access_good}

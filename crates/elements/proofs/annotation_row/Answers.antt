@@ -1,5 +1,4 @@
 -- `elements::annotation_row` meets its contract.
--- Assumes nothing.
 use Rattle.std.proofs.lemmas.Result.{err_from_is_err_and}
 use Rattle.slices.specs.Bytes.{bytes}
 use Rattle.elements.proofs.Rows.{step_refused, annotation_start, annotation_named, annotation_done}

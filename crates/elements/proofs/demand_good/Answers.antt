@@ -1,5 +1,4 @@
 -- `elements::demand_good` meets its contract.
--- Assumes nothing.
 use Rattle.elements.proofs.Rows.{good_there, good_bad}
 use Rattle.elements.proofs.demand_good.Goals as goal
 

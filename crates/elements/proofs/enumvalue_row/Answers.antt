@@ -1,5 +1,4 @@
 -- `elements::enumvalue_row` meets its contract.
--- Assumes nothing.
 use Rattle.elements.proofs.Rows.{enumvalue_done}
 use Rattle.elements.proofs.enumvalue_row.Goals as goal
 

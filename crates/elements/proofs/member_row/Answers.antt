@@ -1,5 +1,4 @@
 -- `elements::member_row` meets its contract.
--- Assumes nothing.
 use Rattle.elements.proofs.Rows.{member_done}
 use Rattle.elements.proofs.member_row.Goals as goal
 

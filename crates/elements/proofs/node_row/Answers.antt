@@ -1,5 +1,4 @@
 -- `elements::node_row` meets its contract.
--- Assumes nothing.
 use Rattle.elements.proofs.Rows.{node_done}
 use Rattle.elements.proofs.node_row.Goals as goal
 

@@ -1,5 +1,4 @@
 -- `elements::property_row` meets its contract.
--- Assumes nothing.
 use Rattle.std.proofs.lemmas.Result.{err_from_is_err_and}
 use Rattle.slices.specs.Bytes.{bytes}
 use Rattle.names.specs.Names.{property_name}

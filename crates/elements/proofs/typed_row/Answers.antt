@@ -1,5 +1,4 @@
 -- `elements::typed_row` meets its contract.
--- Assumes nothing.
 use Rattle.elements.proofs.Rows.{typed_done}
 use Rattle.elements.proofs.typed_row.Goals as goal
 

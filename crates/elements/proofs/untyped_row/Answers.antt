@@ -1,5 +1,4 @@
 -- `elements::untyped_row` meets its contract.
--- Assumes nothing.
 use Rattle.elements.proofs.Rows.{untyped_done}
 use Rattle.elements.proofs.untyped_row.Goals as goal
 

@@ -1,5 +1,4 @@
 -- What `members::annotation` leaves to show.
--- Assumes nothing.
 use mathlib.Core.Path.{refl}
 use Rattle.std.proofs.lemmas.Result.{err_from_is_err_and}
 use Rattle.document.proofs.Openings.{opening_fault, opening_contents}

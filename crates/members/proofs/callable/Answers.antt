@@ -1,5 +1,4 @@
 -- What `members::callable` leaves to show.
--- Assumes nothing.
 use Rattle.std.proofs.lemmas.Result.{err_from_is_err_and}
 use Rattle.document.proofs.Openings.{opening_fault}
 use Rattle.members.proofs.Members.{callable_contents}

@@ -1,5 +1,4 @@
 -- `messages::message` meets its contract.
--- Assumes nothing.
 use Rattle.messages.proofs.Entries.{entries}
 use Rattle.messages.proofs.message.Goals as goal
 

@@ -1,5 +1,4 @@
 -- `messages::warning_message` meets its contract.
--- Assumes nothing.
 use Rattle.messages.proofs.Entries.{entries, warning_told}
 use Rattle.messages.proofs.warning_message.Goals as goal
 

@@ -1,5 +1,4 @@
 -- What the cycle of calls of `complete`, `entry` and `fields` leaves to show: the laws of each function's ways.
--- Assumes nothing.
 use Rattle.std.proofs.Common.{arith, rules}
 use Rattle.names.proofs.Checks.{types, entries, value_none, brace_end, brace_none, brace_close, field_more}
 use Rattle.names.proofs.+complete_entry_fields.Goals as goal

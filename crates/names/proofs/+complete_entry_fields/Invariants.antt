@@ -1,6 +1,5 @@
 -- The measures of the cycle of calls of `complete`, `entry` and `fields`: each call is at a later place, but that of `complete` by `fields`,
 -- whose measure is one more.
--- Assumes nothing.
 use Rattle.std.proofs.Common.{◌+◌, ◌-◌, ◌*◌, length}
 use Rattle.names.proofs.+complete_entry_fields.Given as goal
 

@@ -1,5 +1,4 @@
 -- `names::element` meets its contract: the run of the bytes of an element, where the first is no digit.
--- Assumes nothing.
 use Rattle.std.proofs.Common.{rules}
 use Rattle.slices.specs.Run.{Run}
 use Rattle.names.specs.Names.{element_byte}

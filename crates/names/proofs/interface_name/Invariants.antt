@@ -1,5 +1,4 @@
 -- `names::interface_name` meets its contract. The invariant: what is left of the name to check is what was asked.
--- Assumes nothing.
 use Prim.Native.Nat.{◌-◌}
 use lib.ListN.{length}
 use Rattle.names.proofs.Names.{Naming}

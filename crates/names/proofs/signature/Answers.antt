@@ -1,5 +1,4 @@
 -- What `names::signature` leaves to show. Its loop is in Invariants.antt.
--- Assumes nothing.
 use Rattle.names.proofs.Checks.{signatures}
 use Rattle.names.proofs.signature.Goals as goal
 

@@ -1,5 +1,4 @@
 -- `names::signature` meets its contract. The invariant: with nothing open, what follows the place decides.
--- Assumes nothing.
 use Prim.Native.Nat.{◌-◌}
 use lib.ListN.{length}
 use Rattle.names.proofs.Checks.{Signing}

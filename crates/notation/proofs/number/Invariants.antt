@@ -1,5 +1,4 @@
 -- `notation::number` meets its contract: what is left is the measure.
--- Assumes nothing.
 use Rattle.std.proofs.Common.{length}
 use Rattle.notation.proofs.number.Given as goal
 

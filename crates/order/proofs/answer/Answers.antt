@@ -1,5 +1,4 @@
 -- `order::answer` meets its contract.
--- Assumes nothing.
 use Rattle.order.proofs.Answering.{admits, entry}
 use Rattle.order.proofs.answer.Goals as goal
 

@@ -1,5 +1,4 @@
 -- `order::certify` meets its contract.
--- Assumes nothing.
 use Rattle.std.proofs.Common.{sym, ◌∙◌}
 use Rattle.order.proofs.Deciding.{certain_short, certain_order}
 use Rattle.order.proofs.certify.Goals as goal

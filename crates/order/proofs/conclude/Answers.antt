@@ -1,5 +1,4 @@
 -- `order::conclude` meets its contract.
--- Assumes nothing.
 use Rattle.order.proofs.Answering.{concluding}
 use Rattle.order.proofs.conclude.Goals as goal
 

@@ -1,5 +1,4 @@
 -- `order::finish_certain` meets its contract.
--- Assumes nothing.
 use Rattle.order.proofs.Deciding.{certain_leaves}
 use Rattle.order.proofs.finish_certain.Goals as goal
 

@@ -1,5 +1,4 @@
 -- `order::is_first_on_circle` meets its contract.
--- Assumes nothing.
 use Rattle.std.proofs.Common.{sym, ◌∙◌, arith}
 use borrow.Author.Tests.{ltb-true}
 use Rattle.order.proofs.Deciding.{first-is}

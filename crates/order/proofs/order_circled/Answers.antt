@@ -1,5 +1,4 @@
 -- `order::order_circled` meets its contract.
--- Assumes nothing.
 use Rattle.order.proofs.Deciding.{decides}
 use Rattle.order.proofs.order_circled.Goals as goal
 

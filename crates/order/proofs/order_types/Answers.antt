@@ -1,5 +1,4 @@
 -- `order::order_types` meets its contract.
--- Assumes nothing.
 use Rattle.order.proofs.Answering.{whole}
 use Rattle.order.proofs.order_types.Goals as goal
 

@@ -1,5 +1,4 @@
 -- `order::refuse` meets its contract.
--- Assumes nothing.
 use Rattle.order.proofs.Answering.{refusals}
 use Rattle.order.proofs.refuse.Goals as goal
 

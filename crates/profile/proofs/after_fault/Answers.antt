@@ -1,5 +1,4 @@
 -- What `profile::after_fault` leaves to show. Its loop is in Invariants.antt.
--- Assumes nothing.
 use Rattle.profile.proofs.Afters.{after_stops}
 use Rattle.profile.proofs.after_fault.Goals as goal
 

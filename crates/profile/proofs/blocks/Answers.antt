@@ -1,5 +1,4 @@
 -- `profile::blocks` meets its contract: a block that passes has no place of such a character.
--- Assumes nothing.
 use Rattle.std.proofs.Common.{rules}
 use Rattle.profile.proofs.NoChars.{free_blocks, clear_not}
 use Rattle.profile.proofs.blocks.Goals as goal

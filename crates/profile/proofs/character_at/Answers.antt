@@ -1,5 +1,4 @@
 -- `profile::character_at` meets its contract.
--- Assumes nothing.
 use Rattle.profile.proofs.Points.{points}
 use Rattle.profile.proofs.character_at.Goals as goal
 

@@ -1,5 +1,4 @@
 -- What `profile::comment_at` leaves to show.
--- Assumes nothing.
 use Rattle.profile.proofs.Afters.{comment_breach}
 use Rattle.profile.proofs.comment_at.Goals as goal
 

@@ -1,5 +1,4 @@
 -- `profile::comment_fault` meets its contract. The invariant: what is asked is what is left from here.
--- Assumes nothing.
 use Prim.Native.Nat.{◌-◌}
 use lib.ListN.{length}
 use Rattle.profile.specs.Profile.{hyphens}

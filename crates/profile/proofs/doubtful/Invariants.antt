@@ -1,5 +1,4 @@
 -- `profile::doubtful` meets its contract. The invariant: no such byte was passed, or it was told.
--- Assumes nothing.
 use Rattle.profile.specs.Steps.{Clear}
 use Rattle.profile.proofs.doubtful.Given as goal
 

@@ -1,5 +1,4 @@
 -- `profile::end_of` meets its contract.
--- Assumes nothing.
 use Rattle.std.proofs.Common.{rules}
 use Rattle.profile.proofs.Afters.{closed_told}
 use Rattle.profile.proofs.end_of.Goals as goal

@@ -1,5 +1,4 @@
 -- What `profile::first_no_char` leaves to show. Its loop is in Invariants.antt.
--- Assumes nothing.
 use Rattle.profile.proofs.Going.{free_again}
 use Rattle.profile.proofs.first_no_char.Goals as goal
 

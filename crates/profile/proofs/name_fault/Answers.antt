@@ -1,5 +1,4 @@
 -- What `profile::name_fault` leaves to show. Its loop is in Invariants.antt.
--- Assumes nothing.
 use Rattle.std.proofs.Common.{rules}
 use Rattle.profile.proofs.Naming.{naming, name_fits, name_more}
 use Rattle.profile.proofs.name_fault.Goals as goal

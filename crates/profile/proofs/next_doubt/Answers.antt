@@ -1,5 +1,4 @@
 -- `profile::next_doubt` meets its contract: no byte before the one that is found is doubtful.
--- Assumes nothing.
 use Rattle.std.proofs.Common.{false, get_or, rules}
 use Rattle.std.specs.Bool.{⊤}
 use Rattle.std.proofs.lemmas.Iterator.{first_from_Range}

@@ -1,5 +1,4 @@
 -- `profile::no_char` meets its contract.
--- Assumes nothing.
 use Rattle.profile.proofs.NoChars.{places}
 use Rattle.profile.proofs.no_char.Goals.{in_default, in_default-2, in-9, in-9-2}
 use Rattle.profile.proofs.no_char.Goals as goal

@@ -1,5 +1,4 @@
 -- `profile::value_fault` meets its contract.
--- Assumes nothing.
 use Rattle.std.proofs.Common.{◌≡◌, true, false, rules}
 use Rattle.std.specs.Prelude.{drop}
 use Rattle.std.proofs.lemmas.Iterator.{first_from_Range}

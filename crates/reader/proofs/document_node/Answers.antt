@@ -1,5 +1,4 @@
 -- What `reader::document_node` leaves to show.
--- Assumes nothing.
 use Rattle.std.proofs.lemmas.Result.{err_from_is_err_and}
 use Rattle.reader.proofs.Rooted.{first_fault, first_end, first_close}
 use Rattle.reader.proofs.document_node.Goals as goal

@@ -1,5 +1,4 @@
 -- What `reader::finish` leaves to show.
--- Assumes nothing.
 use Rattle.reader.proofs.Entries.{finishing}
 use Rattle.reader.proofs.finish.Goals as goal
 

@@ -1,5 +1,4 @@
 -- What `reader::next_in` leaves to show.
--- Assumes nothing.
 use Rattle.reader.proofs.Turning.{nexts}
 use Rattle.reader.proofs.next_in.Goals as goal
 

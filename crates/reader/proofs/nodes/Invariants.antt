@@ -1,5 +1,4 @@
 -- `reader::nodes` meets its contract: the walk has come from the one asked to the present one.
--- Assumes nothing.
 use Prim.Native.Nat.{◌-◌}
 use mathlib.Core.Path.{◌≡◌}
 use lib.ListN.{length}

@@ -1,5 +1,4 @@
 -- What `reader::open_node` leaves to show.
--- Assumes nothing.
 use Rattle.std.proofs.lemmas.Result.{err_from_is_err_and}
 use Rattle.reader.proofs.Opened.{open_fault, open_closes, open_deep, open_more}
 use Rattle.reader.proofs.open_node.Goals as goal

@@ -1,5 +1,4 @@
 -- What `reader::parse_with_warnings` leaves to show.
--- Assumes nothing.
 use Rattle.reader.proofs.Entries.{entry}
 use Rattle.reader.proofs.parse_with_warnings.Goals as goal
 

@@ -1,5 +1,4 @@
 -- What `reader::read` leaves to show.
--- Assumes nothing.
 use Rattle.reader.proofs.Files.{files, reads_unmarked, reads_decoded}
 use Rattle.reader.proofs.read.Goals as goal
 

@@ -1,5 +1,4 @@
 -- What `reader::refuse` leaves to show.
--- Assumes nothing.
 use Rattle.reader.proofs.Entries.{clearing}
 use Rattle.reader.proofs.refuse.Goals as goal
 

@@ -1,5 +1,4 @@
 -- What `reader::root_node` leaves to show.
--- Assumes nothing.
 use Rattle.std.proofs.lemmas.Result.{err_from_is_err_and}
 use Rattle.reader.proofs.Rooted.{root_fault, root_open}
 use Rattle.reader.proofs.root_node.Goals as goal

@@ -1,5 +1,4 @@
 -- What `reader::start_in` leaves to show.
--- Assumes nothing.
 use mathlib.Core.Path.{refl}
 use Rattle.reader.proofs.Turning.{begun_open, begun_child}
 use Rattle.reader.proofs.start_in.Goals as goal

@@ -1,5 +1,4 @@
 -- What `reader::turn_at` leaves to show.
--- Assumes nothing.
 use mathlib.Core.Path.{refl}
 use Rattle.std.proofs.lemmas.Result.{err_from_is_err_and}
 use Rattle.reader.proofs.Turning.{turn_fault, turn_close, turn_started, turn_begun}

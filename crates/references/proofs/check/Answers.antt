@@ -1,5 +1,4 @@
 -- What `references::check` leaves to show. Its loop is in Invariants.antt.
--- Assumes nothing.
 use Rattle.references.proofs.Values.{checks}
 use Rattle.references.proofs.check.Goals as goal
 

@@ -1,5 +1,4 @@
 -- `references::check` meets its contract: the faults that are left from here are the value's.
--- Assumes nothing.
 use Prim.Native.Nat.{◌-◌}
 use lib.ListN.{length}
 use Rattle.references.proofs.Values.{Checking}

@@ -1,5 +1,4 @@
 -- What `references::put_escaped` leaves to show. Its loop is in Invariants.antt.
--- Assumes nothing.
 use Rattle.references.proofs.Escapes.{escapes}
 use Rattle.references.proofs.put_escaped.Goals.{then-is_escapable, else-is_escapable}
 use Rattle.references.proofs.put_escaped.Goals as goal

@@ -1,5 +1,4 @@
 -- `references::put_escaped` meets its contract: what stands before here is put as it is escaped.
--- Assumes nothing.
 use Rattle.references.proofs.Escapes.{Escaping}
 use Rattle.references.proofs.put_escaped.Given as goal
 

@@ -1,5 +1,4 @@
 -- What `references::put_shown` leaves to show. Its loop is in Invariants.antt.
--- Assumes nothing.
 use Rattle.references.proofs.Values.{shown}
 use Rattle.references.proofs.put_shown.Goals as goal
 

@@ -1,5 +1,4 @@
 -- `references::put_shown` meets its contract: what is shown before here is put.
--- Assumes nothing.
 use Prim.Native.Nat.{◌-◌}
 use lib.ListN.{length}
 use Rattle.references.proofs.Values.{Showing}

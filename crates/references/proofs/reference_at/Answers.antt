@@ -1,5 +1,4 @@
 -- `references::reference_at` meets its contract.
--- Assumes nothing.
 use native.Mathlib.Omega.{arith}
 use Rattle.std.proofs.lemmas.Result.{err_from_is_err_and}
 use Rattle.references.proofs.Pieces.{piece_bad, piece_char}

@@ -1,5 +1,4 @@
 -- `references::unescape` meets its contract: `said` makes the two equations.
--- Assumes nothing.
 use Rattle.std.proofs.Common.{length}
 use Rattle.answers.specs.Text.{Says}
 use Rattle.references.specs.Entries.{unescaping}

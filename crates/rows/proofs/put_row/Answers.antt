@@ -1,5 +1,4 @@
 -- `rows::put_row` meets its contract.
--- Assumes nothing.
 use Rattle.rows.proofs.Tables.{row_put}
 use Rattle.rows.proofs.put_row.Goals as goal
 

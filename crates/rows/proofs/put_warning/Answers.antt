@@ -1,5 +1,4 @@
 -- `rows::put_warning` meets its contract.
--- Assumes nothing.
 use Rattle.rows.proofs.Tables.{warning_put}
 use Rattle.rows.proofs.put_warning.Goals as goal
 

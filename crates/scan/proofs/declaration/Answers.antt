@@ -1,5 +1,4 @@
 -- What `scan::declaration` leaves to show. Its loop is in Invariants.antt.
--- Assumes nothing.
 use Rattle.scan.proofs.Declarations.{declares}
 use Rattle.scan.proofs.declaration.Goals as goal
 

@@ -1,5 +1,4 @@
 -- `scan::declaration` meets its contract: what is left of the declaration from here is what was asked.
--- Assumes nothing.
 use Prim.Native.Nat.{◌-◌}
 use lib.ListN.{length}
 use Rattle.scan.proofs.Declarations.{Declaring}

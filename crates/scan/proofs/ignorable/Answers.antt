@@ -1,5 +1,4 @@
 -- What `scan::ignorable` leaves to show. Its loop is in Invariants.antt.
--- Assumes nothing.
 use Rattle.std.proofs.lemmas.Result.{err_from_is_err_and}
 use Rattle.scan.proofs.Ignoring.{ignores, ignore_fault, ignore_more}
 use Rattle.scan.proofs.ignorable.Goals as goal

@@ -1,5 +1,4 @@
 -- `scan::ignorable` meets its contract: what is left from here is what was asked.
--- Assumes nothing.
 use Prim.Native.Nat.{◌-◌}
 use lib.ListN.{length}
 use Rattle.scan.proofs.Ignoring.{Ignoring}

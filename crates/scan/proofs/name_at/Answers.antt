@@ -1,5 +1,4 @@
 -- `scan::name_at` meets its contract.
--- Assumes nothing.
 use Rattle.scan.proofs.Prefixes.{named, name_ends, name_stops}
 use Rattle.scan.proofs.name_at.Goals.{else-end-s-via-then-end-s+else-s-end-eq58, else-end-s-via-else-end-s}
 use Rattle.scan.proofs.name_at.Goals as goal

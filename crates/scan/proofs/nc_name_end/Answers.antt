@@ -1,5 +1,4 @@
 -- `scan::nc_name_end` meets its contract: the run of the bytes of the class.
--- Assumes nothing.
 use Rattle.std.proofs.Common.{rules}
 use Rattle.scan.specs.Classes.{nc_name_byte}
 use Rattle.scan.proofs.nc_name_end.Goals as goal

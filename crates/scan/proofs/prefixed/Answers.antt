@@ -1,5 +1,4 @@
 -- What `scan::prefixed` leaves to show. Its loop is in Invariants.antt.
--- Assumes nothing.
 use Rattle.scan.proofs.Prefixes.{named}
 use Rattle.scan.proofs.prefixed.Goals as goal
 

@@ -1,5 +1,4 @@
 -- `scan::prefixed` meets its contract: what is left of the name from here, after the colons so far, is what was asked.
--- Assumes nothing.
 use Prim.Native.Nat.{◌-◌}
 use lib.ListN.{length}
 use Rattle.scan.proofs.Prefixes.{Prefixed}

@@ -1,5 +1,4 @@
 -- `scan::space_end` meets its contract: the run of the bytes of the class.
--- Assumes nothing.
 use Rattle.std.proofs.Common.{rules}
 use Rattle.scan.specs.Classes.{white}
 use Rattle.scan.proofs.space_end.Goals as goal

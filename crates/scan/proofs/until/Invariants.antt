@@ -1,5 +1,4 @@
 -- `scan::until` meets its contract: what is left of the search from here is what was asked.
--- Assumes nothing.
 use Prim.Native.Nat.{◌-◌}
 use lib.ListN.{length}
 use Rattle.scan.proofs.Seek.{Seeking}

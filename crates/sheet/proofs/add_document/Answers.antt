@@ -1,5 +1,4 @@
 -- `sheet::add_document` meets its contract.
--- Assumes nothing.
 use Rattle.sheets.proofs.Filing.{filing}
 use Rattle.sheet.proofs.add_document.Goals as goal
 

@@ -1,5 +1,4 @@
 -- `sheet::add_name` meets its contract.
--- Assumes nothing.
 use Rattle.sheets.proofs.Filing.{filing}
 use Rattle.sheet.proofs.add_name.Goals as goal
 

@@ -1,5 +1,4 @@
 -- What `sheet::add_names` leaves to show. Its loop is in Invariants.antt.
--- Assumes nothing.
 use borrow.Author.Rules.{rules}
 use Rattle.sheets.proofs.Filing.{going_more, going_ends, going_full}
 use Rattle.sheet.proofs.add_names.Goals as goal

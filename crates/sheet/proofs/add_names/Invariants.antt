@@ -1,5 +1,4 @@
 -- `sheet::add_names` meets its contract. The invariant: the names before the rest of the list are added, and those of the rest are left.
--- Assumes nothing.
 use Rattle.std.proofs.Common.{◌-◌}
 use Rattle.sheets.proofs.Filing.{Going}
 use Rattle.sheet.proofs.add_names.Given as goal

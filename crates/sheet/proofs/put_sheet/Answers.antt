@@ -1,5 +1,4 @@
 -- What `sheet::put_sheet` leaves to show.
--- Assumes nothing.
 use Rattle.sheets.proofs.Filing.{list_printed}
 use Rattle.sheet.proofs.put_sheet.Goals as goal
 

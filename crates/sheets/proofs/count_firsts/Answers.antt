@@ -1,5 +1,4 @@
 -- What `sheets::count_firsts` leaves to show. Its loop is in Invariants.antt.
--- Assumes nothing.
 use borrow.Author.Rules.{rules}
 use Rattle.sheets.proofs.Counting.{counting_more, counting_ends}
 use Rattle.sheets.proofs.count_firsts.Goals as goal

@@ -1,5 +1,4 @@
 -- `sheets::count_firsts` meets its contract. The invariant: what is left to count makes of the words what was asked.
--- Assumes nothing.
 use Rattle.std.specs.Iterator.Adapters.{take_count, take_source}
 use Rattle.std.specs.Slice.Iter.{chunks_rest, chunks_size}
 use Rattle.sheets.proofs.Counting.{Counting}

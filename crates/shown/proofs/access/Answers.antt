@@ -1,5 +1,4 @@
 -- `shown::access` meets its contract.
--- Assumes nothing.
 use Rattle.shown.proofs.Tests.{short_access}
 use Rattle.shown.proofs.access.Goals as goal
 

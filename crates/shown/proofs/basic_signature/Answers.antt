@@ -1,5 +1,4 @@
 -- `shown::basic_signature` meets its contract.
--- Assumes nothing.
 use Rattle.shown.proofs.Tests.{short_basic}
 use Rattle.shown.proofs.basic_signature.Goals as goal
 

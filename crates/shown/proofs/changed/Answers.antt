@@ -1,5 +1,4 @@
 -- `shown::changed` meets its contract.
--- Assumes nothing.
 use Rattle.std.proofs.Common.{rules}
 use Rattle.shown.proofs.Tests.{changed_is}
 use Rattle.shown.proofs.changed.Goals as goal

@@ -1,5 +1,4 @@
 -- `shown::direction` meets its contract.
--- Assumes nothing.
 use Rattle.shown.proofs.Tests.{short_direction}
 use Rattle.shown.proofs.direction.Goals as goal
 

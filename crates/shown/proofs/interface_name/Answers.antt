@@ -1,5 +1,4 @@
 -- `shown::interface_name` meets its contract.
--- Assumes nothing.
 use Rattle.shown.proofs.Tests.{short_interface}
 use Rattle.shown.proofs.interface_name.Goals as goal
 

@@ -1,5 +1,4 @@
 -- `shown::member_name` meets its contract.
--- Assumes nothing.
 use Rattle.shown.proofs.Tests.{short_member}
 use Rattle.shown.proofs.member_name.Goals as goal
 

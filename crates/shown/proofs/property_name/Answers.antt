@@ -1,5 +1,4 @@
 -- `shown::property_name` meets its contract.
--- Assumes nothing.
 use Rattle.shown.proofs.Tests.{short_property}
 use Rattle.shown.proofs.property_name.Goals as goal
 

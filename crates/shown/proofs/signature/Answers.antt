@@ -1,5 +1,4 @@
 -- `shown::signature` meets its contract.
--- Assumes nothing.
 use Rattle.shown.proofs.Tests.{short_signature}
 use Rattle.shown.proofs.signature.Goals as goal
 

@@ -1,5 +1,4 @@
 -- `shown::some_signature` meets its contract.
--- Assumes nothing.
 use Rattle.shown.proofs.Tests.{short_some}
 use Rattle.shown.proofs.some_signature.Goals as goal
 

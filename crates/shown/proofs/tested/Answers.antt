@@ -1,5 +1,4 @@
 -- `shown::tested` meets its contract: the test is called at the text that is shown, or at more than 255 bytes.
--- Assumes nothing.
 use Rattle.shown.proofs.Tests.{tests_plain, tests_changed}
 use Rattle.shown.proofs.tested.Goals as goal
 

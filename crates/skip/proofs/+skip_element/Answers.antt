@@ -1,5 +1,4 @@
 -- What `skip::skip_element` leaves to show. Its loop and its measure are in Invariants.antt.
--- Assumes nothing.
 use Rattle.std.proofs.lemmas.Result.{err_from_is_err_and}
 use Rattle.skip.proofs.Passing.{pass_close, pass_self, pass_deep, pass_inner, pass_inner_fault}
 use Rattle.skip.proofs.+skip_element.Goals as goal

@@ -1,5 +1,4 @@
 -- `skip::skip_element` meets its contract: the run has come from the place asked to the present one. The measure is what is left of the document.
--- Assumes nothing.
 use Rattle.std.proofs.Common.{◌-◌, length}
 use Rattle.skip.proofs.Passing.{Sofar}
 use Rattle.skip.proofs.+skip_element.Given as goal

@@ -1,5 +1,4 @@
 -- `skip::capture` meets its contract.
--- Assumes nothing.
 use Rattle.skip.proofs.Captured.{capturing}
 use Rattle.skip.proofs.capture.Goals as goal
 

@@ -1,5 +1,4 @@
 -- What `skip::docstring` leaves to show.
--- Assumes nothing.
 use Rattle.std.proofs.lemmas.Result.{err_from_is_err_and}
 use Rattle.skip.proofs.Captured.{documents, captured_fault, captured_formed, captured_closed}
 use Rattle.skip.proofs.docstring.Goals as goal

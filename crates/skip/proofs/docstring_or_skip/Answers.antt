@@ -1,5 +1,4 @@
 -- What `skip::docstring_or_skip` leaves to show.
--- Assumes nothing.
 use Rattle.document.proofs.Loops.{others}
 use Rattle.skip.proofs.docstring_or_skip.Goals as goal
 

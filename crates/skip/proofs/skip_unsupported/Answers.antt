@@ -1,5 +1,4 @@
 -- What `skip::skip_unsupported` leaves to show.
--- Assumes nothing.
 use Rattle.std.proofs.lemmas.Result.{err_from_is_err_and}
 use Rattle.skip.proofs.Skipped.{skips, skipped_fault, skipped_closed}
 use Rattle.skip.proofs.skip_unsupported.Goals as goal

@@ -1,5 +1,4 @@
 -- `slices::agreed` meets its contract: where words are equal, so are their bytes.
--- Assumes nothing.
 use Rattle.std.proofs.Common.{rules}
 use Rattle.slices.proofs.Words.{agrees_blocks, twin}
 use Rattle.slices.proofs.agreed.Goals as goal

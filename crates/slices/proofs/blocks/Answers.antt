@@ -1,5 +1,4 @@
 -- `slices::blocks` meets its contract: one more block passes.
--- Assumes nothing.
 use Rattle.std.proofs.Common.{rules, arith}
 use Rattle.slices.proofs.Skips.{blocks_more}
 use Rattle.slices.proofs.blocks.Goals as goal

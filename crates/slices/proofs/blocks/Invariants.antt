@@ -1,5 +1,4 @@
 -- `slices::blocks` meets its contract: each place up to here lies in a block that passes.
--- Assumes nothing.
 use Rattle.std.proofs.Common.{◌-◌, length}
 use Rattle.slices.specs.Run.{Blocks}
 use Rattle.slices.proofs.blocks.Given as goal

@@ -1,5 +1,4 @@
 -- `slices::by_words` meets its contract: no byte up to the next word is b.
--- Assumes nothing.
 use Rattle.std.proofs.Common.{◌+◌, ◌*◌}
 use Rattle.slices.specs.Run.{Without}
 use Rattle.slices.proofs.by_words.Given as goal

@@ -1,5 +1,4 @@
 -- `slices::byte` meets its contract.
--- Assumes nothing.
 use Rattle.std.proofs.Common.{refl, arith}
 use Rattle.slices.proofs.byte.Goals as goal
 

@@ -1,5 +1,4 @@
 -- `slices::find` meets its contract: the run from where the words end is what is left of the run asked for.
--- Assumes nothing.
 use Rattle.std.proofs.Common.{rules}
 use Rattle.slices.specs.Bytes.{other}
 use Rattle.slices.proofs.Skips.{run_join, sought_running}

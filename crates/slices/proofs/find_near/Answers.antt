@@ -1,5 +1,4 @@
 -- `slices::find_near` meets its contract: from where the words end the run goes on as `find` says.
--- Assumes nothing.
 use Rattle.slices.proofs.Skips.{run_join, without_running}
 use Rattle.slices.proofs.find_near.Goals as goal
 

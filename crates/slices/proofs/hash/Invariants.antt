@@ -1,5 +1,4 @@
 -- `slices::hash` meets its contract: what is left to hash from here makes the hash of all.
--- Assumes nothing.
 use Rattle.slices.proofs.Hashing.{Hashing}
 use Rattle.slices.proofs.hash.Given as goal
 

@@ -1,5 +1,4 @@
 -- `slices::leading` meets its contract: the trailing zeros of the mask, by 8.
--- Assumes nothing.
 use Rattle.slices.proofs.Words.{worded}
 use Rattle.slices.proofs.leading.Goals as goal
 

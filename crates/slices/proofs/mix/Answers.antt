@@ -1,5 +1,4 @@
 -- `slices::mix` meets its contract.
--- Assumes nothing.
 use Rattle.std.proofs.Common.{rules}
 use Rattle.slices.specs.Hash.{mixed}
 use Rattle.slices.proofs.mix.Goals as goal

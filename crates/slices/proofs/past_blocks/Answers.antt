@@ -1,5 +1,4 @@
 -- `slices::past_blocks` meets its contract: a block that passes has no byte that is b.
--- Assumes nothing.
 use Rattle.std.proofs.Common.{rules}
 use Rattle.slices.proofs.Skips.{without_blocks}
 use Rattle.slices.proofs.past_blocks.Goals as goal

@@ -1,5 +1,4 @@
 -- `slices::run_end` meets its contract: the first byte that fails the test ends the run.
--- Assumes nothing.
 use Rattle.std.proofs.Common.{◌≡◌, true, false, get_or, rules}
 use Rattle.std.proofs.lemmas.Iterator.{first_from_Range}
 use Rattle.slices.proofs.Runs.{run_first}

@@ -1,5 +1,4 @@
 -- `slices::starts_at` meets its contract. The invariant: the rest of the key is compared with what follows.
--- Assumes nothing.
 use Rattle.slices.proofs.Runs.{Matching}
 use Rattle.slices.proofs.starts_at.Given as goal
 

@@ -1,5 +1,4 @@
 -- `soundness::admit` meets its contract.
--- Assumes nothing.
 use Rattle.std.proofs.Common.{rules}
 use Rattle.soundness.proofs.Rows.{admit_document, admit_text, admit_checked}
 use Rattle.soundness.proofs.admit.Goals as goal

@@ -1,5 +1,4 @@
 -- `soundness::bytes_told` meets its contract: the sum stays small enough.
--- Assumes nothing.
 use Rattle.std.proofs.Common.{◌^◌, refl, rules, arith}
 use Rattle.std.proofs.lemmas.Iterator.{YieldsList-from_range}
 use Rattle.std.proofs.lemmas.Iterator.Consumers.{YieldsList-at}

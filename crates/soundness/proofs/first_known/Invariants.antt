@@ -1,5 +1,4 @@
 -- `soundness::first_known` meets its contract: what is left of the rows decides.
--- Assumes nothing.
 use Rattle.soundness.proofs.Rows.{Checking}
 use Rattle.soundness.proofs.first_known.Given as goal
 

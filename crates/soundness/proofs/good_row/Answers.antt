@@ -1,5 +1,4 @@
 -- What `soundness::good_row` leaves to show.
--- Assumes nothing.
 use Rattle.soundness.proofs.Rows.{whole}
 use Rattle.soundness.proofs.good_row.Goals as goal
 use Rattle.soundness.proofs.good_row.Goals.{then-is_placed, else-is_placed, then-good_texts, else-good_texts}

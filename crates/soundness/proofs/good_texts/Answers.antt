@@ -1,5 +1,4 @@
 -- What `soundness::good_texts` leaves to show.
--- Assumes nothing.
 use borrow.Author.Rules.{rules}
 use Rattle.soundness.proofs.Rows.{last_text}
 use Rattle.soundness.proofs.good_texts.Goals as goal

@@ -1,5 +1,4 @@
 -- What `soundness::sound_row` leaves to show.
--- Assumes nothing.
 use Rattle.soundness.proofs.Rows.{sound_rows}
 use Rattle.soundness.proofs.sound_row.Goals as goal
 

@@ -1,5 +1,4 @@
 -- `strict::read_strict` meets its contract. What is accepted is judged: the file itself, or the text that it decodes to.
--- Assumes nothing.
 use lib.Seq.{length-take-le}
 use Rattle.strict.proofs.Judging.{entry}
 use Rattle.strict.proofs.read_strict.Goals as goal

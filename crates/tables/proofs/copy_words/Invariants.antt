@@ -1,5 +1,4 @@
 -- `tables::copy_words` meets its contract. The invariant: the stores that are left make of the present table what the contract asks.
--- Assumes nothing.
 use Rattle.tables.proofs.Tables.{Copying}
 use Rattle.tables.proofs.copy_words.Given as goal
 

@@ -1,5 +1,4 @@
 -- `tables::fill` meets its contract. The invariant: to fill the rest of the present table gives what the contract asks.
--- Assumes nothing.
 use Rattle.tables.proofs.Tables.{Filling}
 use Rattle.tables.proofs.fill.Given as goal
 

@@ -1,5 +1,4 @@
 -- `tables::put_words` meets its contract. Each need follows by the laws on tables.
--- Assumes nothing.
 use Rattle.tables.proofs.Tables.{tables}
 use Rattle.tables.proofs.put_words.Goals as goal
 

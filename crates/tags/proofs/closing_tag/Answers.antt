@@ -1,5 +1,4 @@
 -- `tags::closing_tag` meets its contract.
--- Assumes nothing.
 use Rattle.tags.proofs.Parts.{closings}
 use Rattle.tags.proofs.closing_tag.Goals as goal
 

@@ -1,5 +1,4 @@
 -- `tags::fault_in` meets its contract.
--- Assumes nothing.
 use Rattle.tags.proofs.Faults.{faults}
 use Rattle.tags.proofs.fault_in.Goals as goal
 

@@ -1,5 +1,4 @@
 -- What `tags::start_tag` leaves to show.
--- Assumes nothing.
 use Rattle.std.proofs.lemmas.Result.{err_from_is_err_and}
 use Rattle.tags.proofs.Startings.{good_before, start_unended, starts}
 use Rattle.tags.proofs.start_tag.Goals as goal

@@ -1,5 +1,4 @@
 -- What `tags::step` leaves to show.
--- Assumes nothing.
 use Rattle.std.proofs.lemmas.Result.{err_from_is_err_and}
 use Rattle.tags.proofs.Stepping.{step_fault, step_end, step_start}
 use Rattle.tags.proofs.step.Goals as goal

@@ -1,5 +1,4 @@
 -- `tags::tag_end` meets its contract.
--- Assumes nothing.
 use Rattle.tags.proofs.Parts.{ends}
 use Rattle.tags.proofs.tag_end.Goals as goal
 

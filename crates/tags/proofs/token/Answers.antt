@@ -1,5 +1,4 @@
 -- What `tags::token` leaves to show.
--- Assumes nothing.
 use borrow.Author.Rules.{rules}
 use native.Mathlib.Omega.{arith}
 use Rattle.std.proofs.lemmas.Result.{err_from_is_err_and}

@@ -1,5 +1,4 @@
 -- `telepathy::content` meets its contract.
--- Assumes nothing.
 use Rattle.telepathy.proofs.Bodies.{contents}
 use Rattle.telepathy.proofs.content.Goals as goal
 

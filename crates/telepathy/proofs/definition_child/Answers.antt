@@ -1,5 +1,4 @@
 -- `telepathy::definition_child` meets its contract.
--- Assumes nothing.
 use Rattle.std.proofs.lemmas.Result.{err_from_is_err_and}
 use Rattle.telepathy.proofs.Bodies.{child_other_fault, child_other_done, children}
 use Rattle.telepathy.proofs.definition_child.Goals as goal

@@ -1,5 +1,4 @@
 -- What `telepathy::definition_children` leaves to show. Its loop is in Invariants.antt.
--- Assumes nothing.
 use Rattle.std.proofs.lemmas.Result.{err_from_is_err_and}
 use Rattle.document.proofs.Loops.{moved_owner}
 use Rattle.document.proofs.Readers.{keeps_same, keeps_more, ready_kept}

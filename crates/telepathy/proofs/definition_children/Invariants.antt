@@ -1,5 +1,4 @@
 -- `telepathy::definition_children` meets its contract: the run has come from the place asked to the present one, with the parts seen. The measure is what is left of the document.
--- Assumes nothing.
 use Prim.Native.Nat.{◌-◌}
 use lib.ListN.{length}
 use Rattle.document.specs.Outcome.{lent_to, Keeps}

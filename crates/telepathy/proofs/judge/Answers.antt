@@ -1,5 +1,4 @@
 -- `telepathy::judge` meets its contract.
--- Assumes nothing.
 use Rattle.telepathy.proofs.Judgement.{judgements}
 use Rattle.telepathy.proofs.judge.Goals as goal
 

@@ -1,5 +1,4 @@
 -- `telepathy::noted_part` meets its contract.
--- Assumes nothing.
 use Rattle.std.proofs.lemmas.Result.{err_from_is_err_and}
 use Rattle.telepathy.proofs.Bodies.{noted_fault, noted_done}
 use Rattle.telepathy.proofs.noted_part.Goals as goal

@@ -1,5 +1,4 @@
 -- `telepathy::part` meets its contract.
--- Assumes nothing.
 use Rattle.std.proofs.lemmas.Result.{err_from_is_err_and}
 use Rattle.document.proofs.Openings.{opening_fault}
 use Rattle.telepathy.proofs.Sorts.{part_done, openings}

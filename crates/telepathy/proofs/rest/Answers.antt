@@ -1,5 +1,4 @@
 -- `telepathy::rest` meets its contract.
--- Assumes nothing.
 use Rattle.std.proofs.lemmas.Result.{err_from_is_err_and}
 use Rattle.telepathy.proofs.Judgement.{rest_fault, rest_done, rests}
 use Rattle.telepathy.proofs.rest.Goals as goal

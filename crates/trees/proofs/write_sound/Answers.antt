@@ -1,5 +1,4 @@
 -- What `trees::write_sound` leaves to show.
--- Assumes nothing.
 use Rattle.answers.proofs.Answers.{told}
 use Rattle.trees.proofs.Entry.{no_row, no_kind, rows}
 use Rattle.trees.proofs.write_sound.Goals as goal

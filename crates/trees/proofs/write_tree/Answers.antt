@@ -1,5 +1,4 @@
 -- What `trees::write_tree` leaves to show.
--- Assumes nothing.
 use Rattle.trees.proofs.Entry.{admits, entry}
 use Rattle.trees.proofs.write_tree.Goals as goal
 

@@ -1,5 +1,4 @@
 -- `utf16::character` meets its contract.
--- Assumes nothing.
 use Rattle.utf16.proofs.Units.{characters}
 use Rattle.utf16.proofs.character.Goals.{then-u-gt56319-via-then-u-gt56319, then-u-gt56319-via-else-u-gt56319+then-raw-next, then-v-lt56320-via-then-v-lt56320, then-v-lt56320-via-else-v-lt56320+then-v-gt57343}
 use Rattle.utf16.proofs.character.Goals as goal

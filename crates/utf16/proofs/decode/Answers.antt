@@ -1,5 +1,4 @@
 -- `utf16::decode` meets its contract.
--- Assumes nothing.
 use Rattle.std.proofs.Common.{length, None, Ok}
 use Rattle.utf16.proofs.Answers.{marks, said}
 use Rattle.utf16.proofs.decode.Goals as goal

@@ -1,5 +1,4 @@
 -- `utf16::decode_ordered` meets its contract.
--- Assumes nothing.
 use Rattle.utf16.proofs.Answers.{orders}
 use Rattle.utf16.proofs.decode_ordered.Goals as goal
 

@@ -1,5 +1,4 @@
 -- What `utf16::put_all` leaves to show. Its loop is in Invariants.antt.
--- Assumes nothing.
 use Rattle.utf16.proofs.Decoding.{steps}
 use Rattle.utf16.proofs.put_all.Goals as goal
 

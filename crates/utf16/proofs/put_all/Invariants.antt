@@ -1,5 +1,4 @@
 -- `utf16::put_all` meets its contract.
--- Assumes nothing.
 use Prim.Native.Nat.{◌-◌}
 use lib.ListN.{length}
 use Rattle.utf16.specs.Outcome.{Decodes}

@@ -1,5 +1,4 @@
 -- `utf16::put_block` meets its contract.
--- Assumes nothing.
 use Rattle.utf16.proofs.Decoding.{Blocks}
 use Rattle.utf16.proofs.put_block.Given as goal
 

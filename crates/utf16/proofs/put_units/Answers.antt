@@ -1,5 +1,4 @@
 -- What `utf16::put_units` leaves to show. Its loop is in Invariants.antt.
--- Assumes nothing.
 use Rattle.utf16.proofs.Decoding.{puts}
 use Rattle.utf16.proofs.put_units.Goals as goal
 

@@ -1,5 +1,4 @@
 -- `utf16::within` meets its contract.
--- Assumes nothing.
 use Rattle.utf16.proofs.Limits.{Limiting}
 use Rattle.utf16.proofs.within.Given as goal
 

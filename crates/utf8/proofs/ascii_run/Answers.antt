@@ -1,5 +1,4 @@
 -- `utf8::ascii_run` meets its contract: past the blocks a run of bytes below 128.
--- Assumes nothing.
 use Rattle.std.proofs.Common.{rules, leb}
 use Rattle.utf8.proofs.Ascii.{ascii_run}
 use Rattle.utf8.proofs.ascii_run.Goals as goal

@@ -1,5 +1,4 @@
 -- `utf8::ascii_start` meets its contract.
--- Assumes nothing.
 use Rattle.utf8.proofs.Finding.{finds}
 use Rattle.utf8.proofs.ascii_start.Goals as goal
 

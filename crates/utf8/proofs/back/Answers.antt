@@ -1,5 +1,4 @@
 -- `utf8::back` meets its contract: the last byte before the end that continues no character begins the last one.
--- Assumes nothing.
 use Rattle.std.proofs.Common.{arith, get_or, rules, tests}
 use Rattle.utf8.proofs.Cuts.{Lead, Next}
 use Rattle.utf8.proofs.Downward.{last_from_rev}

@@ -1,5 +1,4 @@
 -- `utf8::blocks` meets its contract: a block that passes has no byte above 127.
--- Assumes nothing.
 use Rattle.std.proofs.Common.{rules}
 use Rattle.utf8.proofs.Ascii.{ascii_blocks, most_low}
 use Rattle.utf8.proofs.blocks.Goals as goal

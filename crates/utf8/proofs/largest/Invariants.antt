@@ -1,5 +1,4 @@
 -- `utf8::largest` meets its contract. The invariant: none of the bytes passed is larger than `m`.
--- Assumes nothing.
 use Rattle.utf8.specs.Ascii.{AtMost}
 use Rattle.utf8.proofs.largest.Given as goal
 

@@ -1,5 +1,4 @@
 -- What `utf8::trim_end` leaves to show. Its loop is in Invariants.antt.
--- Assumes nothing.
 use Rattle.utf8.proofs.Ends.{ends}
 use Rattle.utf8.proofs.trim_end.Goals as goal
 

@@ -1,5 +1,4 @@
 -- `utf8::trim_end` meets its contract. The invariant: what is asked is what is left up to here. The measure is the place.
--- Assumes nothing.
 use Rattle.utf8.proofs.Ends.{Ending}
 use Rattle.utf8.proofs.trim_end.Given as goal
 

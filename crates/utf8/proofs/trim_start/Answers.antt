@@ -1,5 +1,4 @@
 -- What `utf8::trim_start` leaves to show. Its loop is in Invariants.antt.
--- Assumes nothing.
 use Rattle.utf8.proofs.Trims.{trims}
 use Rattle.utf8.proofs.trim_start.Goals as goal
 

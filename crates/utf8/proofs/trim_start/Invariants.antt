@@ -1,5 +1,4 @@
 -- `utf8::trim_start` meets its contract. The invariant: what is asked is what is left from here.
--- Assumes nothing.
 use Prim.Native.Nat.{◌-◌}
 use lib.ListN.{length}
 use Rattle.utf8.proofs.Trims.{Trimming}

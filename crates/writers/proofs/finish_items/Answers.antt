@@ -1,5 +1,4 @@
 -- `writers::finish_items` meets its contract.
--- Assumes nothing.
 use Rattle.writers.proofs.Several.{finishing}
 use Rattle.writers.proofs.finish_items.Goals as goal
 

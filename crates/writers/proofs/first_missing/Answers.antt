@@ -1,5 +1,4 @@
 -- `writers::first_missing` meets its contract.
--- Assumes nothing.
 use Rattle.std.proofs.Common.{◌≡◌, true, false, rules, tests}
 use Rattle.std.proofs.lemmas.List.{map-id}
 use Rattle.std.proofs.lemmas.Iterator.{first_from_find, YieldsList-from_slice, YieldsList-from_map}

@@ -1,5 +1,4 @@
 -- What `writers::put_annotations` leaves to show. Its loop is in Invariants.antt.
--- Assumes nothing.
 use Rattle.writers.proofs.Texts.{notes}
 use Rattle.writers.proofs.put_annotations.Goals as goal
 

@@ -1,5 +1,4 @@
 -- `writers::put_annotations` meets its contract: what is put and what is left are the annotations asked for.
--- Assumes nothing.
 use Rattle.writers.proofs.Texts.{Annotating}
 use Rattle.writers.proofs.put_annotations.Given as goal
 

@@ -1,5 +1,4 @@
 -- `writers::put_arg` meets its contract.
--- Assumes nothing.
 use Rattle.writers.proofs.Args.{args}
 use Rattle.writers.proofs.put_arg.Goals as goal
 

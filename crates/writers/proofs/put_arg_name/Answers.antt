@@ -1,5 +1,4 @@
 -- `writers::put_arg_name` meets its contract.
--- Assumes nothing.
 use Rattle.writers.proofs.Texts.{tags}
 use Rattle.writers.proofs.put_arg_name.Goals as goal
 

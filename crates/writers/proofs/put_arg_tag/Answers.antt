@@ -1,5 +1,4 @@
 -- `writers::put_arg_tag` meets its contract.
--- Assumes nothing.
 use Rattle.writers.proofs.Texts.{tags}
 use Rattle.writers.proofs.put_arg_tag.Goals as goal
 

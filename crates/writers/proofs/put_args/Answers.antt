@@ -1,5 +1,4 @@
 -- What `writers::put_args` leaves to show. Its loop is in Invariants.antt.
--- Assumes nothing.
 use Rattle.writers.proofs.Members.{argues}
 use Rattle.writers.proofs.put_args.Goals as goal
 

@@ -1,5 +1,4 @@
 -- `writers::put_args` meets its contract: what is put and what is left are the args asked for.
--- Assumes nothing.
 use Rattle.writers.proofs.Members.{Arguing}
 use Rattle.writers.proofs.put_args.Given as goal
 

@@ -1,5 +1,4 @@
 -- `writers::put_children` meets its contract.
--- Assumes nothing.
 use Rattle.writers.proofs.Members.{inner}
 use Rattle.writers.proofs.put_children.Goals as goal
 

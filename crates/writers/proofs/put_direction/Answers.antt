@@ -1,5 +1,4 @@
 -- `writers::put_direction` meets its contract.
--- Assumes nothing.
 use Rattle.writers.proofs.Texts.{tags}
 use Rattle.writers.proofs.put_direction.Goals as goal
 

@@ -1,5 +1,4 @@
 -- `writers::put_if_annotation` meets its contract.
--- Assumes nothing.
 use Rattle.writers.proofs.Texts.{texts}
 use Rattle.writers.proofs.put_if_annotation.Goals as goal
 

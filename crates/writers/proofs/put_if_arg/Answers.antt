@@ -1,5 +1,4 @@
 -- `writers::put_if_arg` meets its contract.
--- Assumes nothing.
 use Rattle.writers.proofs.Members.{turns}
 use Rattle.writers.proofs.put_if_arg.Goals as goal
 

@@ -1,5 +1,4 @@
 -- `writers::put_member` meets its contract.
--- Assumes nothing.
 use Rattle.writers.proofs.Members.{members}
 use Rattle.writers.proofs.put_member.Goals as goal
 

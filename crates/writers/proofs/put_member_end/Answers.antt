@@ -1,5 +1,4 @@
 -- `writers::put_member_end` meets its contract.
--- Assumes nothing.
 use Rattle.writers.proofs.Members.{tags}
 use Rattle.writers.proofs.put_member_end.Goals as goal
 

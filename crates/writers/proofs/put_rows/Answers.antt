@@ -1,5 +1,4 @@
 -- What `writers::put_rows` leaves to show. Its loop is in Invariants.antt.
--- Assumes nothing.
 use Rattle.writers.proofs.Several.{adding}
 use Rattle.writers.proofs.put_rows.Goals as goal
 

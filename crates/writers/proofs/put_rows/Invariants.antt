@@ -1,5 +1,4 @@
 -- `writers::put_rows` meets its contract.
--- Assumes nothing.
 use lib.ListN.{length}
 use Rattle.writers.proofs.Several.{Adding}
 use Rattle.writers.proofs.put_rows.Given as goal

@@ -1,5 +1,4 @@
 -- `writers::put_shown` meets its contract.
--- Assumes nothing.
 use Rattle.writers.proofs.Texts.{texts}
 use Rattle.writers.proofs.put_shown.Goals as goal
 

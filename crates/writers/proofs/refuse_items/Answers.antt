@@ -1,5 +1,4 @@
 -- `writers::refuse_items` meets its contract.
--- Assumes nothing.
 use Rattle.writers.proofs.Several.{refusing}
 use Rattle.writers.proofs.refuse_items.Goals as goal
 

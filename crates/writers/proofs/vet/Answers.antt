@@ -1,5 +1,4 @@
 -- `writers::vet` meets its contract.
--- Assumes nothing.
 use Rattle.std.proofs.lemmas.Result.{err_from_is_err_and}
 use Rattle.writers.proofs.Entry.{admits, admitted_rows}
 use Rattle.writers.proofs.Several.{vet_refused, vet_sound}

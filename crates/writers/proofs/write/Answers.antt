@@ -1,5 +1,4 @@
 -- `writers::write` meets its contract.
--- Assumes nothing.
 use Rattle.writers.proofs.Entry.{admits, entry}
 use Rattle.writers.proofs.write.Goals as goal
 

@@ -1,5 +1,4 @@
 -- `writers::write_items` meets its contract.
--- Assumes nothing.
 use Rattle.writers.proofs.Several.{several}
 use Rattle.writers.proofs.write_items.Goals as goal
 

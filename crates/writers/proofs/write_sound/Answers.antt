@@ -1,5 +1,4 @@
 -- What `writers::write_sound` leaves to show.
--- Assumes nothing.
 use Rattle.writers.proofs.Entry.{rows}
 use Rattle.writers.proofs.write_sound.Goals as goal
 

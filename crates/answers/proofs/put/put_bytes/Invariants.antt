@@ -1,5 +1,4 @@
 -- `answers::put::put_bytes` meets its contract: the bytes before here are put.
--- Assumes nothing.
 use Rattle.answers.proofs.Putting.{Putting}
 use Rattle.answers.proofs.put.put_bytes.Given as goal
 

@@ -1,5 +1,4 @@
 -- `answers::put::put_char` meets its contract.
--- Assumes nothing.
 use Rattle.answers.proofs.Putting.{puts}
 use Rattle.answers.proofs.put.put_char.Goals as goal
 

@@ -1,5 +1,4 @@
 -- What `attributes::few::attributes` leaves to show. Its loop is in Invariants.antt.
--- Assumes nothing.
 use borrow.Author.Rules.{rules}
 use Rattle.attributes.proofs.Slots.{slots_end, slots_more}
 use Rattle.attributes.proofs.few.attributes.Goals as goal

@@ -1,5 +1,4 @@
 -- `attributes::few::attributes` meets its contract: the slots hold the values of the attributes gathered.
--- Assumes nothing.
 use Prim.Native.Nat.{◌-◌}
 use lib.ListN.{length}
 use Rattle.attributes.proofs.Slots.{Slotting}

@@ -1,5 +1,4 @@
 -- What `attributes::few::plain_end` leaves to show. Its loop is in Invariants.antt.
--- Assumes nothing.
 use Rattle.std.proofs.Common.{arith}
 use Rattle.attributes.proofs.Starting.{plain_skips, plain_more}
 use Rattle.attributes.proofs.few.plain_end.Goals as goal

@@ -1,5 +1,4 @@
 -- `attributes::few::plain_end` meets its contract: what is left, after plain bytes alone, is what was asked.
--- Assumes nothing.
 use Prim.Native.Nat.{◌-◌}
 use lib.ListN.{length}
 use Rattle.document.specs.declared.Form.{Form}

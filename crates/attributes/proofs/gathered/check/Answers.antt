@@ -1,5 +1,4 @@
 -- What `attributes::gathered::check` leaves to show. Its loop is in Invariants.antt.
--- Assumes nothing.
 use Rattle.std.proofs.lemmas.Result.{err_from_is_err_and}
 use Rattle.attributes.proofs.Checking.{check_fault, check_more}
 use Rattle.attributes.proofs.gathered.check.Goals as goal

@@ -1,5 +1,4 @@
 -- `attributes::gathered::check` meets its contract. The invariant: the attributes before this one are good.
--- Assumes nothing.
 use Rattle.attributes.proofs.Checking.{Checking}
 use Rattle.attributes.proofs.gathered.check.Given as goal
 

@@ -1,5 +1,4 @@
 -- `attributes::gathered::first_named` meets its contract: the first that is wanted is the first of those from here on.
--- Assumes nothing.
 use Rattle.attributes.specs.Lookup.{wanted}
 use Rattle.attributes.proofs.First.{Seeking}
 use Rattle.attributes.proofs.gathered.first_named.Given as goal

@@ -1,5 +1,4 @@
 -- What `attributes::gathered::judge` leaves to show.
--- Assumes nothing.
 use Rattle.std.proofs.Common.{◌≡◌, false, take, get_or, subst}
 use Rattle.std.proofs.lemmas.List.{get_or_default}
 use Rattle.document.specs.declared.Form.{Form}

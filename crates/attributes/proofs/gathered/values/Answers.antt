@@ -1,5 +1,4 @@
 -- What `attributes::gathered::values` leaves to show.
--- Assumes nothing.
 use Rattle.attributes.proofs.First.{all_values}
 use Rattle.attributes.proofs.gathered.values.Goals as goal
 

@@ -1,5 +1,4 @@
 -- `attributes::many::entry` meets its contract.
--- Assumes nothing.
 use Rattle.attributes.proofs.Marking.{entries}
 use Rattle.attributes.proofs.many.entry.Goals as goal
 

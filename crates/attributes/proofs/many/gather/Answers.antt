@@ -1,5 +1,4 @@
 -- What `attributes::many::gather` leaves to show. Its loop is in Invariants.antt.
--- Assumes nothing.
 use mathlib.Core.Bool.{false}
 use native.Mathlib.Omega.{arith}
 use lib.ListN.{length-replicate}

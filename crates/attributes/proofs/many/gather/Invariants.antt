@@ -1,5 +1,4 @@
 -- `attributes::many::gather` meets its contract: what was asked is what is asked from here on, after the first n, whose entries are taken.
--- Assumes nothing.
 use Prim.Native.Nat.{◌-◌}
 use lib.ListN.{length}
 use Rattle.attributes.proofs.Marking.{Marking}

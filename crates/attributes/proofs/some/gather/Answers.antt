@@ -1,5 +1,4 @@
 -- What `attributes::some::gather` leaves to show. Its loop is in Invariants.antt.
--- Assumes nothing.
 use Rattle.attributes.proofs.Gathering.{gathers}
 use Rattle.attributes.proofs.some.gather.Goals as goal
 

@@ -1,5 +1,4 @@
 -- `attributes::some::gather` meets its contract: what was asked is what is asked from here on, after the first n.
--- Assumes nothing.
 use Prim.Native.Nat.{◌-◌}
 use lib.ListN.{length}
 use Rattle.attributes.specs.Outcome.{Fresh}

@@ -1,5 +1,4 @@
 -- `attributes::starts::four` meets its contract.
--- Assumes nothing.
 use Prim.Native.Nat.{◌+◌}
 use mathlib.Core.Path.{refl}
 use native.Mathlib.Omega.{arith}

@@ -1,5 +1,4 @@
 -- `attributes::starts::opened` meets its contract.
--- Assumes nothing.
 use borrow.Author.Rules.{rules}
 use native.Mathlib.Omega.{arith}
 use Rattle.attributes.proofs.Starting.{start_unnamed, start_ended, start_unequal, start_cut, start_unquoted, start_opens}

@@ -1,5 +1,4 @@
 -- What `interfaces::InInterfaceElement::child` leaves to show.
--- Assumes nothing.
 use mathlib.Core.Path.{refl}
 use borrow.Author.Rules.{rules}
 use Rattle.document.proofs.Loops.{child_begins}

@@ -1,5 +1,4 @@
 -- What `members::InAnnotationElement::child` leaves to show.
--- Assumes nothing.
 use Rattle.document.proofs.Loops.{child_bare}
 use Rattle.members.proofs.InAnnotationElement.child.Goals as goal
 

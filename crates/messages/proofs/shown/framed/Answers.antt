@@ -1,5 +1,4 @@
 -- `messages::shown::framed` meets its contract.
--- Assumes nothing.
 use Rattle.messages.proofs.Framed.{framing}
 use Rattle.messages.proofs.shown.framed.Goals as goal
 

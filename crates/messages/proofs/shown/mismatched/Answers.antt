@@ -1,5 +1,4 @@
 -- `messages::shown::mismatched` meets its contract.
--- Assumes nothing.
 use borrow.Author.Rules.{rules}
 use Rattle.answers.proofs.Answers.{finished}
 use Rattle.messages.proofs.Framed.{mismatched_made}

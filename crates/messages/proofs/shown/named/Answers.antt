@@ -1,5 +1,4 @@
 -- `messages::shown::named` meets its contract.
--- Assumes nothing.
 use Rattle.answers.proofs.Answers.{told}
 use Rattle.messages.proofs.Framed.{framing, named_bad}
 use Rattle.messages.proofs.shown.named.Goals as goal

@@ -1,5 +1,4 @@
 -- `messages::shown::put_unescaped` meets its contract.
--- Assumes nothing.
 use Rattle.messages.proofs.Framed.{framing}
 use Rattle.messages.proofs.shown.put_unescaped.Goals as goal
 

@@ -1,5 +1,4 @@
 -- `messages::shown::unescaped` meets its contract.
--- Assumes nothing.
 use Rattle.messages.proofs.Framed.{framing}
 use Rattle.messages.proofs.shown.unescaped.Goals as goal
 

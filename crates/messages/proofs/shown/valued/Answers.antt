@@ -1,5 +1,4 @@
 -- `messages::shown::valued` meets its contract.
--- Assumes nothing.
 use Rattle.answers.proofs.Answers.{told}
 use Rattle.messages.proofs.Framed.{framing, valued_bad}
 use Rattle.messages.proofs.shown.valued.Goals as goal

@@ -1,5 +1,4 @@
 -- `messages::texts::missing` meets its contract. Each text is computed.
--- Assumes nothing.
 use Rattle.std.proofs.Common.{rules, refl}
 use Rattle.messages.proofs.Numbers.{missing_by}
 use Rattle.messages.proofs.texts.missing.Goals as goal

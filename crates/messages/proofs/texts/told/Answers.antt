@@ -1,5 +1,4 @@
 -- `messages::texts::told` meets its contract.
--- Assumes nothing.
 use Rattle.std.proofs.Common.{rules, refl}
 use Rattle.messages.specs.Message.{excerpt_of, unescaped_of, framed}
 use Rattle.messages.proofs.Numbers.{turned_framed}

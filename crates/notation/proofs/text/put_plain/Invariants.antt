@@ -1,5 +1,4 @@
 -- `notation::text::put_plain` meets its contract: what is left is the measure.
--- Assumes nothing.
 use Rattle.std.proofs.Common.{length}
 use Rattle.notation.proofs.text.put_plain.Given as goal
 

@@ -1,5 +1,4 @@
 -- `order::candidate::link_all` meets its contract.
--- Assumes nothing.
 use Rattle.order.specs.Index.{Indexed}
 use Rattle.order.specs.Table.{over}
 use Rattle.order.proofs.candidate.link_all.Given as goal

@@ -1,5 +1,4 @@
 -- `order::candidate::order` meets its contract.
--- Assumes nothing.
 use Rattle.order.proofs.Keeping.{candidates}
 use Rattle.order.proofs.candidate.order.Goals as goal
 

@@ -1,5 +1,4 @@
 -- `order::certificate::are_placed` meets its contract.
--- Assumes nothing.
 use Rattle.std.proofs.Common.{rules, refl, arith, true, false}
 use Rattle.std.proofs.lemmas.Iterator.{cases_from_all, YieldsList-from_range}
 use Rattle.order.specs.Table.{shown_rows}

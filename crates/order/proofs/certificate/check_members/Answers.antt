@@ -1,5 +1,4 @@
 -- `order::certificate::check_members` meets its contract.
--- Assumes nothing.
 use Rattle.order.proofs.Checking.{fallen_begins, fallen_more}
 use Rattle.order.proofs.certificate.check_members.Goals as goal
 

@@ -1,5 +1,4 @@
 -- `order::certificate::check_members` meets its contract.
--- Assumes nothing.
 use Rattle.order.proofs.Checking.{Fallen}
 use Rattle.order.specs.Table.{over}
 use Rattle.order.proofs.certificate.check_members.Given as goal

@@ -1,5 +1,4 @@
 -- `order::certificate::is_above` meets its contract.
--- Assumes nothing.
 use Rattle.order.proofs.Checking.{above_is}
 use Rattle.order.proofs.certificate.is_above.Goals as goal
 

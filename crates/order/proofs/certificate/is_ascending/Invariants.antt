@@ -1,5 +1,4 @@
 -- `order::certificate::is_ascending` meets its contract.
--- Assumes nothing.
 use Rattle.order.specs.Certificate.{PlacedBefore}
 use Rattle.order.specs.Table.{over}
 use Rattle.order.proofs.certificate.is_ascending.Given as goal

@@ -1,5 +1,4 @@
 -- What `order::certificate::is_circle` leaves to show. Its loop is in Invariants.antt.
--- Assumes nothing.
 use Rattle.order.proofs.Checking.{leading}
 use Rattle.order.proofs.certificate.is_circle.Goals as goal
 

@@ -1,5 +1,4 @@
 -- `order::certificate::is_circle` meets its contract.
--- Assumes nothing.
 use Rattle.order.proofs.Checking.{Leads}
 use Rattle.order.specs.Table.{shown_rows}
 use Rattle.order.proofs.certificate.is_circle.Given as goal

@@ -1,5 +1,4 @@
 -- `order::certificate::is_next` meets its contract.
--- Assumes nothing.
 use Rattle.order.proofs.Checking.{nexts}
 use Rattle.order.proofs.certificate.is_next.Goals as goal
 

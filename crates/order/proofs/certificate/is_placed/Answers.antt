@@ -1,5 +1,4 @@
 -- `order::certificate::is_placed` meets its contract.
--- Assumes nothing.
 use Rattle.order.proofs.Checking.{placing}
 use Rattle.order.proofs.certificate.is_placed.Goals as goal
 

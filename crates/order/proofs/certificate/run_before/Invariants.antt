@@ -1,5 +1,4 @@
 -- `order::certificate::run_before` meets its contract.
--- Assumes nothing.
 use Rattle.order.proofs.Checking.{Rising}
 use Rattle.order.proofs.certificate.run_before.Given as goal
 

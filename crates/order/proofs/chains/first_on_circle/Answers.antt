@@ -1,5 +1,4 @@
 -- `order::chains::first_on_circle` meets its contract.
--- Assumes nothing.
 use Rattle.std.proofs.Common.{rules, true, false}
 use Rattle.std.proofs.lemmas.Iterator.{first_from_Range}
 use Rattle.order.specs.Table.{shown_rows}

@@ -1,5 +1,4 @@
 -- `order::chains::is_left_on_circle` meets its contract.
--- Assumes nothing.
 use Rattle.order.proofs.Reaching.{lefts}
 use Rattle.order.proofs.chains.is_left_on_circle.Goals as goal
 use Rattle.order.proofs.chains.is_left_on_circle.Goals.{then-is_definition, else-is_definition}

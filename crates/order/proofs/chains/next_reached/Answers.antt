@@ -1,5 +1,4 @@
 -- `order::chains::next_reached` meets its contract.
--- Assumes nothing.
 use Rattle.std.proofs.Common.{rules, true, false}
 use Rattle.std.proofs.lemmas.Iterator.{first_from_Range}
 use Rattle.order.specs.Steps.{IsReached}

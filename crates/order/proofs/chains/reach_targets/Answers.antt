@@ -1,5 +1,4 @@
 -- What `order::chains::reach_targets` leaves to show. Its loop is in Invariants.antt.
--- Assumes nothing.
 use Rattle.order.proofs.Reaching.{reaching}
 use Rattle.order.proofs.chains.reach_targets.Goals as goal
 

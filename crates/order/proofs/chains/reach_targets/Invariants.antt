@@ -1,5 +1,4 @@
 -- `order::chains::reach_targets` meets its contract.
--- Assumes nothing.
 use Rattle.order.proofs.Reaching.{Reaching}
 use Rattle.order.specs.Table.{over}
 use Rattle.order.proofs.chains.reach_targets.Given as goal

@@ -1,5 +1,4 @@
 -- What `order::chains::search` leaves to show. Its loop is in Invariants.antt.
--- Assumes nothing.
 use Rattle.order.proofs.Reaching.{searching}
 use Rattle.order.proofs.chains.search.Goals as goal
 

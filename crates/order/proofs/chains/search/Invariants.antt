@@ -1,5 +1,4 @@
 -- `order::chains::search` meets its contract.
--- Assumes nothing.
 use Rattle.order.specs.Steps.{todo, Searching}
 use Rattle.order.specs.Table.{over}
 use Rattle.order.proofs.chains.search.Given as goal

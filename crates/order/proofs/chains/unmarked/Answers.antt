@@ -1,5 +1,4 @@
 -- `order::chains::unmarked` meets its contract.
--- Assumes nothing.
 use Rattle.order.proofs.Reaching.{unmarked_all}
 use Rattle.order.proofs.chains.unmarked.Goals as goal
 

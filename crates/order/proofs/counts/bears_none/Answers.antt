@@ -1,5 +1,4 @@
 -- `order::counts::bears_none` meets its contract.
--- Assumes nothing.
 use Rattle.std.proofs.Common.{sym, ◌∙◌}
 use Rattle.order.proofs.Counting.{bears_less, bearing}
 use Rattle.order.proofs.counts.bears_none.Goals as goal

@@ -1,5 +1,4 @@
 -- `order::definitions::first_named` meets its contract.
--- Assumes nothing.
 use Rattle.std.proofs.Common.{rules, true, false}
 use Rattle.std.proofs.lemmas.Iterator.{first_from_Range}
 use Rattle.order.specs.Table.{of}

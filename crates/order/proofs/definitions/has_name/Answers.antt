@@ -1,5 +1,4 @@
 -- `order::definitions::has_name` meets its contract.
--- Assumes nothing.
 use Rattle.order.proofs.Finding.{names}
 use Rattle.order.proofs.definitions.has_name.Goals as goal
 

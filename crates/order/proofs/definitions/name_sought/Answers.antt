@@ -1,5 +1,4 @@
 -- `order::definitions::name_sought` meets its contract.
--- Assumes nothing.
 use Rattle.order.proofs.Finding.{tps, tp_some, tp_some_none}
 use Rattle.order.proofs.definitions.name_sought.Goals as goal
 

@@ -1,5 +1,4 @@
 -- What `order::index::build` leaves to show. Its loop is in Invariants.antt.
--- Assumes nothing.
 use Rattle.order.proofs.Indexing.{building}
 use Rattle.order.proofs.index.build.Goals as goal
 

@@ -1,5 +1,4 @@
 -- `order::index::build` meets its contract.
--- Assumes nothing.
 use Rattle.order.proofs.Indexing.{Building}
 use Rattle.order.specs.Table.{over}
 use Rattle.order.proofs.index.build.Given as goal

@@ -1,5 +1,4 @@
 -- `order::index::enter` meets its contract.
--- Assumes nothing.
 use Rattle.order.proofs.Indexing.{entering}
 use Rattle.order.proofs.index.enter.Goals as goal
 

@@ -1,5 +1,4 @@
 -- What `order::index::first_named` leaves to show. Its loop is in Invariants.antt.
--- Assumes nothing.
 use Rattle.order.proofs.Indexing.{follows}
 use Rattle.order.proofs.index.first_named.Goals as goal
 

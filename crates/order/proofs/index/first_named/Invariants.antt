@@ -1,5 +1,4 @@
 -- `order::index::first_named` meets its contract.
--- Assumes nothing.
 use Rattle.order.proofs.Indexing.{Following, ahead}
 use Prim.Native.Nat.{◌%◌}
 use lib.ListN.{length}

@@ -1,5 +1,4 @@
 -- `order::plain::blank` meets its contract.
--- Assumes nothing.
 use Rattle.order.proofs.Giving.{blank_none}
 use Rattle.order.proofs.plain.blank.Goals as goal
 

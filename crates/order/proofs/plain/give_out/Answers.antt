@@ -1,5 +1,4 @@
 -- What `order::plain::give_out` leaves to show. Its loop is in Invariants.antt.
--- Assumes nothing.
 use Rattle.order.proofs.Giving.{giving}
 use Rattle.order.proofs.plain.give_out.Goals as goal
 

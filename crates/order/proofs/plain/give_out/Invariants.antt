@@ -1,5 +1,4 @@
 -- `order::plain::give_out` meets its contract.
--- Assumes nothing.
 use Rattle.order.proofs.Giving.{Giving}
 use lib.ListN.{length}
 use Rattle.order.specs.Steps.{left_in}

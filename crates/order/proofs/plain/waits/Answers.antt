@@ -1,5 +1,4 @@
 -- `order::plain::waits` meets its contract.
--- Assumes nothing.
 use Rattle.std.proofs.Common.{rules, refl, arith, true, false}
 use Rattle.std.proofs.lemmas.Iterator.{cases_from_any, YieldsList-from_range}
 use Rattle.order.specs.Table.{over}

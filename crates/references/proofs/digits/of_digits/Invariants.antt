@@ -1,5 +1,4 @@
 -- `references::digits::of_digits` meets its contract: what is left of the digits from here is what was asked.
--- Assumes nothing.
 use Rattle.std.specs.Prelude.{drop}
 use Rattle.references.proofs.Numbers.{Numbering}
 use Rattle.references.proofs.digits.of_digits.Given as goal

@@ -1,5 +1,4 @@
 -- `scan::table::classes` meets its contract.
--- Assumes nothing.
 use mathlib.Core.Path.{refl}
 use Rattle.scan.proofs.Class.{classes_table}
 use Rattle.scan.proofs.table.classes.Goals as goal

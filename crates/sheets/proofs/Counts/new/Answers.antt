@@ -1,5 +1,4 @@
 -- What `sheets::Counts::new` leaves to show.
--- Assumes nothing.
 use Rattle.sheets.proofs.Adding.{blank_stands}
 use Rattle.sheets.proofs.Counts.new.Goals as goal
 

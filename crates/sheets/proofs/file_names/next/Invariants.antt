@@ -1,5 +1,4 @@
 -- `sheets::file_names::next` meets its contract. The invariant: what was passed over has no name.
--- Assumes nothing.
 use Rattle.std.proofs.Common.{◌-◌, length}
 use Rattle.sheets.proofs.Naming.{Seeking}
 use Rattle.sheets.proofs.file_names.next.Given as goal

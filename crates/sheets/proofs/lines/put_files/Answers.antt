@@ -1,5 +1,4 @@
 -- What `sheets::lines::put_files` leaves to show.
--- Assumes nothing.
 use Rattle.sheets.proofs.Lining.{parts}
 use Rattle.sheets.proofs.lines.put_files.Goals as goal
 

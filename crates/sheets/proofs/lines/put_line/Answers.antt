@@ -1,5 +1,4 @@
 -- What `sheets::lines::put_line` leaves to show.
--- Assumes nothing.
 use Rattle.sheets.proofs.Lining.{parts}
 use Rattle.sheets.proofs.lines.put_line.Goals as goal
 

@@ -1,5 +1,4 @@
 -- What `sheets::lines::put_lines` leaves to show. Its loop is in Invariants.antt.
--- Assumes nothing.
 use Rattle.sheets.proofs.Lining.{lining}
 use Rattle.sheets.proofs.lines.put_lines.Goals as goal
 

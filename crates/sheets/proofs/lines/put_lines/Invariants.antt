@@ -1,5 +1,4 @@
 -- `sheets::lines::put_lines` meets its contract. The invariant: the lines of the numbers before `k` are put.
--- Assumes nothing.
 use Rattle.sheets.proofs.Lining.{Lining}
 use Rattle.sheets.proofs.lines.put_lines.Given as goal
 

@@ -1,5 +1,4 @@
 -- What `sheets::lines::put_number` leaves to show.
--- Assumes nothing.
 use Rattle.sheets.proofs.Lining.{parts}
 use Rattle.sheets.proofs.lines.put_number.Goals as goal
 

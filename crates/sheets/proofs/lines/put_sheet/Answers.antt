@@ -1,5 +1,4 @@
 -- What `sheets::lines::put_sheet` leaves to show.
--- Assumes nothing.
 use Rattle.sheets.proofs.Lining.{sheet}
 use Rattle.sheets.proofs.lines.put_sheet.Goals as goal
 

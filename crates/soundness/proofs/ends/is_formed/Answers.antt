@@ -1,5 +1,4 @@
 -- What `soundness::ends::is_formed` leaves to show.
--- Assumes nothing.
 use Rattle.soundness.proofs.Known.{parts}
 use Rattle.soundness.proofs.ends.is_formed.Goals as goal
 

@@ -1,5 +1,4 @@
 -- What `soundness::ends::known` leaves to show.
--- Assumes nothing.
 use Rattle.soundness.proofs.Known.{looks}
 use Rattle.soundness.proofs.ends.known.Goals as goal
 

@@ -1,5 +1,4 @@
 -- What `soundness::members::is_keyed` leaves to show.
--- Assumes nothing.
 use Rattle.soundness.proofs.Definitions.{keys}
 use Rattle.soundness.proofs.members.is_keyed.Goals as goal
 

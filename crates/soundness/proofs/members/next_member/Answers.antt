@@ -1,5 +1,4 @@
 -- What `soundness::members::next_member` leaves to show.
--- Assumes nothing.
 use Rattle.soundness.proofs.Definitions.{seeks}
 use Rattle.soundness.proofs.members.next_member.Goals as goal
 

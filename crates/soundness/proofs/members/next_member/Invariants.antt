@@ -1,5 +1,4 @@
 -- `soundness::members::next_member` meets its contract: the members left are the same.
--- Assumes nothing.
 use Rattle.soundness.proofs.Definitions.{Seeking}
 use Rattle.soundness.proofs.members.next_member.Given as goal
 

@@ -1,5 +1,4 @@
 -- What `soundness::order::follows` leaves to show.
--- Assumes nothing.
 use Rattle.soundness.proofs.Definitions.{walks}
 use Rattle.soundness.proofs.order.follows.Goals as goal
 

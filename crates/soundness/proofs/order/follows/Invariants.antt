@@ -1,5 +1,4 @@
 -- `soundness::order::follows` meets its contract: the walk goes up.
--- Assumes nothing.
 use Rattle.soundness.proofs.Definitions.{Walk}
 use Rattle.soundness.proofs.order.follows.Given as goal
 

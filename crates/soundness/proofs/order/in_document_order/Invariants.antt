@@ -1,5 +1,4 @@
 -- `soundness::order::in_document_order` meets its contract: the rows so far are in document order.
--- Assumes nothing.
 use Rattle.items.specs.Order.{DocumentOrder}
 use Rattle.soundness.proofs.order.in_document_order.Given as goal
 

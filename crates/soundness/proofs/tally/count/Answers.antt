@@ -1,5 +1,4 @@
 -- What `soundness::tally::count` leaves to show.
--- Assumes nothing.
 use Rattle.soundness.proofs.Tallies.{tallying}
 use Rattle.soundness.proofs.tally.count.Goals as goal
 use Rattle.soundness.proofs.tally.count.Goals.{then-parent-eq0-via-then-parent-eq0, then-parent-eq0-via-else-parent-eq0+then-table-parent}

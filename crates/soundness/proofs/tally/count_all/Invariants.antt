@@ -1,5 +1,4 @@
 -- `soundness::tally::count_all` meets its contract: the tallies are of the rows so far.
--- Assumes nothing.
 use Rattle.soundness.specs.Outcome.{Tallied}
 use Rattle.soundness.proofs.tally.count_all.Given as goal
 

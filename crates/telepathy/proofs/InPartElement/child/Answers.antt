@@ -1,5 +1,4 @@
 -- What `telepathy::InPartElement::child` leaves to show.
--- Assumes nothing.
 use Rattle.telepathy.proofs.Sorts.{child_none}
 use Rattle.telepathy.proofs.InPartElement.child.Goals as goal
 

@@ -1,5 +1,4 @@
 -- `trees::children::has_child` meets its contract.
--- Assumes nothing.
 use Rattle.std.proofs.Common.{◌≡◌, ◌+◌, refl, arith, rules, tests}
 use Rattle.std.proofs.lemmas.Iterator.{cases_from_any, YieldsList-from_range}
 use Rattle.items.specs.Words.{word_at}

@@ -1,5 +1,4 @@
 -- What `trees::children::next_child` leaves to show.
--- Assumes nothing.
 use Rattle.trees.proofs.Standing.{looks}
 use Rattle.trees.proofs.children.next_child.Goals as goal
 

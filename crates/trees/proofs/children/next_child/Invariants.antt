@@ -1,5 +1,4 @@
 -- `trees::children::next_child` meets its contract: no row up to here is a child.
--- Assumes nothing.
 use Rattle.trees.proofs.Standing.{Looking}
 use Rattle.trees.proofs.children.next_child.Given as goal
 

@@ -1,5 +1,4 @@
 -- `trees::children::nodes_stand_last` meets its contract: up to here no row stands late.
--- Assumes nothing.
 use Rattle.trees.proofs.Standing.{Lasting}
 use Rattle.trees.proofs.children.nodes_stand_last.Given as goal
 

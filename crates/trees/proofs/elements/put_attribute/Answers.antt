@@ -1,5 +1,4 @@
 -- What `trees::elements::put_attribute` leaves to show.
--- Assumes nothing.
 use Rattle.trees.proofs.Texts.{attribute}
 use Rattle.trees.proofs.elements.put_attribute.Goals as goal
 

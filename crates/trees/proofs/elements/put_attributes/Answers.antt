@@ -1,5 +1,4 @@
 -- What `trees::elements::put_attributes` leaves to show.
--- Assumes nothing.
 use Rattle.trees.proofs.Texts.{attributes_of}
 use Rattle.trees.proofs.elements.put_attributes.Goals as goal
 

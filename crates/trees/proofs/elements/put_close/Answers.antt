@@ -1,5 +1,4 @@
 -- What `trees::elements::put_close` leaves to show.
--- Assumes nothing.
 use Rattle.trees.proofs.Texts.{names}
 use Rattle.trees.proofs.elements.put_close.Goals as goal
 

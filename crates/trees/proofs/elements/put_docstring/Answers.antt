@@ -1,5 +1,4 @@
 -- What `trees::elements::put_docstring` leaves to show.
--- Assumes nothing.
 use Rattle.trees.proofs.Texts.{docs}
 use Rattle.trees.proofs.elements.put_docstring.Goals as goal
 

@@ -1,5 +1,4 @@
 -- What `trees::elements::put_given` leaves to show.
--- Assumes nothing.
 use Rattle.trees.proofs.Texts.{givens}
 use Rattle.trees.proofs.elements.put_given.Goals as goal
 

@@ -1,5 +1,4 @@
 -- What `trees::elements::put_start` leaves to show.
--- Assumes nothing.
 use Rattle.trees.proofs.Texts.{starts}
 use Rattle.trees.proofs.elements.put_start.Goals as goal
 

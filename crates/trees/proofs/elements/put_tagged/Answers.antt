@@ -1,5 +1,4 @@
 -- What `trees::elements::put_tagged` leaves to show.
--- Assumes nothing.
 use Rattle.trees.proofs.Texts.{tagging}
 use Rattle.trees.proofs.elements.put_tagged.Goals as goal
 

@@ -1,5 +1,4 @@
 -- What `trees::walk::close` leaves to show.
--- Assumes nothing.
 use Rattle.trees.proofs.Walking.{closing}
 use Rattle.trees.proofs.walk.close.Goals as goal
 

@@ -1,5 +1,4 @@
 -- What `trees::walk::enter` leaves to show.
--- Assumes nothing.
 use Rattle.std.proofs.lemmas.Result.{err_from_is_err_and}
 use Rattle.trees.proofs.Walking.{enter_deep}
 use Rattle.trees.proofs.walk.enter.Goals as goal

@@ -1,5 +1,4 @@
 -- What `trees::walk::is_open` leaves to show.
--- Assumes nothing.
 use Rattle.trees.proofs.Opening.{opening}
 use Rattle.trees.proofs.walk.is_open.Goals as goal
 

@@ -1,5 +1,4 @@
 -- What `trees::walk::leave` leaves to show.
--- Assumes nothing.
 use Rattle.trees.proofs.Walking.{leaving}
 use Rattle.trees.proofs.walk.leave.Goals as goal
 

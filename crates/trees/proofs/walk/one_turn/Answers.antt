@@ -1,5 +1,4 @@
 -- What `trees::walk::one_turn` leaves to show.
--- Assumes nothing.
 use Rattle.trees.proofs.Walking.{turn_enters}
 use Rattle.trees.proofs.walk.one_turn.Goals as goal
 

@@ -1,5 +1,4 @@
 -- What `trees::walk::put_begin` leaves to show.
--- Assumes nothing.
 use Rattle.trees.proofs.Opening.{beginning, begins_open}
 use Rattle.trees.proofs.walk.put_begin.Goals as goal
 

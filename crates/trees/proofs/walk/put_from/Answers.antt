@@ -1,5 +1,4 @@
 -- What `trees::walk::put_from` leaves to show.
--- Assumes nothing.
 use Rattle.trees.proofs.Walking.{top_closed}
 use Rattle.trees.proofs.walk.put_from.Goals as goal
 

@@ -1,5 +1,4 @@
 -- What `trees::walk::put_open` leaves to show.
--- Assumes nothing.
 use Rattle.trees.proofs.Opening.{openings}
 use Rattle.trees.proofs.walk.put_open.Goals as goal
 

@@ -1,5 +1,4 @@
 -- `trees::walk::walk_on` meets its contract: the walk goes on, with fewer turns left each time.
--- Assumes nothing.
 use Rattle.trees.proofs.Walking.{Looping}
 use Rattle.trees.proofs.walk.walk_on.Given as goal
 

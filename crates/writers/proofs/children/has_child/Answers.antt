@@ -1,5 +1,4 @@
 -- `writers::children::has_child` meets its contract.
--- Assumes nothing.
 use Rattle.std.proofs.Common.{rules, refl, true, false}
 use Rattle.std.proofs.lemmas.Iterator.{cases_from_any, YieldsList-from_range}
 use Rattle.writers.specs.Rows.{Child}

@@ -1,5 +1,4 @@
 -- `writers::children::is_ordered` meets its contract: up to here the rows are in order.
--- Assumes nothing.
 use Rattle.writers.proofs.Scans.{Ordering}
 use Rattle.writers.proofs.children.is_ordered.Given as goal
 

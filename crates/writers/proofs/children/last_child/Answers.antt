@@ -1,5 +1,4 @@
 -- `writers::children::last_child` meets its contract.
--- Assumes nothing.
 use Rattle.writers.proofs.Scans.{scans}
 use Rattle.writers.proofs.children.last_child.Goals as goal
 

@@ -1,5 +1,4 @@
 -- `writers::children::next_child` meets its contract.
--- Assumes nothing.
 use Rattle.std.proofs.Common.{◌≡◌, arith, rules, tests}
 use Rattle.std.proofs.lemmas.Iterator.{first_from_Range}
 use Rattle.items.specs.Words.{word_at}

@@ -1,5 +1,4 @@
 -- `writers::children::reach` meets its contract.
--- Assumes nothing.
 use Rattle.writers.proofs.Several.{runs}
 use Rattle.writers.proofs.children.reach.Goals as goal
 

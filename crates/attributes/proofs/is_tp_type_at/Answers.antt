@@ -1,7 +1,6 @@
--- `attributes::is_tp_type` meets its contract.
--- Assumes nothing.
+-- `attributes::is_tp_type_at` meets its contract.
 use Rattle.attributes.proofs.Keys.{prefixes}
-use Rattle.attributes.proofs.is_tp_type.Goals as goal
+use Rattle.attributes.proofs.is_tp_type_at.Goals as goal
 
 pub overflow_add-next : goal.overflow_add-next
 overflow_add-next c = search prefixes
