@@ -1,7 +1,8 @@
 /*
  * A proved reader and writers of D-Bus introspection XML.
  *
- * Link target/staticlib/libintrospection.a, which `./build library` makes (x86-64 Linux). It needs no library but C's. What is read, and every number and place, is in docs/FORMAT.md; this is what a caller needs of it.
+ * Link target/staticlib/libintrospection.a, which `./build library` makes (x86-64 Linux). It needs no library but C's. What
+ * is read, and every number and place, is in docs/FORMAT.md; this is what a caller needs of it.
  *
  * Memory. Every buffer is the caller's. A function uses it during the call alone, keeps no pointer, allocates nothing
  * and calls nothing of the program. A buffer is a pointer and a length in elements: bytes for uint8_t, 32-bit words for

@@ -38,7 +38,8 @@ pub record Held (d x ws : List ℕ) (n : ℕ) : Type 0 where
   pub docs : (k : ℕ) → k < n → good_triple d x (doc_use (word_at ws k 0)) any_text (triple_at 11 (drop (k * 16) ws)) ≡ true
   pub docs_in : (k : ℕ) → k < n → in_document (triple_at 11 (drop (k * 16) ws)) ≡ true
 
--- no row but a node stands in a node after a node of the same parent: no node stands between it and its parent
+-- between a row that is no node and its parent, if that is a node, no node stands; in document order: no other child of a node follows a
+-- node in it
 abbrev pub NodesLast : List ℕ → ℕ → Type 0
 NodesLast ws n =
     (j k : ℕ) →

@@ -5,7 +5,8 @@ ghost use Rattle.trees.specs.Steps.{group_of, Stands, Next, HasChild, RowsHeld, 
 use crate::lent::Table;
 use document::kinds;
 
-// How the rows stand: in document order; and so that after a node no other child of the same node follows.
+// How the rows stand: in document order; and so that no node stands between a row that is no node and the node that it is in. In document
+// order that says that no other child of a node follows a node in it.
 // Two bools: no value goes with either answer.
 #[derive(Clone, Copy)]
 pub struct Standing {
@@ -50,7 +51,7 @@ fn last_node(rows: &[u32], k: usize, node: usize) -> usize
     }
 }
 
-// Whether in each node all nodes stand after its other rows: then the node that a row is in, if the row is no node, is the last node before it.
+// Whether no node stands between a row that is no node and the node that it is in: then that node is the last one before the row.
 #[tactic(auto, using(crate::proofs::Standing::lasts))]
 fn nodes_stand_last(rows: &[u32], n: usize) -> bool
     requires { RowsHeld rows.now n }
