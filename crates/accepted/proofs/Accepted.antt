@@ -1,18 +1,21 @@
 -- Of a document that is accepted: the rows that the reader leaves show what it read, are sound and in order, and say where their
 -- elements begin, whatever stands after them in the buffers lent.
-use Prim.Native.Nat.{ℕ, zero, suc, ◌-◌, ◌/◌, ◌<◌}
+use Prim.Native.Nat.{ℕ, zero, suc, ◌-◌, ◌/◌, ◌≤◌, ◌<◌}
 use mathlib.Core.Path.{◌≡◌, refl, sym, ap, ◌∙◌}
 use mathlib.Core.List.{List, [], ◌++◌}
 use mathlib.Core.Bool.{Bool, true, false, ◌||◌}
+use borrow.Author.Tests.{le-ltb}
 use native.Mathlib.Omega.{arith}
 use lib.Dec.{ltb}
 use lib.ListN.{length, replicate}
 use Rattle.std.specs.Prelude.{Ok}
 use Rattle.slices.specs.Bytes.{if}
+use Rattle.utf8.specs.WellFormed.{ill_formed}
 use Rattle.document.specs.Tags.{Shown}
 use Rattle.document.specs.Rows.{Row, Tables, words_from, texts}
 use Rattle.document.specs.Refusals.{bare}
-use Rattle.document.specs.Reading.{State, begun, reading, accepted, refused}
+use Rattle.document.specs.Elements.{whole}
+use Rattle.document.specs.Reading.{State, begun, reading, accepted, refused, run}
 use Rattle.document.specs.Whole.{Room, meaning, fitted, read, verdict_of, rows_left, Says}
 use Rattle.document.specs.declared.Counts.{Counts}
 use Rattle.document.specs.Verdict.{counts}
@@ -63,6 +66,16 @@ fitted_accepts end r (refused x) t e = e
 pub read_accepts : (doc : List ℕ) (r : Room) (t : Tables Shown) → read doc r ≡ accepted t → meaning doc ≡ accepted t
 unfolding read
 read_accepts doc r t e = fitted_accepts (length doc) r (meaning doc) t e
+
+-- a document that is short enough and UTF-8 means what its run comes to
+pub means_run : (doc : List ℕ) → length doc ≤ 1048576 → ill_formed doc ≡ length doc → meaning doc ≡ run whole doc 0 begun
+unfolding meaning
+means_run doc s w = rw (le-ltb 1048576 (length doc) s, w, le-ltb (length doc) (length doc) (omega arith))
+
+-- what it means is read where there is room for its rows, its warnings and their text
+pub means_read : (doc : List ℕ) (r : Room) (t : Tables Shown) → meaning doc ≡ accepted t → length t.rows ≤ r.rows / 16 → length t.warnings ≤ r.warnings / 4 → length (texts t.rows) ≤ r.text → read doc r ≡ accepted t
+unfolding read
+means_read doc r t e a b c = rw e (rw (le-ltb (r.rows / 16) (length t.rows) a, le-ltb (r.warnings / 4) (length t.warnings) b, le-ltb r.text (length (texts t.rows)) c))
 
 pub left_shown : LeftShown
 left_shown doc r t e =

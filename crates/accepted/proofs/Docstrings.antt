@@ -14,6 +14,7 @@ use Rattle.utf8.specs.Trim.{Boundary}
 use Rattle.utf8.proofs.Sequences.{below}
 use Rattle.utf8.proofs.Cuts.{cut_ascii, cut_after_ascii, part_formed}
 use Rattle.utf8.proofs.Between.{trim_order, trim_formed}
+use Rattle.document.specs.Kinds as kinds
 use Rattle.document.specs.Tags.{Shown}
 use Rattle.document.specs.Rows.{Doc, Row, documented}
 use Rattle.accepted.proofs.Tokens.{After, Before, Held}
@@ -25,7 +26,7 @@ pub record GoodDoc (doc : List ℕ) (d : Doc) : Type 0 where
 -- of a row of kind k
 abbrev pub DocIn : List ℕ → ℕ → Option Doc → Type 0
 DocIn doc k none = Unit {0}
-DocIn doc k (some d) = (eqb k 6 ≡ false) × GoodDoc doc d
+DocIn doc k (some d) = (eqb k kinds.annotation ≡ false) × GoodDoc doc d
 
 abbrev pub DocsIn : List ℕ → List (Row Shown) → Type 0
 DocsIn doc [] = Unit {0}
@@ -44,7 +45,7 @@ module _ (doc : List ℕ) where
   docs_first (suc n) [] h = tt
   docs_first (suc n) (r ∷ rs) h = (h.0, docs_first n rs h.1)
 
-  pub docs_documented : (z : Row Shown) (i : ℕ) (d : Doc) (rs : List (Row Shown)) → eqb (get_or rs i z).kind 6 ≡ false → GoodDoc doc d → DocsIn doc rs → DocsIn doc (documented i d rs)
+  pub docs_documented : (z : Row Shown) (i : ℕ) (d : Doc) (rs : List (Row Shown)) → eqb (get_or rs i z).kind kinds.annotation ≡ false → GoodDoc doc d → DocsIn doc rs → DocsIn doc (documented i d rs)
   docs_documented z i d [] e g h = tt
   docs_documented z zero d (r ∷ rs) e g h = ((e, g), h.1)
   docs_documented z (suc i) d (r ∷ rs) e g h = (h.0, docs_documented z i d rs e g h.1)

@@ -13,12 +13,12 @@ use Rattle.document.specs.Elements.{among, may_hold, attr}
 use Rattle.document.specs.Reading.{tag_name, Frame, element, definition, passing, parent_of, tag_reason, complete, noted_in, noted, frame_of}
 use Rattle.document.proofs.Tests.{never}
 use Rattle.document.specs.Kinds.{definitions, parts}
-use Rattle.accepted.proofs.Holding.{kinds, held_kind, part_parent}
+use Rattle.accepted.proofs.Holding.{every_kind, held_kind, part_parent}
 use Rattle.document.proofs.Steps.{kind_in, Begins}
 use Rattle.accepted.proofs.Entries.{Brief, Complete, due}
 use Rattle.accepted.proofs.Frames.{Placed, Agree, Frames, frames_agree, frames_more}
 
-pub begins_kind : (n k : ℕ) (fs : List Frame) → Begins n k fs → among k kinds ≡ true
+pub begins_kind : (n k : ℕ) (fs : List Frame) → Begins n k fs → among k every_kind ≡ true
 begins_kind n k [] b = rw b.1 refl
 begins_kind n k (f ∷ fs) b = held_kind (kind_in f) k b.1
 

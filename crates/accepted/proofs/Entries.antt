@@ -1,7 +1,7 @@
 -- The row of a start tag: what of it is sound at once, and what once its definition is complete.
 use Prim.Native.Nat.{ℕ}
 use mathlib.Core.Path.{◌≡◌, refl, sym}
-use mathlib.Core.List.{List, [], ◌∷◌}
+use mathlib.Core.List.{List}
 use mathlib.Core.Option.{Option, none, some}
 use mathlib.Core.Bool.{Bool, true, false, not, ◌&&◌}
 use lib.Dec.{eqb, leb, ltb}
@@ -9,18 +9,19 @@ use Rattle.slices.specs.Bytes.{if, bytes, same}
 use Rattle.names.specs.Names.{interface_name, member_name, property_name}
 use Rattle.names.specs.Signature.{signature}
 use Rattle.slices.proofs.Runs.{and_both}
+use Rattle.document.specs.Kinds as kinds
 use Rattle.document.specs.Tags.{Shown, tp_type}
 use Rattle.document.specs.Tokens.{Tag}
 use Rattle.document.specs.Rows.{Row}
 use Rattle.document.specs.Elements.{attr, among, access_of, direction_of, some_signature, Opened, opens, refuses, kept, row, opens_as}
 use Rattle.document.specs.Reading.{tag_reason, type_reason, is_there, is_some, complete}
 use Rattle.document.specs.Outcome.{whole}
-use Rattle.document.proofs.Opens.{opens_way}
+use Rattle.document.proofs.Opens.{named_kinds, opens_way}
 use Rattle.items.specs.Sound.{Use, optional, name_use, value_use, tp_use, valid_name, valid_value, any_text, valid_word}
 use Rattle.items.specs.Sound as items
 use Rattle.document.proofs.Tests.{either, never, among_each}
 use Rattle.document.specs.Kinds.{definitions, parts}
-use Rattle.accepted.proofs.Holding.{kinds}
+use Rattle.accepted.proofs.Holding.{every_kind}
 
 -- a value is absent where it may be, or it is used and valid
 abbrev pub GoodIn : Use → (List ℕ → Bool) → Option Shown → Type 0
@@ -105,7 +106,7 @@ direction_word s = either Q (same s (bytes "in")) (λ c. refl) (λ c. either Q (
 -- ---- each kind
 
 -- a definition with a type, and one without
-typed_full : (k : ℕ) (n ty : Option Shown) → among k (8 ∷ 9 ∷ []) ≡ true → eqb (tag_reason k n ty) 0 ≡ true → GoodIn items.required any_text (kept whole n) × GoodIn items.required some_signature (kept whole ty)
+typed_full : (k : ℕ) (n ty : Option Shown) → among k kinds.typed ≡ true → eqb (tag_reason k n ty) 0 ≡ true → GoodIn items.required any_text (kept whole n) × GoodIn items.required some_signature (kept whole ty)
 typed_full k none ty c e = never e
 typed_full k (some n) ty c e = ((refl, refl), type_good ty (rw c at e))
 
@@ -118,9 +119,9 @@ module _ (p : ℕ) (t : Tag) where
   plain : {k : ℕ} (n v : Option Shown) → GoodIn (tp_use k) any_text none → valid_word k 0 ≡ true → (due k t ≡ true → Complete (brief (row whole t k p n v none 0))) → Entry k p t (row whole t k p n v none 0)
   plain n v a b f = record { kind = refl; parent = refl; at = refl; doc = refl; tp = a; word = b; full = f }
 
-  definition_opens : (k : ℕ) → among k kinds ≡ true → among k (1 ∷ 2 ∷ 3 ∷ 4 ∷ 5 ∷ 6 ∷ 7 ∷ 8 ∷ 9 ∷ 10 ∷ 12 ∷ []) ≡ false → Entry k p t (row whole t k p (attr (bytes "name") t) none none 0)
+  definition_opens : (k : ℕ) → among k every_kind ≡ true → among k named_kinds ≡ false → Entry k p t (row whole t k p (attr (bytes "name") t) none none 0)
   definition_opens k e =
-      among_each (λ j. among j (1 ∷ 2 ∷ 3 ∷ 4 ∷ 5 ∷ 6 ∷ 7 ∷ 8 ∷ 9 ∷ 10 ∷ 12 ∷ []) ≡ false → Entry j p t (row whole t j p (attr (bytes "name") t) none none 0)) k kinds e (
+      among_each (λ j. among j named_kinds ≡ false → Entry j p t (row whole t j p (attr (bytes "name") t) none none 0)) k every_kind e (
         no,
         (
           no,
@@ -141,8 +142,8 @@ module _ (p : ℕ) (t : Tag) where
                         (
                           no,
                           (
-                            (λ c. plain (attr (bytes "name") t) none refl refl (λ d. (untyped_full 11 (attr (bytes "name") t) (attr (bytes "type") t) d, refl))),
-                            (no, ((λ c. plain (attr (bytes "name") t) none refl refl (λ d. (untyped_full 13 (attr (bytes "name") t) (attr (bytes "type") t) d, refl))), tt)),
+                            (λ c. plain (attr (bytes "name") t) none refl refl (λ d. (untyped_full kinds.struct (attr (bytes "name") t) (attr (bytes "type") t) d, refl))),
+                            (no, ((λ c. plain (attr (bytes "name") t) none refl refl (λ d. (untyped_full kinds.mapping (attr (bytes "name") t) (attr (bytes "type") t) d, refl))), tt)),
                           ),
                         ),
                       ),
@@ -158,11 +159,11 @@ module _ (p : ℕ) (t : Tag) where
       no : {X : Type 0} → true ≡ false → X
       no e = never (sym e)
 
-  pub start_opens : (k : ℕ) → among k kinds ≡ true → Opens k p t (opens_as whole k p t)
+  pub start_opens : (k : ℕ) → among k every_kind ≡ true → Opens k p t (opens_as whole k p t)
   start_opens k e =
-      opens_way whole whole p t (λ k o o'. among k kinds ≡ true → Opens k p t o) (record {
+      opens_way whole whole p t (λ k o o'. among k every_kind ≡ true → Opens k p t o) (record {
         refusal = λ k x r e. tt;
-        node = λ e. plain name none refl refl (λ d. (may_be (valid_name 1) name (λ s. refl), refl));
+        node = λ e. plain name none refl refl (λ d. (may_be (valid_name kinds.node) name (λ s. refl), refl));
         interface = λ c e. plain name none refl refl (λ d. (some_there interface_name name c, refl));
         method = λ c e. plain name none refl refl (λ d. (some_there member_name name c, refl));
         property = λ c d a h e. record {
@@ -183,11 +184,11 @@ module _ (p : ℕ) (t : Tag) where
           doc = refl;
           tp = may_be any_text (tp_type t.attrs) (λ s. refl);
           word = direction_word d;
-          full = λ f. (may_be (valid_name 7) name (λ s. refl), some_there signature ty c);
+          full = λ f. (may_be (valid_name kinds.arg) name (λ s. refl), some_there signature ty c);
         };
         typed = λ k c e.
-            among_each (λ j. Entry j p t (row whole t j p name ty none 0)) k (8 ∷ 9 ∷ []) c
-            (plain name ty refl refl (λ d. typed_full 8 name ty refl d), (plain name ty refl refl (λ d. typed_full 9 name ty refl d), tt));
+            among_each (λ j. Entry j p t (row whole t j p name ty none 0)) k kinds.typed c
+            (plain name ty refl refl (λ d. typed_full kinds.simple_type name ty refl d), (plain name ty refl refl (λ d. typed_full kinds.enum name ty refl d), tt));
         enumvalue = λ e. plain (attr (bytes "suffix") t) value refl refl λ d.
             let f = and_both (is_there (attr (bytes "suffix") t)) (is_there value) d in
             (there (attr (bytes "suffix") t) f.0, there value f.1);

@@ -8,6 +8,7 @@ use native.Mathlib.Omega.{arith}
 use lib.Dec.{eqb}
 use Rattle.slices.specs.Bytes.{if}
 use Rattle.utf8.proofs.Sequences.{below}
+use Rattle.document.specs.Kinds as kinds
 use Rattle.document.specs.Elements.{among, may_hold}
 use Rattle.document.specs.Reading.{Definition, Purpose, ignored, captures, Frame, element, definition, passing, parts_reason, reason_of}
 use Rattle.items.specs.Sound.{tp_use, any_text, valid_word}
@@ -19,7 +20,7 @@ use Rattle.accepted.proofs.Entries.{GoodIn, Brief, Complete}
 
 -- row i, by the kinds of the rows: row 0 is a node, and any other stands in an element before it that may hold it
 abbrev pub Placed : (ℕ → ℕ) → ℕ → ℕ → ℕ → Type 0
-Placed ks zero k p = (k ≡ 1) × (p ≡ 0)
+Placed ks zero k p = (k ≡ kinds.node) × (p ≡ 0)
 Placed ks (suc i) k p = (0 < p) × (p ≤ suc i) × (may_hold (ks (p - 1)) k ≡ true)
 
 -- all but name, value and docstring of row i is sound
@@ -48,7 +49,7 @@ module _ (doc : List ℕ) where
   -- a docstring begins after a tag, and is for a row that is no annotation
   abbrev pub Aims : ℕ → (ℕ → Brief) → Purpose → Type 0
   Aims n f ignored = Unit {0}
-  Aims n f (captures s i) = (i < n) × (eqb (f i).kind 6 ≡ false) × After doc s
+  Aims n f (captures s i) = (i < n) × (eqb (f i).kind kinds.annotation ≡ false) × After doc s
 
   -- names and values are sound, but in the rows of a definition only if so far it is
   abbrev pub Frames : ℕ → (ℕ → Brief) → List Frame → Type 0
@@ -98,8 +99,8 @@ module _ (doc : List ℕ) where
       (λ l. let x : d.row ≡ i = omega arith in rw (← x) (h.2 w.0)))
       h.4
     where
-      whole_parts : (k : ℕ) (b : Bool) (x : ℕ) → if b (if (eqb k 9) 5 6) x ≡ 0 → b ≡ false
-      whole_parts k true x e = go (eqb k 9) e
+      whole_parts : (k : ℕ) (b : Bool) (x : ℕ) → if b (if (eqb k kinds.enum) 5 6) x ≡ 0 → b ≡ false
+      whole_parts k true x e = go (eqb k kinds.enum) e
         where
           go : (c : Bool) → if {A = ℕ} c 5 6 ≡ 0 → true ≡ false
           go true e = absurd (omega arith)

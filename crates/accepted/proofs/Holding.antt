@@ -5,13 +5,16 @@ use mathlib.Core.List.{List, [], ◌∷◌}
 use mathlib.Core.Bool.{Bool, true}
 use Rattle.slices.specs.Bytes.{if, all}
 use Rattle.slices.proofs.Runs.{by_byte}
+use Rattle.document.specs.Kinds as kinds
 use Rattle.document.specs.Kinds.{definitions, parts}
 use Rattle.document.specs.Elements.{among, held_by, may_hold}
 use Rattle.document.proofs.Tests.{among_all}
 
--- every kind but 0 and 14
-abbrev pub kinds : List ℕ
-kinds = 1 ∷ 2 ∷ 3 ∷ 4 ∷ 5 ∷ 6 ∷ 7 ∷ 8 ∷ 9 ∷ 10 ∷ 11 ∷ 12 ∷ 13 ∷ []
+-- the kinds of rows
+abbrev pub every_kind : List ℕ
+every_kind =
+    kinds.node ∷ kinds.interface ∷ kinds.method ∷ kinds.property ∷ kinds.signal ∷ kinds.annotation ∷ kinds.arg ∷ kinds.simple_type ∷ kinds.enum
+    ∷ kinds.enumvalue ∷ kinds.struct ∷ kinds.member ∷ kinds.mapping ∷ []
 
 -- what holds of all that the elements may hold that hold any
 module _ (q : ℕ → ℕ → Bool) where
@@ -33,8 +36,8 @@ module _ (q : ℕ → ℕ → Bool) where
           (λ f. by_byte All p 9 n
           (λ g. by_byte All p 11 o (λ h. by_byte All p 13 x (λ i. rw (a, b, c, d, e, f, g, h, i))))))))))
 
-pub held_kind : (p c : ℕ) → may_hold p c ≡ true → among c kinds ≡ true
-held_kind = held_all (λ p c. among c kinds) refl refl refl refl refl refl refl refl refl
+pub held_kind : (p c : ℕ) → may_hold p c ≡ true → among c every_kind ≡ true
+held_kind = held_all (λ p c. among c every_kind) refl refl refl refl refl refl refl refl refl
 
 pub part_parent : (p c : ℕ) → may_hold p c ≡ true → among c parts ≡ true → among p definitions ≡ true
 part_parent p c e f = rw f at (held_all (λ p c. if (among c parts) (among p definitions) true) refl refl refl refl refl refl refl refl refl p c e)

@@ -14,6 +14,7 @@ use Rattle.slices.specs.Bytes.{if, bytes}
 use Rattle.slices.proofs.Runs.{by_byte}
 use Rattle.utf8.proofs.Sequences.{below}
 use Rattle.names.specs.Signature.{basic_signature}
+use Rattle.document.specs.Kinds as kinds
 use Rattle.document.specs.Kinds.{definitions, parts}
 use Rattle.document.specs.Tags.{Shown}
 use Rattle.document.specs.Tokens.{Tag, Token, start, close, fault, end}
@@ -22,7 +23,7 @@ use Rattle.document.specs.Elements.{among, may_hold, attr, kept, Opened, opens, 
 use Rattle.document.specs.Reading.{Definition, Frame, element, definition, passing, parent_of, is_some, parts_reason, reason_of, part_of, noted_in, noted, frame_of}
 use Rattle.document.specs.Outcome.{whole}
 use Rattle.document.proofs.Tests.{never, either, among_each}
-use Rattle.document.proofs.Steps.{Begins, Known, Closes, Ways}
+use Rattle.document.proofs.Steps.{noted_keeps, Begins, Known, Closes, Ways}
 use Rattle.rows.proofs.Words.{length_documented}
 use Rattle.items.specs.Words.{is_child}
 use Rattle.accepted.proofs.Holding.{part_parent}
@@ -36,7 +37,7 @@ use Rattle.accepted.proofs.States.{row_at, at_more, at_last, at_first, at_docume
 
 abbrev pub signatures : ℕ → List (Row Shown) → List (Option Shown)
 signatures p [] = []
-signatures p (r ∷ rs) = let vs = signatures p rs in if (is_child 12 p r.kind r.parent) (r.value ∷ vs) vs
+signatures p (r ∷ rs) = let vs = signatures p rs in if (is_child kinds.member p r.kind r.parent) (r.value ∷ vs) vs
 
 abbrev pub some_member : List (Option Shown) → Bool
 some_member [] = false
@@ -54,17 +55,17 @@ two_keyed (k ∷ v ∷ m ∷ ms) = false
 
 -- those that a definition of kind k needs
 abbrev pub enough : ℕ → List (Option Shown) → Bool
-enough k vs = if (eqb k 11) (some_member vs) (if (eqb k 13) (two_keyed vs) true)
+enough k vs = if (eqb k kinds.struct) (some_member vs) (if (eqb k kinds.mapping) (two_keyed vs) true)
 
-signatures_more : (p : ℕ) (rs : List (Row Shown)) (r : Row Shown) → is_child 12 p r.kind r.parent ≡ true → signatures p (rs ++ r ∷ []) ≡ signatures p rs ++ r.value ∷ []
+signatures_more : (p : ℕ) (rs : List (Row Shown)) (r : Row Shown) → is_child kinds.member p r.kind r.parent ≡ true → signatures p (rs ++ r ∷ []) ≡ signatures p rs ++ r.value ∷ []
 signatures_more p [] r e = rw e
-signatures_more p (q ∷ rs) r e = go (is_child 12 p q.kind q.parent) (signatures_more p rs r e)
+signatures_more p (q ∷ rs) r e = go (is_child kinds.member p q.kind q.parent) (signatures_more p rs r e)
   where
     go : (b : Bool) → signatures p (rs ++ r ∷ []) ≡ signatures p rs ++ r.value ∷ [] → if b (q.value ∷ signatures p (rs ++ r ∷ [])) (signatures p (rs ++ r ∷ [])) ≡ if b (q.value ∷ signatures p rs) (signatures p rs) ++ r.value ∷ []
     go true i = ap (◌∷◌ q.value) i
     go false i = i
 
-signatures_same : (p : ℕ) (rs : List (Row Shown)) (r : Row Shown) → is_child 12 p r.kind r.parent ≡ false → signatures p (rs ++ r ∷ []) ≡ signatures p rs
+signatures_same : (p : ℕ) (rs : List (Row Shown)) (r : Row Shown) → is_child kinds.member p r.kind r.parent ≡ false → signatures p (rs ++ r ∷ []) ≡ signatures p rs
 signatures_same p [] r e = rw e
 signatures_same p (q ∷ rs) r e = rw (signatures_same p rs r e)
 
@@ -94,7 +95,7 @@ take_fewer (suc j) (suc m) (r ∷ rs) l = rw (take_fewer j m rs (omega arith))
 
 -- what was seen of the parts of a struct or mapping
 abbrev Tally : Definition → List (Option Shown) → Type 0
-Tally d vs = among d.kind (11 ∷ 13 ∷ []) ≡ true → (d.parts.count ≡ length vs) × (d.parts.basic ≡ first_basic vs)
+Tally d vs = among d.kind (kinds.struct ∷ kinds.mapping ∷ []) ≡ true → (d.parts.count ≡ length vs) × (d.parts.basic ≡ first_basic vs)
 
 -- the rows before row n have no members from it on, and the others none before it
 record Own (n : ℕ) (rs : List (Row Shown)) : Type 0 where
@@ -166,9 +167,9 @@ tallies_wider b c rs (passing p ns ∷ fs) l h = tallies_wider b c rs fs l h
 -- a kind that is no definition needs none
 needs_none : (k : ℕ) (vs : List (Option Shown)) → among k definitions ≡ false → enough k vs ≡ true
 needs_none k vs =
-    by_byte Q k 11
+    by_byte Q k kinds.struct
     (λ e. never (sym e))
-    (λ a. by_byte (λ j. eqb j 11 ≡ false → Q j) k 13 (λ a e. never (sym e)) (λ b a e. rw (a, b)) a)
+    (λ a. by_byte (λ j. eqb j kinds.struct ≡ false → Q j) k kinds.mapping (λ a e. never (sym e)) (λ b a e. rw (a, b)) a)
   where
     Q : ℕ → Type 0
     Q j = among j definitions ≡ false → enough j vs ≡ true
@@ -184,7 +185,7 @@ some_first [] e = absurd (e refl)
 some_first (v ∷ vs) e = refl
 
 judged_enough : (d : Definition) (vs : List (Option Shown)) → reason_of d ≡ 0 → Tally d vs → enough d.kind vs ≡ true
-judged_enough d vs e t = by_kind (eqb d.kind 11) (eqb d.kind 13) refl refl
+judged_enough d vs e t = by_kind (eqb d.kind kinds.struct) (eqb d.kind kinds.mapping) refl refl
   where
     c : ℕ
     c = d.parts.count
@@ -196,15 +197,15 @@ judged_enough d vs e t = by_kind (eqb d.kind 11) (eqb d.kind 13) refl refl
         go true f g = g
         go false f g = absurd (eqb-false d.reason 0 f g)
 
-    unbroken : if {A = ℕ} (eqb d.kind 11) (if (eqb c 0) 7 0) (if (eqb d.kind 13) (if (eqb c 2) (if d.parts.basic 0 9) 8) 0) ≡ 0
-    unbroken = go d.parts.broken (eqb d.kind 9) whole_parts
+    unbroken : if {A = ℕ} (eqb d.kind kinds.struct) (if (eqb c 0) 7 0) (if (eqb d.kind kinds.mapping) (if (eqb c 2) (if d.parts.basic 0 9) 8) 0) ≡ 0
+    unbroken = go d.parts.broken (eqb d.kind kinds.enum) whole_parts
       where
         go : {x : ℕ} (b w : Bool) → if {A = ℕ} b (if w 5 6) x ≡ 0 → x ≡ 0
         go true true g = absurd (omega arith)
         go true false g = absurd (omega arith)
         go false w g = g
 
-    by_kind : (x y : Bool) → eqb d.kind 11 ≡ x → eqb d.kind 13 ≡ y → if x (some_member vs) (if y (two_keyed vs) true) ≡ true
+    by_kind : (x y : Bool) → eqb d.kind kinds.struct ≡ x → eqb d.kind kinds.mapping ≡ y → if x (some_member vs) (if y (two_keyed vs) true) ≡ true
     by_kind true y f g =
         some_first vs (λ z. zero_count (sym (eq-eqb c 0 ((t (rw f)).0 ∙ z))) (rw f at unbroken))
       where
@@ -268,7 +269,7 @@ documented_holds i d fs rs h = record {
 -- ---- a row more
 
 -- a row that is no member of the rows below b
-alike_more : (b : ℕ) (rs : List (Row Shown)) (r : Row Shown) → b ≤ length rs → ((i : ℕ) → i < b → is_child 12 (suc i) r.kind r.parent ≡ false) → Alike b rs (rs ++ r ∷ [])
+alike_more : (b : ℕ) (rs : List (Row Shown)) (r : Row Shown) → b ≤ length rs → ((i : ℕ) → i < b → is_child kinds.member (suc i) r.kind r.parent ≡ false) → Alike b rs (rs ++ r ∷ [])
 alike_more b rs r l f = record {
   kinds = λ i m. ap (λ (b : Brief). b.kind) (at_more rs r i (omega arith));
   members = λ i m. signatures_same (suc i) rs r (f i m);
@@ -276,10 +277,10 @@ alike_more b rs r l f = record {
 }
 
 -- a struct and a mapping hold members alone
-members_only : {X : Type 0} (j k : ℕ) → among j (11 ∷ 13 ∷ []) ≡ true → may_hold j k ≡ true → eqb k 12 ≡ false → X
+members_only : {X : Type 0} (j k : ℕ) → among j (kinds.struct ∷ kinds.mapping ∷ []) ≡ true → may_hold j k ≡ true → eqb k kinds.member ≡ false → X
 unfolding may_hold
 members_only {X} j k e b o =
-    among_each (λ j. may_hold j k ≡ true → X) j (11 ∷ 13 ∷ []) e ((λ m. never (rw o at m)), ((λ m. never (rw o at m)), tt)) b
+    among_each (λ j. may_hold j k ≡ true → X) j (kinds.struct ∷ kinds.mapping ∷ []) e ((λ m. never (rw o at m)), ((λ m. never (rw o at m)), tt)) b
 
 module _ (k : ℕ) (t : Tag) (r : Row Shown) (fs : List Frame) (rs : List (Row Shown)) (b : Begins (length rs) k fs) (kind : r.kind ≡ k) (h : Holds fs rs) where
   abbrev n : ℕ
@@ -299,8 +300,8 @@ module _ (k : ℕ) (t : Tag) (r : Row Shown) (fs : List Frame) (rs : List (Row S
       (λ e c. rw (← z, last) (needs_none k (signatures (suc n) (rs ++ r ∷ [])) e))
 
   -- a row that is no member
-  module _ (other : eqb k 12 ≡ false) where
-    no_child : (p : ℕ) → is_child 12 p r.kind r.parent ≡ false
+  module _ (other : eqb k kinds.member ≡ false) where
+    no_child : (p : ℕ) → is_child kinds.member p r.kind r.parent ≡ false
     no_child p = rw (kind, other)
 
     same : (p : ℕ) → signatures p (rs ++ r ∷ []) ≡ signatures p rs
@@ -319,14 +320,8 @@ module _ (k : ℕ) (t : Tag) (r : Row Shown) (fs : List Frame) (rs : List (Row S
     noted_tallies : Tallies n rs (noted k t fs)
     noted_tallies = either (Tallies n rs) (among k parts) (λ e. part_tallies fs b e h.tallies) (λ e. h.tallies)
 
-    noted_closed : (i : ℕ) (gs : List Frame) → Closed i (noted_in k t gs) → Closed i gs
-    noted_closed i [] c = c
-    noted_closed i (element y m q ∷ gs) c = c
-    noted_closed i (definition d ∷ gs) c = c
-    noted_closed i (passing p ns ∷ gs) c = c
-
     under_closed : (i : ℕ) → Closed i (noted k t fs) → Closed i fs
-    under_closed i = either (λ gs. Closed i gs → Closed i fs) (among k parts) (λ e c. noted_closed i fs c) (λ e c. c)
+    under_closed i = noted_keeps (λ gs. Closed i gs → Closed i fs) k t (λ d gs h. h) fs (λ c. c)
 
     past_frame : (i : ℕ) (gs : List Frame) → Closed i (frame_of k t n ∷ gs) → Closed i gs
     past_frame i gs = either (λ f. Closed i (f ∷ gs) → Closed i gs) (among k definitions) (λ e c. c.1) (λ e c. c)
@@ -366,8 +361,8 @@ first_more : (vs : List (Option Shown)) (c : ℕ) (p v : Bool) (w : Option Shown
 first_more [] c p v w e f g = rw (e) g
 first_more (u ∷ vs) c p v w e f g = rw (ne_eqb c 0 (λ z. absurd (omega arith))) f
 
-module _ (t : Tag) (r : Row Shown) (d : Definition) (fs : List Frame) (rs : List (Row Shown)) (kind : r.kind ≡ 12) (parent : r.parent ≡ suc d.row) (value : r.value ≡ kept whole (attr (bytes "type") t)) (h : Holds (definition d ∷ fs) rs) where
-  other_row : (i : ℕ) → (d.row ≡ i → ⊥) → is_child 12 (suc i) r.kind r.parent ≡ false
+module _ (t : Tag) (r : Row Shown) (d : Definition) (fs : List Frame) (rs : List (Row Shown)) (kind : r.kind ≡ kinds.member) (parent : r.parent ≡ suc d.row) (value : r.value ≡ kept whole (attr (bytes "type") t)) (h : Holds (definition d ∷ fs) rs) where
+  other_row : (i : ℕ) → (d.row ≡ i → ⊥) → is_child kinds.member (suc i) r.kind r.parent ≡ false
   other_row i e = rw (kind, parent, ne_eqb (suc d.row) (suc i) (λ z. e (omega arith)))
 
   its_row : signatures (suc d.row) (rs ++ r ∷ []) ≡ signatures (suc d.row) rs ++ r.value ∷ []
@@ -376,7 +371,7 @@ module _ (t : Tag) (r : Row Shown) (d : Definition) (fs : List Frame) (rs : List
   before_it : Alike d.row rs (rs ++ r ∷ [])
   before_it = alike_more d.row rs r (omega (arith, h.tallies.0)) (λ i l. other_row i (λ z. absurd (omega arith)))
 
-  member_tally : Tally (part_of 12 t d) (signatures (suc d.row) (rs ++ r ∷ []))
+  member_tally : Tally (part_of kinds.member t d) (signatures (suc d.row) (rs ++ r ∷ []))
   member_tally e =
       let g = h.tallies.2 e in
       let vs = signatures (suc d.row) rs in
@@ -385,7 +380,7 @@ module _ (t : Tag) (r : Row Shown) (d : Definition) (fs : List Frame) (rs : List
         first_more vs d.parts.count d.parts.basic (is_some basic_signature (attr (bytes "type") t)) r.value g.0 g.1 (rw value (basic_kept (attr (bytes "type") t))),
       )
 
-  member_holds : Holds (frame_of 12 t (length rs) ∷ noted 12 t (definition d ∷ fs)) (rs ++ r ∷ [])
+  member_holds : Holds (frame_of kinds.member t (length rs) ∷ noted kinds.member t (definition d ∷ fs)) (rs ++ r ∷ [])
   member_holds = record {
     closed = λ i l c.
         below i (length rs)
@@ -407,7 +402,7 @@ module _ (t : Tag) (r : Row Shown) (d : Definition) (fs : List Frame) (rs : List
       long : length (rs ++ r ∷ []) ≡ suc (length rs)
       long = length-append rs (r ∷ []) ∙ omega arith
 
-member_row : (p : ℕ) (t : Tag) (r : Row Shown) → opens_as whole 12 p t ≡ opens r → r.value ≡ kept whole (attr (bytes "type") t)
+member_row : (p : ℕ) (t : Tag) (r : Row Shown) → opens_as whole kinds.member p t ≡ opens r → r.value ≡ kept whole (attr (bytes "type") t)
 unfolding opens_as
 member_row p t r e = ap value_of (sym e)
   where
@@ -417,13 +412,13 @@ member_row p t r e = ap value_of (sym e)
 
 row_holds : (k : ℕ) (t : Tag) (r : Row Shown) (fs : List Frame) (rs : List (Row Shown)) → Begins (length rs) k fs → opens_as whole k (parent_of fs) t ≡ opens r → Entry k (parent_of fs) t r → Holds fs rs → Holds (frame_of k t (length rs) ∷ noted k t fs) (rs ++ r ∷ [])
 row_holds k t r fs rs b e n h =
-    by_byte (λ k. Begins (length rs) k fs → opens_as whole k (parent_of fs) t ≡ opens r → r.kind ≡ k → Holds (frame_of k t (length rs) ∷ noted k t fs) (rs ++ r ∷ [])) k 12
+    by_byte (λ k. Begins (length rs) k fs → opens_as whole k (parent_of fs) t ≡ opens r → r.kind ≡ k → Holds (frame_of k t (length rs) ∷ noted k t fs) (rs ++ r ∷ [])) k kinds.member
     (λ b e q. in_definition fs b e q n.parent h)
     (λ o b e q. other_holds k t r fs rs b q h o) b e n.kind
   where
-    in_definition : (fs : List Frame) → Begins (length rs) 12 fs → opens_as whole 12 (parent_of fs) t ≡ opens r → r.kind ≡ 12 → r.parent ≡ parent_of fs → Holds fs rs → Holds (frame_of 12 t (length rs) ∷ noted 12 t fs) (rs ++ r ∷ [])
+    in_definition : (fs : List Frame) → Begins (length rs) kinds.member fs → opens_as whole kinds.member (parent_of fs) t ≡ opens r → r.kind ≡ kinds.member → r.parent ≡ parent_of fs → Holds fs rs → Holds (frame_of kinds.member t (length rs) ∷ noted kinds.member t fs) (rs ++ r ∷ [])
     in_definition [] b e q p h = absurd (omega (arith, b.1))
-    in_definition (element c m i ∷ fs) b e q p h = never (sym h.tallies.0 ∙ part_parent c 12 b.1 refl)
+    in_definition (element c m i ∷ fs) b e q p h = never (sym h.tallies.0 ∙ part_parent c kinds.member b.1 refl)
     in_definition (definition d ∷ fs) b e q p h = member_holds t r d fs rs q p (member_row (suc d.row) t r e) h
     in_definition (passing p ns ∷ fs) b e q w h = absurd b.0
 

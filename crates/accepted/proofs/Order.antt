@@ -12,11 +12,11 @@ use Rattle.document.specs.Tags.{Shown}
 use Rattle.document.specs.Tokens.{Tag, Token, start, close, fault, end}
 use Rattle.document.specs.Rows.{Row, Tables, words_from}
 use Rattle.document.specs.Elements.{among, Opened, opens, refuses, opens_as}
-use Rattle.document.specs.Reading.{Definition, Frame, element, definition, passing, parent_of, noted_in, noted, frame_of}
+use Rattle.document.specs.Reading.{Definition, Frame, element, definition, passing, parent_of, noted, frame_of}
 use Rattle.document.specs.Outcome.{whole}
 use Rattle.document.proofs.Tests.{either}
 use Rattle.document.proofs.Opens.{any_way}
-use Rattle.document.proofs.Steps.{Begins, Known, Closes, Ways}
+use Rattle.document.proofs.Steps.{noted_keeps, Begins, Known, Closes, Ways}
 use Rattle.rows.proofs.Words.{length_documented}
 use Rattle.items.specs.Order.{parent_at, Under, DocumentOrder}
 use Rattle.items.proofs.Order.{Falls, Follow, under_up, under_through, follow_falls}
@@ -96,13 +96,7 @@ module _ (n : ℕ) (f g : ℕ → ℕ) (a : Alike n f g) (o : Follow f n) where
 -- ---- frames
 
 noted_rows : (k : ℕ) (t : Tag) (fs : List Frame) → open_rows (noted k t fs) ≡ open_rows fs
-noted_rows k t fs = either (λ (gs : List Frame). open_rows gs ≡ open_rows fs) (among k (10 ∷ 12 ∷ [])) (λ c. go fs) (λ c. refl)
-  where
-    go : (fs : List Frame) → open_rows (noted_in k t fs) ≡ open_rows fs
-    go [] = refl
-    go (element c m r ∷ fs) = refl
-    go (definition d ∷ fs) = refl
-    go (passing p ns ∷ fs) = refl
+noted_rows k t fs = noted_keeps (λ gs. open_rows gs ≡ open_rows fs) k t (λ d gs h. h) fs refl
 
 entered_rows : (k : ℕ) (t : Tag) (n : ℕ) (fs : List Frame) → open_rows (frame_of k t n ∷ fs) ≡ n ∷ open_rows fs
 entered_rows k t n fs = either (λ (f : Frame). open_rows (f ∷ fs) ≡ n ∷ open_rows fs) (among k definitions) (λ c. refl) (λ c. refl)

@@ -14,6 +14,7 @@ use Rattle.names.specs.Signature.{basic_signature}
 use Rattle.tables.specs.Triple.{shown}
 use Rattle.tables.specs.declared.Triple.{Triple}
 use Rattle.references.proofs.Formed.{unescape_formed}
+use Rattle.document.specs.Kinds as kinds
 use Rattle.document.specs.Tags.{Shown}
 use Rattle.document.specs.Rows.{Doc, Row, text_of, row_text, words_from, texts}
 use Rattle.rows.proofs.Words.{length_words_from}
@@ -39,7 +40,7 @@ kind_in_rows n (r ∷ rs) zero = refl
 kind_in_rows n (r ∷ rs) (suc j) = kind_in_rows (n + length (row_text r)) rs j
 
 placed_true : (rows : List RowWords) (ks : ℕ → ℕ) → ((j : ℕ) → kind_at rows j ≡ ks j) → (i : ℕ) (w : RowWords) → Placed ks i w.kind w.parent → placed rows i w ≡ true
-placed_true rows ks e zero w h = rw (eq-eqb w.kind 1 h.0, eq-eqb w.parent 0 h.1)
+placed_true rows ks e zero w h = rw (eq-eqb w.kind kinds.node h.0, eq-eqb w.parent 0 h.1)
 placed_true rows ks e (suc i) w h = rw (lt-ltb 0 w.parent h.0, le-leb w.parent (suc i) h.1, e (w.parent - 1), h.2)
 
 -- ---- triples
@@ -57,7 +58,7 @@ module _ (doc x : List ℕ) (formed : ill_formed doc ≡ length doc) where
 
   good_doc : (k : ℕ) (o : Option Doc) → DocIn doc k o → good_triple doc x (doc_use k) any_text (doc_of o) ≡ true
   unfolding good_triple
-  good_doc k none h = either (λ (u : Use). not u.must ≡ true) (eqb k 6) (λ c. refl) (λ c. refl)
+  good_doc k none h = either (λ (u : Use). not u.must ≡ true) (eqb k kinds.annotation) (λ c. refl) (λ c. refl)
   good_doc k (some d) h =
       good_there (doc_use k) any_text (doc_of (some d)) (take d.len (drop d.start doc)) (leads_document doc x d.start d.len _ h.1.inside refl) h.1.formed (rw h.0) refl
 
@@ -105,7 +106,7 @@ module _ (doc x : List ℕ) (formed : ill_formed doc ≡ length doc) where
   members_show p n [] h w = tt
   members_show p n (r ∷ rs) h w =
       let i = members_show p (n + length (row_text r)) rs h.1 (within_more (row_text r) (texts rs) w) in
-      pairwise Show (is_child 12 p r.kind r.parent)
+      pairwise Show (is_child kinds.member p r.kind r.parent)
       (λ c. (basic_shown (n + length (text_of r.name)) r.value h.0.1 (value_within r (within_first (row_text r) (texts rs) w)), i))
       (λ c. i)
 

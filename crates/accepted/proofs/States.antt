@@ -13,6 +13,7 @@ use Rattle.slices.specs.Bytes.{span, empty}
 use Rattle.scan.specs.Classes.{name_byte}
 use Rattle.utf8.specs.WellFormed.{ill_formed}
 use Rattle.utf8.proofs.Sequences.{below}
+use Rattle.document.specs.Kinds as kinds
 use Rattle.document.specs.Tags.{Shown}
 use Rattle.document.specs.Tokens.{Tag, Token, start, close, fault, end}
 use Rattle.document.specs.Rows.{Doc, Row, Tables, documented}
@@ -175,8 +176,8 @@ module _ (doc : List ℕ) (formed : ill_formed doc ≡ length doc) where
 
   -- the row of an element that takes docstrings
   aims : (s : ℕ) → After doc s → (n : ℕ) (g : ℕ → Brief) (f : Frame) (fs : List Frame) → TakesDocs f → Frames doc n g (f ∷ fs) → Aims doc n g (captures s (row_of f))
-  aims s a n g (element k m r) fs d h = (h.0, rw h.1 (not-true (eqb k 6) d.1), a)
-  aims s a n g (definition e) fs d h = (h.0, rw h.1 (not-true (eqb e.kind 6) d.1), a)
+  aims s a n g (element k m r) fs d h = (h.0, rw h.1 (not-true (eqb k kinds.annotation) d.1), a)
+  aims s a n g (definition e) fs d h = (h.0, rw h.1 (not-true (eqb e.kind kinds.annotation) d.1), a)
   aims s a n g (passing p ns) fs d h = absurd d.0
 
   starts : (t : Tag) → Starts doc t → steps.Starts whole doc held held held t

@@ -9,6 +9,7 @@ use native.Mathlib.Omega.{arith}
 use lib.ListN.{length, take, drop, length-append}
 use lib.Seq.{take_at, drop_at}
 use Rattle.slices.specs.Bytes.{if, all}
+use Rattle.slices.proofs.Runs.{append_regroup}
 use Rattle.tables.specs.Triple.{inside, part, shown}
 use Rattle.tables.specs.declared.Triple.{Triple}
 use Rattle.answers.specs.Text.{text}
@@ -89,11 +90,8 @@ within_more a b w = record {
   before = w.before ++ a;
   rest = w.rest;
   long = length-append w.before a ∙ ap (λ (m : ℕ). m + length a) w.long;
-  is = w.is ∙ regroup w.before a b w.rest;
+  is = w.is ∙ append_regroup w.before a b w.rest;
 }
-  where
-    regroup : (a b c d : List ℕ) → a ++ ((b ++ c) ++ d) ≡ (a ++ b) ++ (c ++ d)
-    regroup a b c d = simp append_assoc
 
 -- the texts of a row
 module _ {x : List ℕ} {n : ℕ} (r : Row Shown) (w : Within x n (row_text r)) where

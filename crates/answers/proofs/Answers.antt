@@ -13,7 +13,11 @@ use Rattle.faults.specs.Fault.{fault}
 use Rattle.faults.specs.declared.Fault.{Fault}
 use Rattle.tables.specs.Table.{Rep, Wiped, cleared}
 use Rattle.tables.proofs.Tables.{clear_all, clear_rest}
-use Rattle.answers.specs.Text.{Text, text, wrong, answer_of, left_of, Says, Finishes}
+use Rattle.answers.specs.Text.{Text, text, wrong, answer_of, left_of, Says, Makes, Finishes}
+
+-- in the room of the buffer lent
+pub makes : (f : ℕ → Text) {t t' : List ℕ} {r : Result ℕ Fault} → Says (f (length t)) (length t) t' r → Makes f t t' r
+makes f s = record { answer = s.answer; left = s.left }
 
 pub refused : {t t' : List ℕ} {n p : ℕ} → Wiped 0 t t' → Says (wrong n p) (length t) t' (Err (fault n p))
 refused {t} z = record { answer = refl; left = z.is ∙ clear_all t }
@@ -50,10 +54,6 @@ module _ {f : Fault} {number place : ℕ} (e : f ≡ fault number place) where
 
   pub finished : {n : ℕ} {t t' : List ℕ} {r : Result ℕ Fault} → Finishes n f.number f.place t t' r → Finishes n number place t t' r
   finished s = rw (f_number, f_place) at s
-
--- the two equations of an entry
-pub said : (f : List ℕ → ℕ → Text) (v : List ℕ) (room : ℕ) (t : List ℕ) (r : Result ℕ Fault) → Says (f v room) room t r → (r ≡ answer_of (f v room)) × (t ≡ left_of room (f v room))
-said f v room t r s = (s.answer, s.left)
 
 -- ---- what an answer says of the outcome
 

@@ -30,6 +30,11 @@ pub record Says (o : Text) (room : ℕ) (out : List ℕ) (r : Result ℕ Fault) 
   pub answer : r ≡ answer_of o
   pub left : out ≡ left_of room o
 
+-- they are those of what is made in the room of the buffer lent: `made` tells it for each room
+pub record Makes (made : ℕ → Text) (lent out : List ℕ) (r : Result ℕ Fault) : Type 0 where
+  pub answer : r ≡ answer_of (made (length lent))
+  pub left : out ≡ left_of (length lent) (made (length lent))
+
 -- a buffer that stands for n bytes is left with them, or with zeros where they do not fit
 pub record Finishes (n number place : ℕ) (before after : List ℕ) (r : Result ℕ Fault) : Type 0 where
   pub says : (t : List ℕ) → Rep 1 before n t → Says (if (ltb (length before) (length t)) (wrong number place) (text t)) (length before) after r

@@ -12,9 +12,9 @@ use lib.ListN.{length, take, drop, get_or}
 use lib.Seq.{drop-cons, length-take-le, get_or-take, take-suc}
 use Rattle.std.specs.Prelude.{Result, Ok, Err}
 use Rattle.slices.specs.Bytes.{if, all, same}
-use Rattle.slices.proofs.Runs.{eqb_swap}
+use Rattle.slices.proofs.Runs.{if_same, eqb_swap}
 use Rattle.answers.specs.Text.{text}
-use Rattle.references.specs.Unescape.{plain}
+use Rattle.references.specs.Unescape.{plain, unescape}
 use Rattle.references.proofs.Shapes.{unescape_plain}
 use Rattle.document.specs.Tags.{Attr, Shown, Checked, good, fault, also, member, check}
 use Rattle.attributes.specs.One.{attr_of, Fit}
@@ -54,11 +54,7 @@ member_back n (x ∷ xs) seen = member_back n xs (x.name ∷ seen) ∙ rw (same_
     go false false = refl
 
 pub member_listed : (n : List ℕ) (xs : List Attr) → member n (back xs []) ≡ listed n xs
-member_listed n xs = member_back n xs [] ∙ go (listed n xs)
-  where
-    go : (t : Bool) → if t true false ≡ t
-    go true = refl
-    go false = refl
+member_listed n xs = member_back n xs [] ∙ if_same (listed n xs)
 
 -- a name that lies in the document
 pub name_within : (p : List ℕ → Bool) (doc : List ℕ) (a : Attribute) → a.name + a.name_len ≤ length doc → name_is p doc a ≡ p (attr_of doc a).name
@@ -76,6 +72,14 @@ fit_there {doc} a f = rw f.form (go (all plain (attr_of doc a).raw))
     go : (t : Bool) → not (is_none (if t Form.Plain Form.Changed)) ≡ true
     go true = refl
     go false = refl
+
+-- a value whose form is plain is shown as it stands
+pub plain_shown : {doc : List ℕ} {from to : ℕ} (a : Attribute) → Fit doc from to a → a.form ≡ Form.Plain → unescape (attr_of doc a).raw ≡ text (attr_of doc a).raw
+plain_shown {doc} a f k = unescape_plain _ (go (all plain (attr_of doc a).raw) (sym f.form ∙ k))
+  where
+    go : (t : Bool) → ◌≡◌ {A = Form} (if t Form.Plain Form.Changed) Form.Plain → t ≡ true
+    go true e = refl
+    go false e = cc
 
 -- the first with a name is there where the name is listed
 first_listed : (doc n : List ℕ) (xs : List Attribute) → ((k : ℕ) → k < length xs → Fit doc 0 (length doc) (get_or xs k blank)) → there (value_of (first_by (name_is (keyed n) doc) xs)) ≡ listed n (map (attr_of doc) xs)
@@ -101,11 +105,7 @@ module _ {doc : List ℕ} {a : Attribute} (f : Fit doc 0 (length doc) a) where
       new = rw e
 
       pub weigh_plain : a.form ≡ Form.Plain → Weighs doc a before (Ok tt)
-      weigh_plain k = record { is = ((attr_of doc a).raw, new, unescape_plain _ (go (all plain (attr_of doc a).raw) (sym f.form ∙ k))) }
-        where
-          go : (t : Bool) → ◌≡◌ {A = Form} (if t Form.Plain Form.Changed) Form.Plain → t ≡ true
-          go true e = refl
-          go false e = cc
+      weigh_plain k = record { is = ((attr_of doc a).raw, new, plain_shown a f k) }
 
       pub weigh_reference : {v : Result (Unit {0}) Fault} → References doc a.value a.value_len v → Weighs doc a before v
       weigh_reference {v} c = go v c

@@ -12,12 +12,11 @@ use lib.Dec.{eqb}
 use lib.ListN.{length, take, drop, get_or, set, replicate, length-replicate, get_or-replicate, length-set}
 use lib.Seq.{drop-cons, take-suc-set, get_or-set_same, get_or-set_other}
 use Rattle.std.specs.Prelude.{None, Some, Ok}
-use Rattle.slices.specs.Bytes.{if, bytes, other, span, past, all, same}
+use Rattle.slices.specs.Bytes.{if, bytes, other, span, past, same}
 use Rattle.slices.proofs.Runs.{same_equal}
 use Rattle.slices.proofs.Ends.{run_span, run_rest}
 use Rattle.answers.specs.Text.{text}
-use Rattle.references.specs.Unescape.{plain, unescape}
-use Rattle.references.proofs.Shapes.{unescape_plain}
+use Rattle.references.specs.Unescape.{unescape}
 use Rattle.document.specs.declared.Form.{Form}
 use Rattle.document.specs.Outcome.{is_absent}
 use Rattle.document.specs.Tags.{Attr, Shown, absent, attribute, is_tp_type, check}
@@ -28,7 +27,7 @@ use Rattle.attributes.specs.Outcome.{attrs_of, listed, there, Gathers}
 use Rattle.attributes.specs.Slots.{class_of, Opened, Plain}
 use Rattle.attributes.specs.declared.Attribute.{Attribute}
 use Rattle.attributes.specs.declared.Start.{Start}
-use Rattle.attributes.proofs.Checking.{name_within, back, back_more, member_listed, fit_there, onto, onto_onto, onto_also, onto_none}
+use Rattle.attributes.proofs.Checking.{name_within, back, back_more, member_listed, fit_there, plain_shown, onto, onto_onto, onto_also, onto_none}
 use Rattle.attributes.proofs.Picked.{AllFit, all_fit}
 use Rattle.attributes.proofs.Gathering.{Gathering, gather_begins, gather_more, gather_ends}
 use Rattle.attributes.proofs.Classes.{classed}
@@ -172,11 +171,7 @@ module _ {doc : List ℕ} {at : ℕ} {s : Start} (g : Opened doc at s) where
         }
 
     one_shown : unescape (attr_of doc one).raw ≡ text (attr_of doc one).raw
-    one_shown = unescape_plain _ (go (all plain (attr_of doc one).raw) (sym one_found.onward.2.form))
-      where
-        go : (t : Bool) → ◌≡◌ {A = Form} (if t Form.Plain Form.Changed) Form.Plain → t ≡ true
-        go true e = refl
-        go false e = cc
+    one_shown = plain_shown one one_found.onward.2 refl
 
 -- ---- the loop
 

@@ -7,7 +7,7 @@ ghost use Rattle.scan.specs.Colons.{Scanned};
 ghost use Rattle.references.specs.Unescape.{special};
 ghost use Rattle.document.specs.Tags.{attribute, equals, open_quote, is_tp_type};
 ghost use Rattle.attributes.specs.One.{Quotes, Named, Finds};
-ghost use Rattle.attributes.specs.Outcome.{References, Gathers};
+ghost use Rattle.attributes.specs.Outcome.{References};
 
 use document::{Form, Values};
 use faults::Fault;
@@ -57,9 +57,9 @@ pub struct Located {
 
 // Where a value ends, and its form.
 #[derive(Clone, Copy)]
-pub struct ValueEnd {
-    pub end: usize,
-    pub form: Form,
+struct ValueEnd {
+    end: usize,
+    form: Form,
 }
 
 // A name's class, the place of the value, and the quote before it.
@@ -72,9 +72,9 @@ pub struct Start {
 
 // One of the usual names: its class and its length.
 #[derive(Clone, Copy)]
-pub struct Known {
-    pub class: usize,
-    pub len: usize,
+struct Known {
+    class: usize,
+    len: usize,
 }
 
 // The place after the attributes of a tag, and their values.

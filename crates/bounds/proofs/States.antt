@@ -14,7 +14,7 @@ use Rattle.document.specs.Tags.{Shown}
 use Rattle.document.specs.Tokens.{Tag, Token, start, close, fault, end}
 use Rattle.document.specs.Rows.{Row, Tables, row_text, texts}
 use Rattle.document.specs.Elements.{among}
-use Rattle.document.specs.Reading.{Definition, Frame, element, definition, passing, parent_of, reason_of, noted_in, noted, frame_of, with_row, with_warning, dropped}
+use Rattle.document.specs.Reading.{Definition, Frame, element, definition, passing, parent_of, reason_of, noted, frame_of, with_row, with_warning, dropped}
 use Rattle.document.specs.Refusals.{fault_in}
 use Rattle.document.specs.Outcome.{whole}
 use Rattle.document.specs.declared.Refusal.{Refusal}
@@ -22,7 +22,7 @@ use Rattle.rows.proofs.Words.{length_documented, texts_documented, texts_append,
 use Rattle.bounds.specs.Bounds.{Fits}
 use Rattle.document.proofs.Tests.{either}
 use Rattle.document.proofs.Steps as steps
-use Rattle.document.proofs.Steps.{Known, Closes, Shuts, Ways, Steps, captures_at}
+use Rattle.document.proofs.Steps.{noted_keeps, Known, Closes, Shuts, Ways, Steps, captures_at}
 use Rattle.document.proofs.Attributes.{Met}
 use Rattle.document.proofs.Nexts as nexts
 use Rattle.document.proofs.Nexts.{Starts, Onward, Ended}
@@ -69,14 +69,8 @@ owned_more n m (passing p ns ∷ fs) h o = owned_more n m fs h o
 abbrev Alike : List Frame → List Frame → Type 0
 Alike fs gs = (length gs ≡ length fs) × ((n : ℕ) → Owned n fs → Owned n gs)
 
-noted_in_alike : (k : ℕ) (t : Tag) (fs : List Frame) → Alike fs (noted_in k t fs)
-noted_in_alike k t [] = (refl, λ n o. o)
-noted_in_alike k t (element c m r ∷ fs) = (refl, λ n o. o)
-noted_in_alike k t (definition d ∷ fs) = (refl, λ n o. o)
-noted_in_alike k t (passing p ns ∷ fs) = (refl, λ n o. o)
-
 noted_alike : (k : ℕ) (t : Tag) (fs : List Frame) → Alike fs (noted k t fs)
-noted_alike k t fs = either (Alike fs) (among k (10 ∷ 12 ∷ [])) (λ c. noted_in_alike k t fs) (λ c. (refl, λ n o. o))
+noted_alike k t fs = noted_keeps (Alike fs) k t (λ d gs h. h) fs (refl, λ n o. o)
 
 -- ---- tables
 

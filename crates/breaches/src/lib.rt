@@ -1,7 +1,7 @@
 // The breaches of the strict profile in a document that is accepted: one walk over its tags and comments, which keeps the least.
 #![tactic(auto)]
 
-ghost use Rattle.std.specs.Prelude.{◌≡◌, ◌+◌, ◌-◌, ◌≤◌, ◌<◌, ◌^◌, length, take, drop, Ok};
+ghost use Rattle.std.specs.Prelude.{◌≡◌, ◌+◌, ◌-◌, ◌≤◌, ◌<◌, length, take, drop, Ok};
 ghost use Rattle.scan.specs.Ignorable.{Marks};
 ghost use Rattle.scan.specs.declared.Markup.{Markup};
 ghost use Rattle.document.specs.Outcome.{Sound};
@@ -19,25 +19,25 @@ use scan::{ClassTable, Markup};
 
 // Where a scan came to, and the least breach on the way.
 #[derive(Clone, Copy)]
-pub struct Way {
-    pub at: usize,
-    pub breach: Option<usize>,
+struct Way {
+    at: usize,
+    breach: Option<usize>,
 }
 
 // A start tag: whether it is `/>`, the place after it, the least breach in it.
 #[derive(Clone, Copy)]
-pub struct Opened {
-    pub closes: bool,
-    pub at: usize,
-    pub breach: Option<usize>,
+struct Opened {
+    closes: bool,
+    at: usize,
+    breach: Option<usize>,
 }
 
 // The walk over the tokens: its place, how many elements are open, the least breach so far.
 #[derive(Clone, Copy)]
-pub struct Walk {
-    pub at: usize,
-    pub depth: usize,
-    pub breach: Option<usize>,
+struct Walk {
+    at: usize,
+    depth: usize,
+    breach: Option<usize>,
 }
 
 // The lesser of two.

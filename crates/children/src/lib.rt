@@ -2,7 +2,7 @@
 #![tactic(auto)]
 
 ghost use Rattle.std.specs.Prelude.{ℕ, ◌+◌, ◌≤◌, ◌<◌, List, Bool, length};
-ghost use Rattle.document.specs.Outcome.{lent_to, name_at, Keeps, Bounded, Ready, Child, Children, Contents};
+ghost use Rattle.document.specs.Outcome.{lent_to, Keeps, Bounded, Ready, Child, Children, Contents};
 
 use document::{Fill, Next, Reader, Refusal, StartTag};
 use tags::step;

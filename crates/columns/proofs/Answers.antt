@@ -1,11 +1,12 @@
 -- What the entries answer, and the words that they leave, on each of their ways.
-use Rattle.std.proofs.Common.{◌≡◌, ℕ, ◌*◌, ◌<◌, ◌≤◌, List, length, Result, Ok, Err, sym, refl, ◌∙◌, arith, rules, le-ltb, lt-ltb}
+use Rattle.std.proofs.Common.{◌≡◌, ℕ, ◌*◌, ◌<◌, ◌≤◌, List, length, Result, Ok, Err, refl, ◌∙◌, arith, rules, le-ltb, lt-ltb}
 use Rattle.tables.specs.Table.{Rep, Wiped}
 use Rattle.tables.proofs.Tables.{clear_all, clear_rest}
 use Rattle.faults.specs.Fault.{fault}
 use Rattle.faults.specs.declared.Fault.{Fault}
 use Rattle.columns.specs.Put.{Roomy}
-use Rattle.columns.specs.Entries.{made, refused, checked, Says, Finishes, Checks}
+use Rattle.columns.specs.Words.{columns_of, rows_of}
+use Rattle.columns.specs.Entries.{made, refused, checked, to_columns, to_rows, Says, Makes, Finishes, Checks}
 
 -- ---- 30, then 18
 
@@ -58,3 +59,14 @@ module _ (xs : List ℕ) {R room : ℕ} {a : Result ℕ Fault} (c : Checks R (le
   entry-refused ws {t'} {x} e s = let d : Checks R (length xs) room (Err x) = rw e at c in rw (d.is ws) s
 
 pub ruleset entries = (entry-few, entry-roomy, entry-refused, entry-made, rules)
+
+-- ---- the two entries
+
+module _ (R : ℕ) (xs : List ℕ) {lent out : List ℕ} {r : Result (Unit {0}) Fault} where
+  pub columned : Says (checked R (length xs) (length lent) (columns_of R xs)) (length lent) out r → Makes (to_columns R xs) lent out r
+  unfolding to_columns
+  columned s = record { answer = s.answer; left = s.left }
+
+  pub rowed : Says (checked R (length xs) (length lent) (rows_of R xs)) (length lent) out r → Makes (to_rows R xs) lent out r
+  unfolding to_rows
+  rowed s = record { answer = s.answer; left = s.left }

@@ -1,5 +1,5 @@
 -- The loops over the words of a block and over the blocks, and what they have put when they end.
-use Rattle.std.proofs.Common.{◌≡◌, ℕ, suc, ◌+◌, ◌-◌, ◌<◌, ◌≤◌, List, ◌∙◌, arith, rules}
+use Rattle.std.proofs.Common.{◌≡◌, ℕ, ◌+◌, ◌<◌, ◌≤◌, List, ◌∙◌, arith, rules}
 use Rattle.tables.specs.Table.{Rep}
 use Rattle.columns.specs.Put.{Roomy, Block, Puts, Apart, Below, Lays}
 use Rattle.columns.proofs.Putting.{no_rows, no_words, rows_joined, words_joined}

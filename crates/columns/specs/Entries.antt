@@ -38,6 +38,11 @@ pub record Says (o : Outcome) (room : ℕ) (out : List ℕ) (r : Result (Unit {0
   pub answer : r ≡ answer_of o
   pub left : out ≡ words_left room o
 
+-- they are those of what is made in the room of the buffer lent: `made` tells it for each room
+pub record Makes (made : ℕ → Outcome) (lent out : List ℕ) (r : Result (Unit {0}) Fault) : Type 0 where
+  pub answer : r ≡ answer_of (made (length lent))
+  pub left : out ≡ words_left (length lent) (made (length lent))
+
 -- what is said of a buffer in which n rows' words were put: they are left and zeros after them
 pub record Finishes (n : ℕ) (before after : List ℕ) (r : Result (Unit {0}) Fault) : Type 0 where
   pub says : (ws : List ℕ) → Rep 16 before n ws → n * 16 ≤ length before → Says (made ws) (length before) after r

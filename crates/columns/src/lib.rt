@@ -5,7 +5,7 @@ ghost use Rattle.std.specs.Prelude.{◌≡◌, ℕ, ◌+◌, ◌*◌, ◌<◌, �
 ghost use Rattle.tables.specs.Table.{Rep};
 ghost use Rattle.columns.specs.Words.{in_rows, in_columns, difference, restored, columns_of, rows_of};
 ghost use Rattle.columns.specs.Put.{Roomy, Block, Puts, word_above, restored_above, Below, Lays};
-ghost use Rattle.columns.specs.Entries.{checked, refused, to_columns, to_rows, answer_of, words_left, Says, Finishes, Checks};
+ghost use Rattle.columns.specs.Entries.{checked, refused, to_columns, to_rows, Says, Makes, Finishes, Checks};
 ghost use Rattle.columns.specs.Places.{lays_columns, lays_rows};
 
 use faults::Fault;
@@ -138,7 +138,7 @@ fn block_end(from: usize, count: usize) -> usize
 }
 
 // Puts the words of all rows, a block at a time.
-// A cursor and not `step_by`, and `block_end` not by `min`: by either columns of small tables take up to an eighth more time.
+// A cursor and not `step_by`, and `block_end` not by `min`: by either columns of small tables take longer.
 #[tactic(auto, using(crate::proofs::Filling::filling))]
 fn put_all<W: Way>(source: &[u32], count: usize, out: &mut [u32])
     requires { Roomy count source.now out.old }
@@ -205,21 +205,15 @@ fn put_down<W: Way>(source: &[u32], count: u64, out: &mut [u32]) -> Result<(), F
 
 // Puts rows down as columns. More than 262,144 rows are refused with 30, and then a source or an output of fewer than 16 times `count` words
 // with 18.
-#[tactic(auto, unfolding(crate::specs::Entries::to_columns))]
 pub fn columns(rows: &[u32], count: u64, out: &mut [u32]) -> Result<(), Fault>
-    ensures answer { result ≡ answer_of (to_columns count rows.now (length out.old)) }
-    ensures left { out.new ≡ words_left (length out.old)
-        (to_columns count rows.now (length out.old)) }
+    ensures { Makes (to_columns count rows.now) out.old out.new result }
 {
     put_down::<ToColumns>(rows, count, out)
 }
 
 // Puts columns down as rows again. Refused as for `columns`.
-#[tactic(auto, unfolding(crate::specs::Entries::to_rows))]
 pub fn rows(columns: &[u32], count: u64, out: &mut [u32]) -> Result<(), Fault>
-    ensures answer { result ≡ answer_of (to_rows count columns.now (length out.old)) }
-    ensures left { out.new ≡ words_left (length out.old)
-        (to_rows count columns.now (length out.old)) }
+    ensures { Makes (to_rows count columns.now) out.old out.new result }
 {
     put_down::<ToRows>(columns, count, out)
 }

@@ -21,13 +21,13 @@ use Rattle.document.specs.Tokens as tokens
 use Rattle.document.specs.Tokens.{Token, start, close, fault, end, Next, more, last, next}
 use Rattle.document.specs.Rows.{Doc, Row, Tables, documented}
 use Rattle.document.specs.Elements.{among, opens, opens_as, Keeping}
-use Rattle.document.specs.Reading.{Name, tag_name, Purpose, ignored, captures, Frame, element, definition, passing, State, begun, accepted, parent_of, noted_in, noted, frame_of, step, run}
+use Rattle.document.specs.Reading.{Name, tag_name, Purpose, ignored, captures, Frame, element, definition, passing, State, begun, accepted, parent_of, noted, frame_of, step, run}
 use Rattle.document.specs.Outcome.{whole}
 use Rattle.document.proofs.Tests.{either}
 use Rattle.document.proofs.Places.{byte_left}
 use Rattle.document.proofs.Nexts.{Onward, Ended, next_reaches}
 use Rattle.document.proofs.Runs.{run_more, run_last}
-use Rattle.document.proofs.Steps.{Read, Begins, Known, Kept, Closes, content_at, captures_at, Shuts, Starts, Ways, step_kept}
+use Rattle.document.proofs.Steps.{noted_keeps, Read, Begins, Known, Kept, Closes, content_at, captures_at, Shuts, Starts, Ways, step_kept}
 use Rattle.accepted.proofs.Folding.{meaning_accepts}
 use Rattle.accepted.proofs.Entries.{Entry, start_opens}
 use Rattle.accepted.proofs.Entering.{begins_kind}
@@ -169,12 +169,6 @@ module _ {A : Type 0} (keep : Keeping A) (doc : List ℕ) (formed : ill_formed d
   plain_top at (definition d ∷ fs) h = h
   plain_top at (passing p ns ∷ fs) h = absurd h.0
 
-  plain_in : (k : ℕ) (t : tokens.Tag) (fs : List Frame) → Plain fs → Plain (noted_in k t fs)
-  plain_in k t [] h = tt
-  plain_in k t (element c n r ∷ fs) h = h
-  plain_in k t (definition d ∷ fs) h = h
-  plain_in k t (passing p ns ∷ fs) h = absurd h.0
-
   -- where an element begins
   plain_begins : (at n k : ℕ) (fs : List Frame) → Begins n k fs → Top at fs → Plain fs
   plain_begins at n k [] b h = tt
@@ -183,7 +177,7 @@ module _ {A : Type 0} (keep : Keeping A) (doc : List ℕ) (formed : ill_formed d
   top_frame : (at k : ℕ) (t : tokens.Tag) (i : ℕ) (fs : List Frame) → Plain fs → Top at (frame_of k t i ∷ noted k t fs)
   top_frame at k t i fs h = (
     either (Over at) (among k kinds.definitions) (λ c. tt) (λ c. tt),
-    either Plain (among k kinds.parts) (λ c. plain_in k t fs h) (λ c. h),
+    noted_keeps Plain k t (λ d gs p. p) fs h,
   )
 
   module _ (at q : ℕ) where

@@ -12,6 +12,7 @@ use Rattle.names.specs.Names.{interface_name, member_name, property_name}
 use Rattle.names.specs.Signature.{signature}
 use Rattle.document.specs.Tags.{Shown, is_tp_type, tp_type}
 use Rattle.document.specs.Tokens.{Tag}
+use Rattle.document.specs.Kinds as kinds
 use Rattle.document.specs.Elements.{among, access_of, direction_of, attr, Opened, opens, refuses, Keeping, row, required, valid, named_row, property_row, annotation_row, directed, arg_row, opens_as}
 use Rattle.document.specs.Refusals.{raw_of, bare, showing, lacking}
 use Rattle.document.specs.Reading.{is_there, is_some}
@@ -25,6 +26,12 @@ pub data Refuses (t : Tag) : Refusal → Type 0 where
   at_name : (n : ℕ) → among n (13 ∷ 14 ∷ []) ≡ true → Refuses t (bare n (suc t.at))
   at-end : (n : ℕ) (key : List ℕ) (s : Shown) → among n (15 ∷ 16 ∷ []) ≡ true → attr key t ≡ some s → Refuses t (showing n t.after (raw_of s))
 
+-- the kinds that `opens_as` names; a row of another kind has a name at most
+abbrev pub named_kinds : List ℕ
+named_kinds =
+    kinds.node ∷ kinds.interface ∷ kinds.method ∷ kinds.property ∷ kinds.signal ∷ kinds.annotation ∷ kinds.arg ∷ kinds.simple_type ∷ kinds.enum
+    ∷ kinds.enumvalue ∷ kinds.member ∷ []
+
 module _ {A B : Type 0} (keep : Keeping A) (seen : Keeping B) (p : ℕ) (t : Tag) (P : ℕ → Opened A → Opened B → Type 0) where
   abbrev pub OfRow : ℕ → Option Shown → Option Shown → Option Shown → ℕ → Type 0
   OfRow k n v tp w = P k (opens (row keep t k p n v tp w)) (opens (row seen t k p n v tp w))
@@ -32,28 +39,28 @@ module _ {A B : Type 0} (keep : Keeping A) (seen : Keeping B) (p : ℕ) (t : Tag
   -- refusals; the row of each kind, with what its tag is known to have
   pub record Ways : Type 0 where
     pub refusal : (k : ℕ) (x : Refusal) → Refuses t x → P k (refuses x) (refuses x)
-    pub node : OfRow 1 (attr (bytes "name") t) none none 0
-    pub interface : is_some interface_name (attr (bytes "name") t) ≡ true → OfRow 2 (attr (bytes "name") t) none none 0
-    pub method : is_some member_name (attr (bytes "name") t) ≡ true → OfRow 3 (attr (bytes "name") t) none none 0
+    pub node : OfRow kinds.node (attr (bytes "name") t) none none 0
+    pub interface : is_some interface_name (attr (bytes "name") t) ≡ true → OfRow kinds.interface (attr (bytes "name") t) none none 0
+    pub method : is_some member_name (attr (bytes "name") t) ≡ true → OfRow kinds.method (attr (bytes "name") t) none none 0
     pub property :
         is_some property_name (attr (bytes "name") t) ≡ true →
         is_some signature (attr (bytes "type") t) ≡ true →
         (a : List ℕ) →
         not (eqb (access_of a) 0) ≡ true →
-        OfRow 4 (attr (bytes "name") t) (attr (bytes "type") t) (tp_type t.attrs) (access_of a)
-    pub signal : is_some member_name (attr (bytes "name") t) ≡ true → OfRow 5 (attr (bytes "name") t) none none 0
+        OfRow kinds.property (attr (bytes "name") t) (attr (bytes "type") t) (tp_type t.attrs) (access_of a)
+    pub signal : is_some member_name (attr (bytes "name") t) ≡ true → OfRow kinds.signal (attr (bytes "name") t) none none 0
     pub annotation :
         is_there (attr (bytes "name") t) ≡ true →
         is_there (attr (bytes "value") t) ≡ true →
-        OfRow 6 (attr (bytes "name") t) (attr (bytes "value") t) none 0
+        OfRow kinds.annotation (attr (bytes "name") t) (attr (bytes "value") t) none 0
     pub arg :
         is_some signature (attr (bytes "type") t) ≡ true →
         (d : List ℕ) →
-        OfRow 7 (attr (bytes "name") t) (attr (bytes "type") t) (tp_type t.attrs) (direction_of d)
-    pub typed : (k : ℕ) → among k (8 ∷ 9 ∷ []) ≡ true → OfRow k (attr (bytes "name") t) (attr (bytes "type") t) none 0
-    pub enumvalue : OfRow 10 (attr (bytes "suffix") t) (attr (bytes "value") t) none 0
-    pub member : OfRow 12 (attr (bytes "name") t) (attr (bytes "type") t) (tp_type t.attrs) 0
-    pub other : (k : ℕ) → among k (1 ∷ 2 ∷ 3 ∷ 4 ∷ 5 ∷ 6 ∷ 7 ∷ 8 ∷ 9 ∷ 10 ∷ 12 ∷ []) ≡ false → OfRow k (attr (bytes "name") t) none none 0
+        OfRow kinds.arg (attr (bytes "name") t) (attr (bytes "type") t) (tp_type t.attrs) (direction_of d)
+    pub typed : (k : ℕ) → among k kinds.typed ≡ true → OfRow k (attr (bytes "name") t) (attr (bytes "type") t) none 0
+    pub enumvalue : OfRow kinds.enumvalue (attr (bytes "suffix") t) (attr (bytes "value") t) none 0
+    pub member : OfRow kinds.member (attr (bytes "name") t) (attr (bytes "type") t) (tp_type t.attrs) 0
+    pub other : (k : ℕ) → among k named_kinds ≡ false → OfRow k (attr (bytes "name") t) none none 0
 
   module _ (w : Ways) where
     on_required : (k key : ℕ) → among key (1 ∷ 2 ∷ 3 ∷ 4 ∷ []) ≡ true → (o : Option Shown) {x : Shown → Opened A} {y : Shown → Opened B} → ((s : Shown) → o ≡ some s → P k (x s) (y s)) → P k (required keep key o t x) (required seen key o t y)
@@ -63,51 +70,51 @@ module _ {A B : Type 0} (keep : Keeping A) (seen : Keeping B) (p : ℕ) (t : Tag
     on_valid : (k : ℕ) (b : Bool) (z : Refusal) → Refuses t z → {x : Opened A} {y : Opened B} → (b ≡ true → P k x y) → P k (valid keep b z x) (valid seen b z y)
     on_valid k b z r h = pairwise (P k) b h (λ c. w.refusal k z r)
 
-    on_directed : (o : Option Shown) → attr (bytes "direction") t ≡ o → (x : ℕ → Opened A) (y : ℕ → Opened B) → ((d : List ℕ) → P 7 (x (direction_of d)) (y (direction_of d))) → P 7 (directed keep o t x) (directed seen o t y)
+    on_directed : (o : Option Shown) → attr (bytes "direction") t ≡ o → (x : ℕ → Opened A) (y : ℕ → Opened B) → ((d : List ℕ) → P kinds.arg (x (direction_of d)) (y (direction_of d))) → P kinds.arg (directed keep o t x) (directed seen o t y)
     on_directed none e x y h = h []
-    on_directed (some d) e x y h = on_valid 7 (not (eqb (direction_of d.value) 0)) (showing 16 t.after (raw_of d)) (at-end 16 (bytes "direction") d refl e) (λ c. h d.value)
+    on_directed (some d) e x y h = on_valid kinds.arg (not (eqb (direction_of d.value) 0)) (showing 16 t.after (raw_of d)) (at-end 16 (bytes "direction") d refl e) (λ c. h d.value)
 
     named_way : (good : List ℕ → Bool) (k : ℕ) → (is_some good (attr (bytes "name") t) ≡ true → OfRow k (attr (bytes "name") t) none none 0) → P k (named_row keep good k p t) (named_row seen good k p t)
     named_way good k h =
         on_required k 1 refl (attr (bytes "name") t) λ n e.
         on_valid k (good n.value) (bare 13 (suc t.at)) (at_name 13 refl) λ c. rw e at (h (rw e c))
 
-    property_way : P 4 (property_row keep p t) (property_row seen p t)
+    property_way : P kinds.property (property_row keep p t) (property_row seen p t)
     property_way =
-        on_required 4 1 refl (attr (bytes "name") t) λ n e.
-        on_valid 4 (property_name n.value) (bare 13 (suc t.at)) (at_name 13 refl) λ c.
-        on_required 4 2 refl (attr (bytes "type") t) λ s f.
-        on_valid 4 (signature s.value) (bare 14 (suc t.at)) (at_name 14 refl) λ d.
-        on_required 4 3 refl (attr (bytes "access") t) λ a g.
-        on_valid 4 (not (eqb (access_of a.value) 0)) (showing 15 t.after (raw_of a)) (at-end 15 (bytes "access") a refl g) λ h.
+        on_required kinds.property 1 refl (attr (bytes "name") t) λ n e.
+        on_valid kinds.property (property_name n.value) (bare 13 (suc t.at)) (at_name 13 refl) λ c.
+        on_required kinds.property 2 refl (attr (bytes "type") t) λ s f.
+        on_valid kinds.property (signature s.value) (bare 14 (suc t.at)) (at_name 14 refl) λ d.
+        on_required kinds.property 3 refl (attr (bytes "access") t) λ a g.
+        on_valid kinds.property (not (eqb (access_of a.value) 0)) (showing 15 t.after (raw_of a)) (at-end 15 (bytes "access") a refl g) λ h.
         rw (e, f) at (w.property (rw e c) (rw f d) a.value h)
 
-    annotation_way : P 6 (annotation_row keep p t) (annotation_row seen p t)
+    annotation_way : P kinds.annotation (annotation_row keep p t) (annotation_row seen p t)
     annotation_way =
-        on_required 6 1 refl (attr (bytes "name") t) λ n e.
-        on_required 6 4 refl (attr (bytes "value") t) λ v f.
+        on_required kinds.annotation 1 refl (attr (bytes "name") t) λ n e.
+        on_required kinds.annotation 4 refl (attr (bytes "value") t) λ v f.
         rw (e, f) at (w.annotation (rw e) (rw f))
 
-    arg_way : P 7 (arg_row keep p t) (arg_row seen p t)
+    arg_way : P kinds.arg (arg_row keep p t) (arg_row seen p t)
     arg_way =
-        on_required 7 2 refl (attr (bytes "type") t) λ s e.
-        on_valid 7 (signature s.value) (bare 14 (suc t.at)) (at_name 14 refl) λ c.
+        on_required kinds.arg 2 refl (attr (bytes "type") t) λ s e.
+        on_valid kinds.arg (signature s.value) (bare 14 (suc t.at)) (at_name 14 refl) λ c.
         on_directed (attr (bytes "direction") t) refl _ _ λ d. rw e at (w.arg (rw e c) d)
 
     pub opens_way : (k : ℕ) → P k (opens_as keep k p t) (opens_as seen k p t)
     unfolding opens_as
     opens_way k =
-        pairwise (P k) (eqb k 1) (λ c. rw (eqb-true k 1 c) w.node)
-        (λ a. pairwise (P k) (eqb k 2) (λ c. rw (eqb-true k 2 c) (named_way interface_name 2 w.interface))
-        (λ b. pairwise (P k) (eqb k 3) (λ c. rw (eqb-true k 3 c) (named_way member_name 3 w.method))
-        (λ c. pairwise (P k) (eqb k 4) (λ c. rw (eqb-true k 4 c) property_way)
-        (λ d. pairwise (P k) (eqb k 5) (λ c. rw (eqb-true k 5 c) (named_way member_name 5 w.signal))
-        (λ e. pairwise (P k) (eqb k 6) (λ c. rw (eqb-true k 6 c) annotation_way)
-        (λ f. pairwise (P k) (eqb k 7) (λ c. rw (eqb-true k 7 c) arg_way)
-        (λ g. pairwise (P k) (among k (8 ∷ 9 ∷ [])) (λ c. w.typed k c)
-        (λ h. pairwise (P k) (eqb k 10) (λ c. rw (eqb-true k 10 c) w.enumvalue)
-        (λ i. pairwise (P k) (eqb k 12) (λ c. rw (eqb-true k 12 c) w.member)
-        (λ j. w.other k (rw (a, b, c, d, e, f, g) (neither (eqb k 8) (eqb k 9) (eqb k 10) (eqb k 12) h i j))))))))))))
+        pairwise (P k) (eqb k kinds.node) (λ c. rw (eqb-true k kinds.node c) w.node)
+        (λ a. pairwise (P k) (eqb k kinds.interface) (λ c. rw (eqb-true k kinds.interface c) (named_way interface_name kinds.interface w.interface))
+        (λ b. pairwise (P k) (eqb k kinds.method) (λ c. rw (eqb-true k kinds.method c) (named_way member_name kinds.method w.method))
+        (λ c. pairwise (P k) (eqb k kinds.property) (λ c. rw (eqb-true k kinds.property c) property_way)
+        (λ d. pairwise (P k) (eqb k kinds.signal) (λ c. rw (eqb-true k kinds.signal c) (named_way member_name kinds.signal w.signal))
+        (λ e. pairwise (P k) (eqb k kinds.annotation) (λ c. rw (eqb-true k kinds.annotation c) annotation_way)
+        (λ f. pairwise (P k) (eqb k kinds.arg) (λ c. rw (eqb-true k kinds.arg c) arg_way)
+        (λ g. pairwise (P k) (among k kinds.typed) (λ c. w.typed k c)
+        (λ h. pairwise (P k) (eqb k kinds.enumvalue) (λ c. rw (eqb-true k kinds.enumvalue c) w.enumvalue)
+        (λ i. pairwise (P k) (eqb k kinds.member) (λ c. rw (eqb-true k kinds.member c) w.member)
+        (λ j. w.other k (rw (a, b, c, d, e, f, g) (neither (eqb k kinds.simple_type) (eqb k kinds.enum) (eqb k kinds.enumvalue) (eqb k kinds.member) h i j))))))))))))
       where
         neither : (x y z u : Bool) → if x true (if y true false) ≡ false → z ≡ false → u ≡ false → if x true (if y true (if z true (if u true false))) ≡ false
         neither true y z u h i j = h

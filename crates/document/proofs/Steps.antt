@@ -15,10 +15,20 @@ use Rattle.document.specs.Kinds as kinds
 use Rattle.document.specs.Tokens.{Tag, Token, start, close, fault, end}
 use Rattle.document.specs.Rows.{Row, Tables, documented}
 use Rattle.document.specs.Elements.{kind_of, may_hold, among, Opened, opens, refuses, Keeping, opens_as}
-use Rattle.document.specs.Reading.{Definition, Purpose, ignored, captures, Frame, element, definition, passing, State, begun, reading, accepted, refused, name_of, row_of, parent_of, reason_of, noted, frame_of, with_row, with_warning, closed, dropped, judged, passed, shut, too_deep, opened, begins, unsupported, docstring_in, child, started, turn, step, Name, tag_name, name_shown}
+use Rattle.document.specs.Reading.{Definition, Purpose, ignored, captures, Frame, element, definition, passing, State, begun, reading, accepted, refused, name_of, row_of, parent_of, reason_of, part_of, noted_in, noted, frame_of, with_row, with_warning, closed, dropped, judged, passed, shut, too_deep, opened, begins, unsupported, docstring_in, child, started, turn, step, Name, tag_name, name_shown}
 use Rattle.document.specs.Refusals.{excerpt, bare, showing, showing_both, fault_in}
 use Rattle.document.specs.declared.Refusal.{Refusal}
 use Rattle.document.proofs.Tests.{either}
+
+-- what holds of open frames holds once a part is noted in its definition, if it does not look at the parts of a definition
+pub noted_keeps : (P : List Frame → Type 0) (k : ℕ) (t : Tag) → ((d : Definition) (fs : List Frame) → P (definition d ∷ fs) → P (definition (part_of k t d) ∷ fs)) → (fs : List Frame) → P fs → P (noted k t fs)
+noted_keeps P k t part fs h = either P (among k kinds.parts) (λ c. go fs h) (λ c. h)
+  where
+    go : (fs : List Frame) → P fs → P (noted_in k t fs)
+    go [] h = h
+    go (element c n r ∷ fs) h = h
+    go (definition d ∷ fs) h = part d fs h
+    go (passing p ns ∷ fs) h = h
 
 -- an open element whose content is read, not passed over; its kind, 0 of another
 abbrev pub Read : Frame → Type 0

@@ -7,11 +7,11 @@ use borrow.Author.Tests.{eqb-true}
 use native.Mathlib.Omega.{arith}
 use lib.Dec.{eqb}
 use lib.ListN.{length, drop, get_or}
-use Rattle.slices.specs.Bytes.{bytes, other, span, past, all, empty, same}
+use Rattle.slices.specs.Bytes.{bytes, other, span, past, all, empty, same, digit}
 use Rattle.slices.proofs.Ends.{not_empty}
 use Rattle.answers.specs.Text.{Text, text, wrong}
 use Rattle.references.specs.Characters.{xml_char}
-use Rattle.references.specs.Unescape.{Reference, character, fault, of_digits, number, hex_digit, decimal_digit, of_number, char_reference, reference, Piece, shows, bad, referred, after_cr, piece, before, joined, shown_from, unescape}
+use Rattle.references.specs.Unescape.{Reference, character, fault, of_digits, number, hex_digit, of_number, char_reference, reference, Piece, shows, bad, referred, after_cr, piece, before, joined, shown_from, unescape}
 use Rattle.document.specs.Elements.{among}
 use Rattle.document.specs.Refusals.{faults}
 use Rattle.document.proofs.Tests.{either, among_all}
@@ -34,7 +34,7 @@ digits_refer base p ds =
 
 number_refers : (l : List ℕ) → Refers (of_number l)
 number_refers [] = refl
-number_refers (b ∷ l) = either Refers (eqb b 120 || eqb b 88) (λ t. digits_refer 16 hex_digit l) (λ t. digits_refer 10 decimal_digit (b ∷ l))
+number_refers (b ∷ l) = either Refers (eqb b 120 || eqb b 88) (λ t. digits_refer 16 hex_digit l) (λ t. digits_refer 10 digit (b ∷ l))
 
 character_refers : (l : List ℕ) → Refers (char_reference l)
 character_refers [] = refl

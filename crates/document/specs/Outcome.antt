@@ -217,7 +217,7 @@ pub record Opening (doc : List ℕ) (k : ℕ) (c : StartTag) (p : ℕ) (f : Fill
   pub onward : OnwardOpening doc f r
   pub is : IsOpening doc k c p f rows rows' bytes bytes' r
 
--- what passing over an element that nobody asked for says: rows and text are left alone
+-- what passing over an element that its parent does not hold says: rows and text are left alone
 pub record Ignores (doc : List ℕ) (c : StartTag) (f : Fill) (w w' : List ℕ) (r : Result Fill Refusal) : Type 0 where
   pub onward : Onward doc f r
   pub ends :
@@ -235,7 +235,7 @@ pub record Captures (doc : List ℕ) (c : StartTag) (i : ℕ) (f : Fill) (rows r
       Stands u (lent rows w bytes) f →
       Ends doc (runs doc c.end (docstring_in whole doc t fs i u)) fs i (take i u.rows) (lent rows' w bytes) r
 
--- what reading a docstring or an element that nobody asked for says, in every element that holds docstrings, with row i
+-- what reading a docstring or an element that its parent does not hold says, in every element that holds docstrings, with row i
 pub record Others (doc : List ℕ) (c : StartTag) (i : ℕ) (f : Fill) (rows rows' w w' : List ℕ) (r : Result Fill Refusal) : Type 0 where
   pub onward : Onward doc f r
   pub ends :

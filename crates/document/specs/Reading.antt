@@ -165,7 +165,7 @@ module _ {A : Type 0} where
   abbrev pub judged : Definition → Tables A → Tables A
   judged d t = let r = dropped (reason_of d) d t in if (eqb (reason_of d) 0) t r
 
-  -- the last nonempty docstring wins, trimmed of White_Space
+  -- the last nonempty docstring counts, trimmed of White_Space
   abbrev pub captured : List ℕ → ℕ → ℕ → Tables A → Tables A
   captured content s i t =
       let r : Tables A = record { rows = documented i (record { start = s + trim_start content; len = trim_end content - trim_start content }) t.rows; warnings = t.warnings } in
@@ -208,7 +208,7 @@ module _ {A : Type 0} (keep : Keeping A) (doc : List ℕ) where
   unfoldable pub begins : ℕ → Tag → List Frame → Tables A → State A
   begins k t fs u = opened k t (opens_as keep k (parent_of fs) t) fs u
 
-  -- an element that nobody asked for: its warning, then its content
+  -- an element that its parent does not hold: its warning, then its content
   unfoldable pub unsupported : Tag → List Frame → Tables A → State A
   unsupported t fs u =
       let w = with_warning 1 t.at t.name u in

@@ -1,4 +1,4 @@
--- What stands in a tag (docs/FORMAT.md, Tags): well_formed attributes are gathered first; then, one by one, duplicate
+-- What stands in a tag (docs/FORMAT.md, Tags): well-formed attributes are gathered first; then, one by one, duplicate
 -- before reference. Each function has what is left of the document and the place where that begins.
 use Rattle.std.specs.Prelude.{ℕ, zero, suc, ◌+◌, List, [], ◌∷◌, Bool, true, false, not, ◌&&◌, eqb, length}
 use Rattle.std.proofs.Math.Option.{Option, none, some}

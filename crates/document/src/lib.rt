@@ -103,7 +103,7 @@ pub struct Counts {
 pub type Verdict = Result<Counts, Refusal>;
 
 // How the raw value of an attribute shows its text: as it stands, or changed; or there is no such attribute.
-// No Option of a value: that takes four bytes more for each of a tag's seven values, by which reading takes 2 % more time.
+// No Option of a value: that takes four bytes more for each of a tag's seven values, by which reading takes longer.
 #[derive(Clone, Copy)]
 pub enum Form {
     Absent,
@@ -222,7 +222,7 @@ pub enum Next {
 // What reading goes over and what it fills: the document, the classes of its bytes, and the buffers that the caller lends.
 // They are lent, since the library has no heap.
 // Functions that fill nothing take the document and the classes apart, and say in a clause that it is short: by a struct of the two, lent by
-// reference, reading takes 2 % more time.
+// reference, reading takes longer.
 #[derive(Drop)]
 pub struct Reader<'a, 'r> {
     pub doc: &'a [u8],

@@ -132,6 +132,10 @@ pub enum_kind : TypedKind kinds.enum
 unfolding opens_as
 enum_kind = record { is = λ p t. refl }
 
+pub node_kind : UntypedKind kinds.node
+unfolding opens_as
+node_kind = record { is = λ p t. refl }
+
 pub struct_kind : UntypedKind kinds.struct
 unfolding opens_as
 struct_kind = record { is = λ p t. refl }
@@ -190,10 +194,6 @@ pub named_start : {doc : List ℕ} {c : StartTag} {k p : ℕ} {good : List ℕ �
 named_start {p = p} i = record { is = λ t z. i.is p t }
 
 module _ {doc : List ℕ} {c : StartTag} {f : Fill} (r : Ready doc c f) {p : ℕ} {h : Head} {rows rows' text text' : List ℕ} {g : Fill} where
-  pub node_done : h ≡ head_of c kinds.node p 0 → RowPut doc h c.values.name absent absent f rows rows' text text' g → Opening doc kinds.node c p f rows rows' text text' (Ok g)
-  unfolding opens_as
-  node_done e q = opened r r.fits.values.name (absent_fits r) (absent_fits r) e q (λ t z. (attr (bytes "name") t, none, none, refl, z.values.name, refl, refl))
-
   pub untyped_done : {k : ℕ} → UntypedKind k → h ≡ head_of c k p 0 → RowPut doc h c.values.name absent absent f rows rows' text text' g → Opening doc k c p f rows rows' text text' (Ok g)
   untyped_done i e q = opened r r.fits.values.name (absent_fits r) (absent_fits r) e q (λ t z. (attr (bytes "name") t, none, none, i.is p t, z.values.name, refl, refl))
 

@@ -2,11 +2,12 @@
 use Rattle.std.specs.Prelude.{ℕ, suc, ◌≡◌, List, Bool, not, eqb, Result, Ok, Err}
 use Rattle.std.proofs.Math.Option.{none}
 use Rattle.slices.specs.Bytes.{bytes}
+use Rattle.shown.specs.Outcome.{Tests}
 use Rattle.document.specs.Tags.{Shown}
 use Rattle.document.specs.Tokens.{Tag}
 use Rattle.document.specs.Elements.{attr, access_of, directed, row, Opened, opens, refuses, required, valid, named_row, opens_as}
 use Rattle.document.specs.Refusals.{bare, showing, raw_of}
-use Rattle.document.specs.Outcome.{ValueIs, TagIs, whole}
+use Rattle.document.specs.Outcome.{ValueIs, TagIs, Held, whole}
 use Rattle.document.specs.declared.Refusal.{Refusal}
 use Rattle.document.specs.declared.Value.{Value}
 use Rattle.document.specs.declared.StartTag.{StartTag}
@@ -38,14 +39,23 @@ pub record Accesses (doc : List ℕ) (c : StartTag) (r : Result ℕ Refusal) : T
 pub record Directs (doc : List ℕ) (c : StartTag) (r : Result ℕ Refusal) : Type 0 where
   pub is : Steps doc c ◌≡◌ (λ t f. directed whole (attr (bytes "direction") t) t f) r
 
+-- the value of a tag, which is the attribute of some key, is there; `key` is that key's word in refusal 12
+abbrev pub Demands : StartTag → Value → ℕ → Result (Unit {0}) Refusal → Type 0
+Demands c v key r = (doc k : List ℕ) → AttributeIs doc c v k → Steps doc c (λ u s. Held doc v s) (demanded key k) r
+
+-- and its text passes the test whose answers are given, whatever class of texts that is; or the tag is refused with a number
+abbrev pub DemandsGood : (Bool → Type 0) → List ℕ → StartTag → Value → ℕ → ℕ → Result (Unit {0}) Refusal → Type 0
+DemandsGood answers doc c v key number r =
+    (p : List ℕ → Bool) (k : List ℕ) → ((b : Bool) → answers b → Tests p doc v b) → AttributeIs doc c v k → Steps doc c (λ u s. Held doc v s) (tested key k number p) r
+
 -- interface, method and signal: name there, name good
 pub record NamedKind (good : List ℕ → Bool) (k : ℕ) : Type 0 where
   pub is : (p : ℕ) (t : Tag) → opens_as whole k p t ≡ named_row whole good k p t
 
--- simple_type and enum: name and type
+-- simple-type and enum: name and type
 pub record TypedKind (k : ℕ) : Type 0 where
   pub is : (p : ℕ) (t : Tag) → opens_as whole k p t ≡ opens (row whole t k p (attr (bytes "name") t) (attr (bytes "type") t) none 0)
 
--- struct and mapping: name
+-- node, struct and mapping: name
 pub record UntypedKind (k : ℕ) : Type 0 where
   pub is : (p : ℕ) (t : Tag) → opens_as whole k p t ≡ opens (row whole t k p (attr (bytes "name") t) none none 0)

@@ -3,12 +3,11 @@
 // That a parent is small is a clause of its own: the parent is no part of what `Ready` speaks of, and of the root it is 0.
 #![tactic(auto)]
 
-ghost use Rattle.std.specs.Prelude.{◌≡◌, ◌≤◌, ◌<◌, ◌+◌, ◌^◌, List, ℕ, Bool};
+ghost use Rattle.std.specs.Prelude.{◌≡◌, ◌≤◌, ◌<◌, ◌+◌, ◌^◌};
 ghost use Rattle.names.specs.Names.{member_name};
 ghost use Rattle.document.specs.Kinds as kinds;
-ghost use Rattle.document.specs.Outcome.{Held, Lies, Ready, Opening};
-ghost use Rattle.shown.specs.Outcome.{Tests};
-ghost use Rattle.elements.specs.Outcome.{Accesses, AttributeIs, Directs, NamedKind, TypedKind, UntypedKind, Steps, demanded, tested};
+ghost use Rattle.document.specs.Outcome.{Lies, Ready, Opening};
+ghost use Rattle.elements.specs.Outcome.{Accesses, Demands, DemandsGood, Directs, NamedKind, TypedKind, UntypedKind};
 
 use document::{Excerpt, Fill, Refusal, StartTag, Value, kinds};
 use rows::Head;
@@ -26,7 +25,7 @@ fn excerpt(v: Value) -> Excerpt
 // An attribute is there, or refusal 12, whose `key` says which one is missing: 1 name, 2 type, 3 access, 4 value.
 fn demand(c: &StartTag, v: Value, key: u32) -> Result<(), Refusal>
     requires { c.now.at + c.now.len < 2 ^ 32 }
-    ensures { (doc k : List ℕ) → AttributeIs doc c.now v k → Steps doc c.now (λ u s. Held doc v s) (demanded key k) result }
+    ensures { Demands c.now v key result }
 {
     if v.is_absent() {
         let name = Excerpt::new(c.at, c.len);
@@ -49,8 +48,7 @@ fn demand_good<P: Fn(&[u8], Value) -> bool>(
 ) -> Result<(), Refusal>
     requires small { c.now.at + c.now.len < 2 ^ 32 }
     requires callable { P.pre good doc v }
-    ensures { (p : List ℕ → Bool) (k : List ℕ) → ((r : Bool) → P.post good doc.entry v r → Tests p doc.now v r) → AttributeIs doc.now c.now v k
-        → Steps doc.now c.now (λ u s. Held doc.now v s) (tested key k number p) result }
+    ensures { DemandsGood (P.post good doc.entry v) doc.now c.now v key number result }
 {
     demand(c, v, key)?;
     if good(doc, v) {
@@ -86,35 +84,6 @@ fn direction_word(doc: &[u8], c: &StartTag) -> Result<u32, Refusal>
         0 => Err(document::showing(16, c.end, excerpt(v))),
         word => Ok(word),
     }
-}
-
-// A node: its name may be missing.
-#[tactic(auto, using(crate::proofs::Rows::elements))]
-pub fn node_row(
-    doc: &[u8],
-    rows: &mut [u32],
-    text: &mut [u8],
-    c: &StartTag,
-    parent: usize,
-    f: Fill,
-) -> Result<Fill, Refusal>
-    requires ready { Ready doc.now c.now f }
-    requires parent_small { parent ≤ 1048576 }
-    ensures { Opening doc.now kinds.node c.now parent f rows.old rows.new
-        text.old text.new result }
-{
-    let v = c.values;
-    let head = Head::new(kinds::NODE, parent, c.at);
-    Ok(rows::put_row(
-        doc,
-        rows,
-        text,
-        head,
-        v.name,
-        Value::ABSENT,
-        Value::ABSENT,
-        f,
-    ))
 }
 
 // An interface: name there, name good.
@@ -205,7 +174,7 @@ pub fn typed_row(
     Ok(rows::put_row(doc, rows, text, head, v.name, v.ty, Value::ABSENT, f))
 }
 
-// A struct or a mapping: its name may be missing.
+// A node, a struct or a mapping: its name may be missing.
 #[tactic(auto, using(crate::proofs::Rows::elements))]
 pub fn untyped_row(
     doc: &[u8],

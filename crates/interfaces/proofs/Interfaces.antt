@@ -7,7 +7,7 @@ use borrow.Author.Rules.{rules}
 use borrow.Author.Tests.{eq-eqb, ne_eqb}
 use lib.Dec.{eqb}
 use Rattle.std.specs.Prelude.{Result}
-use Rattle.slices.specs.Bytes.{if}
+use Rattle.slices.proofs.Runs.{if_true, if_same}
 use Rattle.document.specs.Kinds.{definitions, in_interface}
 use Rattle.document.specs.Elements.{among}
 use Rattle.document.specs.Outcome.{Lent, Begins, Child}
@@ -29,11 +29,7 @@ pub among_later : {k x : ℕ} {ks : List ℕ} {r : Bool} → (k ≡ x → ⊥) �
 among_later {k} {x} n h = record { is = rw (ne_eqb k x n) h.is }
 
 pub among_last : {k x : ℕ} → Among k (x ∷ []) (eqb k x)
-among_last {k} {x} = record { is = go (eqb k x) }
-  where
-    go : (t : Bool) → t ≡ if t true false
-    go true = refl
-    go false = refl
+among_last {k} {x} = record { is = sym (if_same (eqb k x)) }
 
 pub ruleset kinds = (among_first, among_later, among_last, rules)
 
@@ -52,11 +48,7 @@ pub holds_definitions : HoldsDefinitions definitions
 holds_definitions = record { is = λ k e. e }
 
 pub holds_more : {x : ℕ} {ks : List ℕ} → HoldsDefinitions ks → HoldsDefinitions (x ∷ ks)
-holds_more {x} h = record { is = λ k e. rw (h.is k e) (always (eqb k x)) }
-  where
-    always : (t : Bool) → if t true true ≡ true
-    always true = refl
-    always false = refl
+holds_more {x} h = record { is = λ k e. rw (h.is k e) (if_true (eqb k x)) }
 
 pub interface_holds : HoldsDefinitions in_interface
 interface_holds = holds_more (holds_more (holds_more (holds_more holds_definitions)))

@@ -1,9 +1,9 @@
 // Interfaces: the children of one, and which of them are definitions.
 #![tactic(auto)]
 
-ghost use Rattle.std.specs.Prelude.{◌+◌, ◌≤◌, ◌<◌, true, length};
+ghost use Rattle.std.specs.Prelude.{◌+◌, ◌≤◌, ◌<◌, true};
 ghost use Rattle.document.specs.Kinds as kinds;
-ghost use Rattle.document.specs.Outcome.{lent_to, Keeps, Ready, Begins, Child};
+ghost use Rattle.document.specs.Outcome.{lent_to, Keeps, Ready, Begins};
 ghost use Rattle.interfaces.specs.Among.{Among};
 
 use children::{Element, contents};

@@ -10,7 +10,8 @@ use Rattle.tables.specs.declared.Triple.{Triple}
 use Rattle.tables.specs.Triple.{inside, resolved}
 use Rattle.columns.specs.Entries.{Outcome}
 use Rattle.columns.specs.Entries as entries-of
-use Rattle.answers.specs.Text.{Text, answer_of, left_of, Says}
+use Rattle.answers.specs.Text.{Text, Makes}
+use Rattle.answers.proofs.Answers.{makes}
 use Rattle.messages.specs.Message.{message_of, warning_message_of}
 use Rattle.document.specs.Whole.{Room}
 use Rattle.faults.specs.declared.Fault.{Fault}
@@ -46,30 +47,27 @@ module _ {raw rows warnings text decoded ws : List ℕ} {room : Room} {k : ℕ} 
 
 -- of a text that was made
 module _ {lent out rs : List ℕ} {a : Result ℕ Fault} (h : rs ≡ answer_words a) where
-  pub text_made : (t : ℕ → Text) → a ≡ answer_of (t (length lent)) → out ≡ left_of (length lent) (t (length lent)) → MakesText t lent out rs
-  text_made t e l = record { words = h ∙ ap answer_words e; of_output = l }
-
-  pub text_said : (t : ℕ → Text) → Says (t (length lent)) (length lent) out a → MakesText t lent out rs
-  text_said t s = text_made t s.answer s.left
+  pub text_made : (t : ℕ → Text) → Makes t lent out a → MakesText t lent out rs
+  text_made t s = record { words = h ∙ ap answer_words s.answer; of_output = s.left }
 
   -- of a row that was written, and of a tree
   pub item_made : {document x ws : List ℕ} {n i : ℕ} → Writes document x ws n i (length lent) out a → MakesText (writing document x ws n i) lent out rs
-  item_made {document} {x} {ws} {n} {i} w = text_said (writing document x ws n i) w.says
+  item_made {document} {x} {ws} {n} {i} w = text_made (writing document x ws n i) (makes _ w.says)
 
   pub tree_made : {document x ws : List ℕ} {n i : ℕ} → WritesTree document x ws n i (length lent) out a → MakesText (tree_writing document x ws n i) lent out rs
-  tree_made {document} {x} {ws} {n} {i} w = text_said (tree_writing document x ws n i) w.says
+  tree_made {document} {x} {ws} {n} {i} w = text_made (tree_writing document x ws n i) (makes _ w.says)
 
   -- of a message
-  pub message_made : (document ws : List ℕ) → Says (message_of document (told_by ws) (length lent)) (length lent) out a → MakesText (message_by document ws) lent out rs
+  pub message_made : (document ws : List ℕ) → Makes (message_of document (told_by ws)) lent out a → MakesText (message_by document ws) lent out rs
   unfolding message_by
-  message_made document ws s = text_said (message_by document ws) s
+  message_made document ws s = record { words = h ∙ ap answer_words s.answer; of_output = s.left }
 
   pub warning_made :
       (document ws : List ℕ) →
-      Says (warning_message_of document (get_or ws 0 0) (get_or ws 2 0) (get_or ws 3 0) (length lent)) (length lent) out a →
+      Makes (warning_message_of document (get_or ws 0 0) (get_or ws 2 0) (get_or ws 3 0)) lent out a →
       MakesText (warning_message_by document ws) lent out rs
   unfolding warning_message_by
-  warning_made document ws s = text_said (warning_message_by document ws) s
+  warning_made document ws s = record { words = h ∙ ap answer_words s.answer; of_output = s.left }
 
   -- of several rows
   pub items_made :
@@ -80,8 +78,8 @@ module _ {lent out rs : List ℕ} {a : Result ℕ Fault} (h : rs ≡ answer_word
 
 -- of words that were made
 module _ {lent out rs : List ℕ} {a : Result (Unit {0}) Fault} where
-  pub words_made : (o : ℕ → Outcome) → rs ≡ columns_words a → a ≡ entries-of.answer_of (o (length lent)) → out ≡ entries-of.words_left (length lent) (o (length lent)) → MakesWords o lent out rs
-  words_made o h e l = record { words = h ∙ ap columns_words e; of_output = l }
+  pub words_made : (o : ℕ → Outcome) → rs ≡ columns_words a → entries-of.Makes o lent out a → MakesWords o lent out rs
+  words_made o h s = record { words = h ∙ ap columns_words s.answer; of_output = s.left }
 
 -- of definitions that were ordered
 pub order_made :

@@ -50,7 +50,7 @@ abbrev pub columns_words : Result (Unit {0}) Fault → List ℕ
 columns_words (Err f) = f.number ∷ f.place ∷ []
 columns_words (Ok u) = 0 ∷ 0 ∷ []
 
--- number, place, definitions, members that bear names of no row
+-- number, place, definitions, members whose tp type no row defines
 abbrev pub order_words : Result Ordered Fault → List ℕ
 order_words (Err f) = f.number ∷ f.place ∷ 0 ∷ 0 ∷ []
 order_words (Ok o) = 0 ∷ 0 ∷ o.definitions ∷ o.unnamed ∷ []
@@ -86,23 +86,25 @@ outcome_words o = columns_words (entries.answer_of o)
 abbrev pub ordering_words : ordering.Outcome → List ℕ
 ordering_words o = order_words (ordering.answer_of o)
 
--- `made` is what comes of a room. Text is made in the room of the buffer lent: the answer's words, and what is left in the buffer
+-- ---- the answer's words, and what is left in the buffers lent; `made` tells what is made in each room, and the room is that of the buffer lent
+
+-- of a text
 pub record MakesText (made : ℕ → Text) (lent output answer : List ℕ) : Type 0 where
   pub words : answer ≡ text_words (made (length lent))
   pub of_output : output ≡ left_of (length lent) (made (length lent))
 
--- so are words
+-- of words
 pub record MakesWords (made : ℕ → Outcome) (lent output answer : List ℕ) : Type 0 where
   pub words : answer ≡ outcome_words (made (length lent))
   pub of_output : output ≡ entries.words_left (length lent) (made (length lent))
 
--- so is an order of definitions, over words lent for work, which are zero afterwards
+-- of an order of definitions; the words lent for work are zeros afterwards
 pub record MakesOrder (made : ℕ → ordering.Outcome) (lent lent_work output work answer : List ℕ) : Type 0 where
   pub words : answer ≡ ordering_words (made (length lent))
   pub of_output : output ≡ ordering.left_of (length lent) (made (length lent))
   pub of_work : work ≡ replicate (length lent_work) 0
 
--- so are several items, with the words lent for their ends
+-- of several items, with words lent for their ends
 pub record MakesItems (made : ℕ → ℕ → Text) (ends_made : ℕ → ℕ → List ℕ) (lent lent_ends output ends answer : List ℕ) : Type 0 where
   pub words : answer ≡ text_words (made (length lent) (length lent_ends))
   pub of_output : output ≡ left_of (length lent) (made (length lent) (length lent_ends))

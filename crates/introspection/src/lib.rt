@@ -92,7 +92,7 @@ fn columns_words(a: Result<(), Fault>) -> [u64; 2]
     }
 }
 
-// Number, place, definitions, members that bear names of no row.
+// Number, place, definitions, members whose tp type no row defines.
 fn order_words(a: Result<Ordered, Fault>) -> [u64; 4]
     ensures { result ≡ order_words a }
 {

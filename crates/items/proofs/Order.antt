@@ -41,7 +41,7 @@ module _ (f : ℕ → ℕ) where
       let a = follow_falls n (λ k l. o k (omega arith)) in
       falls_more n a (under_before n a (o n (omega arith)) (omega arith))
 
-  -- after row k, whose parent is not after row i, no row has row i for its parent
+  -- after row k, whose parent stands before row i, no row has row i for its parent
   module _ (n : ℕ) (o : Follow f n) (i k : ℕ) (l : i < k) (p : f k ≤ i) where
     left : (m : ℕ) → k ≤ m → m < n → Under f (suc i) (suc m) → ⊥
     left zero a b h = absurd (omega arith)

@@ -42,7 +42,7 @@ nameless = kinds.node ∷ kinds.arg ∷ []
 abbrev pub name_use : ℕ → Use
 name_use k = if (among k nameless) optional required
 
--- words 5-7: value of annotation and enumvalue; signature of property, arg, simple_type, enum, member; present where used
+-- words 5-7: value of annotation and enumvalue; signature of property, arg, simple-type, enum, member; present where used
 abbrev pub valued : List ℕ
 valued =
     kinds.property

@@ -78,6 +78,10 @@ viewed document text r = record {
   at = 0;
 }
 
+-- row i of a lent table, with what it shows
+abbrev pub shown_row : List ℕ → List ℕ → List ℕ → ℕ → Row (List ℕ)
+shown_row d x ws i = viewed d x (row_of (drop (i * 16) ws))
+
 -- the first n rows of a table, with the bytes that they show
 abbrev pub rows_shown : List ℕ → List ℕ → List ℕ → ℕ → List (Row (List ℕ))
 rows_shown document text ws n = map (viewed document text) (rows_of n ws)

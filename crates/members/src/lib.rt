@@ -2,9 +2,9 @@
 // That a parent is small is a clause of its own, as in `elements`: the parent is no part of what `Ready` speaks of.
 #![tactic(auto)]
 
-ghost use Rattle.std.specs.Prelude.{◌+◌, ◌≤◌, ◌<◌, [], true, false, length};
+ghost use Rattle.std.specs.Prelude.{◌+◌, ◌≤◌, ◌<◌, [], true, false};
 ghost use Rattle.document.specs.Kinds as kinds;
-ghost use Rattle.document.specs.Outcome.{lent_to, Keeps, Ready, Begins, Child};
+ghost use Rattle.document.specs.Outcome.{lent_to, Keeps, Ready, Begins};
 ghost use Rattle.members.specs.Kinds.{CallableKind};
 
 use children::{Element, contents};

@@ -11,7 +11,7 @@ use lib.ListN.{length}
 use Rattle.std.specs.Prelude.{Result}
 use Rattle.faults.specs.declared.Fault.{Fault}
 use Rattle.answers.specs.Text.{wrong, Says}
-use Rattle.answers.proofs.Answers.{told}
+use Rattle.answers.proofs.Answers.{makes, told}
 use Rattle.messages.specs.Message.{message_of, warned, warning_message_of}
 use Rattle.messages.specs.Steps.{Plainly, Turned, Warned}
 use Rattle.messages.specs.declared.Wide.{Wide}
@@ -47,4 +47,4 @@ module _ {u : List ℕ} {r : Result ℕ Fault} where
     warning_told e l s = rw (le-ltb 1048576 (length doc) l) (s.says (warned reason start len) (sym e))
 
 -- what answers every need of the entries
-pub ruleset entries = (told, message_two, message_long, message_told, warning_long, warning_told, rules)
+pub ruleset entries = (makes, told, message_two, message_long, message_told, warning_long, warning_told, rules)

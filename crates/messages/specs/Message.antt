@@ -67,7 +67,7 @@ known (p ∷ ps) t = t
 abbrev pub message_by : List ℕ → Told → List Piece → Text
 message_by doc x ps = known ps (composed doc x ps)
 
--- order: 2, unless the number turned is 2; 19 at 0; 21 at the bytes needed
+-- order: 2, unless the number told is 2; 19 at 0; 21 at the bytes needed
 unfoldable pub message_of : List ℕ → Told → ℕ → Text
 message_of doc x room =
     let r = roomy room (message_by doc x (pieces_of refusals x.number)) in

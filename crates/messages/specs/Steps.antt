@@ -2,13 +2,17 @@
 use Rattle.std.specs.Prelude.{ℕ, ◌+◌, ◌≤◌, ◌<◌, ◌≡◌, List, [], ◌∷◌, ◌++◌, length, Result}
 use Rattle.faults.specs.declared.Fault.{Fault}
 use Rattle.slices.specs.Bytes.{bytes}
-use Rattle.answers.specs.Text.{text, roomy, Says}
+use Rattle.answers.specs.Text.{Text, text, roomy, Says}
 use Rattle.answers.specs.Puts.{Puts}
 use Rattle.references.specs.Unescape.{unescape}
 use Rattle.messages.specs.Texts.{words, refusals, warnings, pieces_of, key_name}
 use Rattle.messages.specs.Message.{excerpt_of, framed, message_by}
 use Rattle.messages.specs.declared.Wide.{Wide}
 use Rattle.messages.specs.declared.Told.{Told}
+
+-- the answer and the bytes left are those of a text in the room of the buffer lent
+abbrev pub Fills : Text → List ℕ → List ℕ → Result ℕ Fault → Type 0
+Fills t lent = Says (roomy (length lent) t) (length lent)
 
 -- a number is none of a list
 abbrev pub NoneOf : ℕ → List ℕ → Type 0

@@ -1,8 +1,8 @@
 // Messages: a refusal or a warning, with its document, as the bytes that the Rust's `message()` gives.
 #![tactic(auto)]
 
-ghost use Rattle.std.specs.Prelude.{◌≡◌, length};
-ghost use Rattle.answers.specs.Text.{Says};
+ghost use Rattle.std.specs.Prelude.{◌≡◌};
+ghost use Rattle.answers.specs.Text.{Makes};
 ghost use Rattle.messages.specs.Message.{message_of, warning_message_of, widened};
 
 use answers::TextAnswer;
@@ -46,8 +46,7 @@ pub struct Told {
 // The message of a refusal. A document of more than 1,048,576 bytes is refused with 2, unless that is the number told; what has no message
 // with 19, and one that has no room with 21 and the bytes needed.
 pub fn message(document: &[u8], told: Told, out: &mut [u8]) -> TextAnswer
-    ensures { Says (message_of document.now told (length out.old))
-        (length out.old) out.new result }
+    ensures { Makes (message_of document.now told) out.old out.new result }
 {
     let number = told.number;
     if number == 2 {
@@ -68,8 +67,8 @@ pub fn warning_message(
     len: u32,
     out: &mut [u8],
 ) -> TextAnswer
-    ensures { Says (warning_message_of document.now reason start len (length out.old))
-        (length out.old) out.new result }
+    ensures { Makes (warning_message_of document.now reason start len)
+        out.old out.new result }
 {
     if 1048576 < document.len() {
         return answers::refuse(out, Fault::new(2, 1048576));

@@ -1,9 +1,9 @@
 // What a message shows, and words around it.
 ghost use Rattle.std.specs.Prelude.{◌≡◌, ◌<◌, length, IfSome, IfNone};
-ghost use Rattle.answers.specs.Text.{Says, text, wrong, roomy};
+ghost use Rattle.answers.specs.Text.{text, wrong};
 ghost use Rattle.messages.specs.Message.{is_shown, excerpt_of, or_unsound, unescaped_of, framed};
 ghost use Rattle.references.specs.Unescape.{unescape};
-ghost use Rattle.messages.specs.Steps.{Around, Unescaped, Mismatched, Unexpected};
+ghost use Rattle.messages.specs.Steps.{Fills, Around, Unescaped, Mismatched, Unexpected};
 
 use crate::Wide;
 use crate::parts::{Frame, Part};
@@ -44,8 +44,7 @@ fn excerpt(document: Part, t: Wide) -> Option<Part>
 #[tactic(auto, using(crate::proofs::Framed::framing))]
 pub fn plain(words: &[u8], out: &mut [u8]) -> TextAnswer
     requires { length words.now < 1024 }
-    ensures { Says (roomy (length out.old) (text words.now)) (length out.old)
-        out.new result }
+    ensures { Fills (text words.now) out.old out.new result }
 {
     let n = put::put_bytes(out, 0, words);
     answers::finish(out, n, Fault::new(21, n))
@@ -63,9 +62,9 @@ fn put_framed(part: Part, frame: Frame, out: &mut [u8]) -> usize
 
 // Words around a part of a document.
 fn framed(part: Part, frame: Frame, out: &mut [u8]) -> TextAnswer
-    ensures { Says
-        (roomy (length out.old) (framed frame.entry.before.now (text part.entry.bytes.now) frame.entry.after.now))
-        (length out.old) out.new result }
+    ensures { Fills
+        (framed frame.entry.before.now (text part.entry.bytes.now) frame.entry.after.now)
+        out.old out.new result }
 {
     let n = put_framed(part, frame, out);
     answers::finish(out, n, Fault::new(21, n))
@@ -73,9 +72,9 @@ fn framed(part: Part, frame: Frame, out: &mut [u8]) -> TextAnswer
 
 // Words around what a triple shows.
 pub fn named(document: Part, t: Wide, frame: Frame, out: &mut [u8]) -> TextAnswer
-    ensures { Says
-        (roomy (length out.old) (framed frame.entry.before.now (excerpt_of document.entry.bytes.now t) frame.entry.after.now))
-        (length out.old) out.new result }
+    ensures { Fills
+        (framed frame.entry.before.now (excerpt_of document.entry.bytes.now t) frame.entry.after.now)
+        out.old out.new result }
 {
     match excerpt(document, t) {
         Some(shown) => framed(shown, frame, out),
@@ -95,9 +94,9 @@ fn put_unescaped(value: Part, frame: Frame, out: &mut [u8]) -> usize
 
 // Words around what a raw value shows.
 fn unescaped(value: Part, frame: Frame, out: &mut [u8]) -> TextAnswer
-    ensures { Says
-        (roomy (length out.old) (framed frame.entry.before.now (or_unsound (unescape value.entry.bytes.now)) frame.entry.after.now))
-        (length out.old) out.new result }
+    ensures { Fills
+        (framed frame.entry.before.now (or_unsound (unescape value.entry.bytes.now)) frame.entry.after.now)
+        out.old out.new result }
 {
     match references::check(value.bytes) {
         Err(_) => answers::refuse(out, Fault::new(19, 0)),
@@ -111,9 +110,10 @@ fn unescaped(value: Part, frame: Frame, out: &mut [u8]) -> TextAnswer
 // Words around the raw value at a triple, unescaped.
 // Not one function with `named`: both share a match of two lines, and what differs would be handed over with clauses of its own.
 pub fn valued(document: Part, t: Wide, frame: Frame, out: &mut [u8]) -> TextAnswer
-    ensures { Says
-        (roomy (length out.old) (framed frame.entry.before.now (unescaped_of (excerpt_of document.entry.bytes.now t)) frame.entry.after.now))
-        (length out.old) out.new result }
+    ensures { Fills
+        (framed frame.entry.before.now (unescaped_of (excerpt_of document.entry.bytes.now t))
+        frame.entry.after.now)
+        out.old out.new result }
 {
     match excerpt(document, t) {
         Some(value) => unescaped(value, frame, out),

@@ -11,10 +11,10 @@ use native.Mathlib.Omega.{arith}
 use lib.Dec.{T, eqb, leb, eqb-suc-suc, eqb-zero-suc}
 use lib.ListN.{length, drop, get_or, length-drop, drop_of_length-le}
 use lib.Seq.{drop-cons, drop-drop, get_or-drop}
-use Rattle.slices.specs.Bytes.{if, all, span}
+use Rattle.slices.specs.Bytes.{if, all, span, digit}
 use Rattle.slices.specs.Run.{Run}
 use Rattle.slices.proofs.Runs.{both, and_both, if_false, by_byte, span_end}
-use Rattle.names.specs.Names.{digit, element_byte, element, grown, elements, every, interface_name, member_name}
+use Rattle.names.specs.Names.{element_byte, element, grown, elements, every, interface_name, member_name}
 use Rattle.names.specs.Checks.{lead, Element}
 
 -- a run is of the class, and it is all there is where it is as long

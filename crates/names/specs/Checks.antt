@@ -1,7 +1,7 @@
 -- What the functions that check a part of a name or of a signature say.
 use Rattle.std.specs.Prelude.{ℕ, ◌+◌, ◌≤◌, ◌<◌, ◌≡◌, List, [], ◌∷◌, Bool, false, not, length, drop, Option, None, Some}
-use Rattle.slices.specs.Bytes.{if, span}
-use Rattle.names.specs.Names.{digit, element_byte}
+use Rattle.slices.specs.Bytes.{if, span, digit}
+use Rattle.names.specs.Names.{element_byte}
 use Rattle.names.specs.Signature.{Open, State, is_array, count, begins, accepts, ended}
 
 -- the element that a text begins with, or nothing

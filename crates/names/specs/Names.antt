@@ -1,9 +1,6 @@
 -- Names, by the D-Bus Specification, Message Protocol, Valid Names.
 use Rattle.std.specs.Prelude.{ℕ, List, [], ◌∷◌, Bool, true, false, not, ◌&&◌, ◌||◌, eqb, leb, length}
-use Rattle.slices.specs.Bytes.{if, all, empty}
-
-abbrev pub digit : ℕ → Bool
-digit b = leb 48 b && leb b 57
+use Rattle.slices.specs.Bytes.{if, digit, all, empty}
 
 -- [A-Z][a-z][0-9]_
 abbrev pub element_byte : ℕ → Bool

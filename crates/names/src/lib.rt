@@ -3,7 +3,8 @@
 #![tactic(auto)]
 
 ghost use Rattle.std.specs.Prelude.{◌≡◌, ◌≤◌, length};
-ghost use Rattle.names.specs.Names.{digit, element_byte, interface_name, member_name, property_name};
+ghost use Rattle.slices.specs.Bytes.{digit};
+ghost use Rattle.names.specs.Names.{element_byte, interface_name, member_name, property_name};
 ghost use Rattle.names.specs.Signature.{basic_code, basic_signature, signature};
 ghost use Rattle.names.specs.Checks.{Element, Typed, Fielded, Entered};
 

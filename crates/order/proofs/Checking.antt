@@ -18,13 +18,13 @@ use Rattle.utf8.proofs.Sequences.{below}
 use Rattle.document.specs.Kinds as kinds
 use Rattle.document.specs.Elements.{among}
 use Rattle.document.proofs.Tests.{among_append}
-use Rattle.items.specs.Words.{Word, rows_shown}
+use Rattle.items.specs.Words.{Word, rows_shown, shown_row}
 use Rattle.items.specs.Content.{Row}
 use Rattle.items.proofs.Words.{word_in}
 use Rattle.order.specs.Relation.{Chain, one}
 use Rattle.order.specs.Types.{member_in, uses}
 use Rattle.order.specs.Lookup.{listed, referred_by, targets_in, targets}
-use Rattle.order.specs.Steps.{Held, Adds, shown_at, Defines, MemberIn, Within, found, target, Target, BearsNone}
+use Rattle.order.specs.Steps.{Held, Adds, Defines, MemberIn, Within, found, target, Target, BearsNone}
 use Rattle.order.specs.Certificate.{Got, IsParent, member_of, Falls, EdgeFalls, Late, RowFalls, Members, Follows, IsCircle, run_of, RunIs, Runs, RunBefore, Above, IsNoted, Placed, IsNext, PlacedBefore, IsPlaced, ArePlaced}
 use Rattle.order.proofs.Lists.{clash, apart, or_else, first_true, second_true, each_below}
 use Rattle.order.proofs.Circles.{chained}
@@ -59,19 +59,19 @@ target_among t i j (r ∷ ms) (suc m) row rest d e f = go (member_in i r) (targe
     go false h = h
 
 module _ (d x ws : List ℕ) (n i j : ℕ) where
-  pub used_by : {P : Type 0} → uses (rows_shown d x ws n) i j ≡ true → ((m : ℕ) → m < n → member_in i (shown_at d x ws m) ≡ true → among j (referred_by (rows_shown d x ws n) (shown_at d x ws m).tp) ≡ true → P) → P
+  pub used_by : {P : Type 0} → uses (rows_shown d x ws n) i j ≡ true → ((m : ℕ) → m < n → member_in i (shown_row d x ws m) ≡ true → among j (referred_by (rows_shown d x ws n) (shown_row d x ws m).tp) ≡ true → P) → P
   unfolding targets
   used_by u f =
       in_targets (rows_shown d x ws n) i j (rows_shown d x ws n) (sym (uses_targets (rows_shown d x ws n) i j) ∙ u)
       (λ m row rest e a b. below m n
-      (λ l. let p : row ≡ shown_at d x ws m = cc (e, shown_rows_from d x ws n m l) in f m l (rw p at a) (rw p at b))
+      (λ l. let p : row ≡ shown_row d x ws m = cc (e, shown_rows_from d x ws n m l) in f m l (rw p at a) (rw p at b))
       (λ l. let z : ◌≡◌ {A = ℕ} 0 1 = cc (e, shown_past d x ws n m l) in absurd (omega arith)))
 
-  pub by_member : (m : ℕ) → m < n → member_in i (shown_at d x ws m) ≡ true → among j (referred_by (rows_shown d x ws n) (shown_at d x ws m).tp) ≡ true → uses (rows_shown d x ws n) i j ≡ true
+  pub by_member : (m : ℕ) → m < n → member_in i (shown_row d x ws m) ≡ true → among j (referred_by (rows_shown d x ws n) (shown_row d x ws m).tp) ≡ true → uses (rows_shown d x ws n) i j ≡ true
   unfolding targets
   by_member m l a b =
       uses_targets (rows_shown d x ws n) i j
-      ∙ target_among (rows_shown d x ws n) i j (rows_shown d x ws n) m (shown_at d x ws m) (drop (suc m) (rows_shown d x ws n)) (shown_rows_from d x ws n m l) a b
+      ∙ target_among (rows_shown d x ws n) i j (rows_shown d x ws n) m (shown_row d x ws m) (drop (suc m) (rows_shown d x ws n)) (shown_rows_from d x ws n m l) a b
 
 -- a tp type refers to what it names as it is, and to what it names less `[]`
 target_referred : (t : List Row) (less : Bool) (tp : Option (List ℕ)) (j : ℕ) → target t less tp ≡ some j → among j (referred_by t tp) ≡ true
@@ -97,7 +97,7 @@ module _ {d x ws work : List ℕ} {n p m : ℕ} where
 
   pub row_other : {k : ℕ} → Word ws m 0 k → (k ≡ kinds.member → ⊥) → RowFalls d x ws n work p m (Some false)
   row_other {k} w h =
-      let o : eqb (shown_at d x ws m).kind kinds.member ≡ false = rw (← word_in w) (ne_eqb k kinds.member h) in
+      let o : eqb (shown_row d x ws m).kind kinds.member ≡ false = rw (← word_in w) (ne_eqb k kinds.member h) in
       record {
         falls = λ b e i j a. clash a (rw o);
         noted = λ b e y i a. clash a (rw o);
@@ -105,22 +105,22 @@ module _ {d x ws work : List ℕ} {n p m : ℕ} where
       }
 
   module _ {u : ℕ} {o e f : Maybe ℕ} {b c : Bool} (w : IsParent d x ws n m o) (v : o ≡ Some u) (l : m < n) (s : Target d x ws n false m e) (t : Target d x ws n true m f) (y : EdgeFalls n work p u (m + m + 1) e b) (yb : not b ≡ false) (z : EdgeFalls n work p u (m + m + 2) f c) (zc : not c ≡ false) where
-    owner : (i : ℕ) → member_in i (shown_at d x ws m) ≡ true → u ≡ i
+    owner : (i : ℕ) → member_in i (shown_row d x ws m) ≡ true → u ≡ i
     owner i a =
-        let o = (and_both (eqb (shown_at d x ws m).kind 12) (eqb (shown_at d x ws m).parent (suc i)) a).1 in
-        omega (arith, w.is u v, eqb-true (shown_at d x ws m).parent (suc i) o)
+        let o = (and_both (eqb (shown_row d x ws m).kind kinds.member) (eqb (shown_row d x ws m).parent (suc i)) a).1 in
+        omega (arith, w.is u v, eqb-true (shown_row d x ws m).parent (suc i) o)
 
-    falls_to : (less : Bool) (j : ℕ) → target (rows_shown d x ws n) less (shown_at d x ws m).tp ≡ some j → Falls n work p u j
+    falls_to : (less : Bool) (j : ℕ) → target (rows_shown d x ws n) less (shown_row d x ws m).tp ≡ some j → Falls n work p u j
     falls_to false j o = y.falls (not-false b yb) j (s.finds.is ∙ ap found o)
     falls_to true j o = z.falls (not-false c zc) j (t.finds.is ∙ ap found o)
 
-    row_falls : (i j : ℕ) → member_in i (shown_at d x ws m) ≡ true → among j (referred_by (rows_shown d x ws n) (shown_at d x ws m).tp) ≡ true → Falls n work p i j
-    row_falls i j a r = referred_cases (rows_shown d x ws n) (shown_at d x ws m).tp j r (λ less o. rw (owner i a) at (falls_to less j o))
+    row_falls : (i j : ℕ) → member_in i (shown_row d x ws m) ≡ true → among j (referred_by (rows_shown d x ws n) (shown_row d x ws m).tp) ≡ true → Falls n work p i j
+    row_falls i j a r = referred_cases (rows_shown d x ws n) (shown_row d x ws m).tp j r (λ less o. rw (owner i a) at (falls_to less j o))
 
-    late : (i j : ℕ) (less : Bool) → member_in i (shown_at d x ws m) ≡ true → target (rows_shown d x ws n) less (shown_at d x ws m).tp ≡ some j → run_of n work i ≤ get_or work (n + j) 0 + 1 → Late (rows_shown d x ws n) n work i
-    late i j less a o k r f = omega (arith, k, f j (by_member d x ws n i j m l a (target_referred (rows_shown d x ws n) less (shown_at d x ws m).tp j o)))
+    late : (i j : ℕ) (less : Bool) → member_in i (shown_row d x ws m) ≡ true → target (rows_shown d x ws n) less (shown_row d x ws m).tp ≡ some j → run_of n work i ≤ get_or work (n + j) 0 + 1 → Late (rows_shown d x ws n) n work i
+    late i j less a o k r f = omega (arith, k, f j (by_member d x ws n i j m l a (target_referred (rows_shown d x ws n) less (shown_row d x ws m).tp j o)))
 
-    row_noted : n ≤ p → (i : ℕ) → member_in i (shown_at d x ws m) ≡ true → 0 < get_or work (n + n + i) 0 → member_of (get_or work (n + n + i) 0) ≡ m → Late (rows_shown d x ws n) n work i
+    row_noted : n ≤ p → (i : ℕ) → member_in i (shown_row d x ws m) ≡ true → 0 < get_or work (n + n + i) 0 → member_of (get_or work (n + n + i) 0) ≡ m → Late (rows_shown d x ws n) n work i
     row_noted k i a pos o =
         let r : u ≡ i = owner i a in
         below (get_or work (n + n + i) 0) (m + m + 2)
@@ -151,8 +151,8 @@ target_place f = f.finds.within
 pub ruleset row_falling = (row_never, row_other, row_told, parent_below, target_place, row_held, held_few, rules)
 
 pub record Fallen (d x ws : List ℕ) (n : ℕ) (work : List ℕ) (p k c : ℕ) : Type 0 where
-  pub falls : (m : ℕ) → m < k → (i j : ℕ) → member_in i (shown_at d x ws m) ≡ true → among j (referred_by (rows_shown d x ws n) (shown_at d x ws m).tp) ≡ true → Falls n work p i j
-  pub noted : n ≤ p → (m : ℕ) → m < k → (i : ℕ) → member_in i (shown_at d x ws m) ≡ true → 0 < get_or work (n + n + i) 0 → member_of (get_or work (n + n + i) 0) ≡ m → Late (rows_shown d x ws n) n work i
+  pub falls : (m : ℕ) → m < k → (i j : ℕ) → member_in i (shown_row d x ws m) ≡ true → among j (referred_by (rows_shown d x ws n) (shown_row d x ws m).tp) ≡ true → Falls n work p i j
+  pub noted : n ≤ p → (m : ℕ) → m < k → (i : ℕ) → member_in i (shown_row d x ws m) ≡ true → 0 < get_or work (n + n + i) 0 → member_of (get_or work (n + n + i) 0) ≡ m → Late (rows_shown d x ws n) n work i
   pub counted : Missing d x ws n k c
 
 pub fallen_begins : {d x ws work : List ℕ} {n p : ℕ} → Fallen d x ws n work p 0 0
@@ -188,7 +188,7 @@ follow_past = record { is = λ k e. absurd (cc); within = λ k e. absurd (cc) }
 
 pub follow_target : {d x ws : List ℕ} {n r m : ℕ} {j : Maybe ℕ} {b less : Bool} → m < n → MemberIn d x ws r m b → b ≡ true → Target d x ws n less m j → Follows (rows_shown d x ws n) n r j
 follow_target {d} {x} {ws} {n} {r} {m} {j} {b} {less} l a h f = record {
-  is = λ k e. by_member d x ws n r k m l (sym a.is ∙ h) (target_referred (rows_shown d x ws n) less (shown_at d x ws m).tp k (finds_some f.finds e));
+  is = λ k e. by_member d x ws n r k m l (sym a.is ∙ h) (target_referred (rows_shown d x ws n) less (shown_row d x ws m).tp k (finds_some f.finds e));
   within = f.finds.within.is;
 }
 

@@ -15,12 +15,12 @@ use Rattle.slices.specs.Bytes.{if, empty}
 use Rattle.tables.specs.Triple.{shown}
 use Rattle.tables.specs.declared.Triple.{Triple}
 use Rattle.document.specs.Kinds as kinds
-use Rattle.items.specs.Words.{Word, TripleIs, row_of, rows_shown, absent}
+use Rattle.items.specs.Words.{Word, TripleIs, row_of, rows_shown, absent, shown_row}
 use Rattle.items.specs.Content.{Row}
 use Rattle.items.proofs.Words.{word_in}
 use Rattle.order.specs.Types.{defines, definitions_from, typed, defined, is_undefined, undefined_in, undefined}
 use Rattle.order.specs.Lookup.{listed, referred, referred_by}
-use Rattle.order.specs.Steps.{shown_at, Defines, target, Target, Adds, BearsNone, IsUndefined, CountsUndefined, CountsDefinitions}
+use Rattle.order.specs.Steps.{Defines, target, Target, Adds, BearsNone, IsUndefined, CountsUndefined, CountsDefinitions}
 use Rattle.order.proofs.Lookups.{defined_referred}
 use Rattle.order.proofs.Finding.{shown_rows_from, shown_past, finds_some, finds_none, tp_is}
 use Rattle.order.proofs.Waiting.{referred_targets, row_held}
@@ -31,12 +31,12 @@ one_most false = omega arith
 
 -- a count of the rows that pass a test, by a list of their numbers
 module _ (p : Row → Bool) (f : ℕ → List Row → ℕ) (none : (k : ℕ) → f k [] ≡ 0) (more : (k : ℕ) (row : Row) (rest : List Row) → f k (row ∷ rest) ≡ if (p row) 1 0 + f (suc k) rest) (d x ws : List ℕ) (n : ℕ) where
-  pub counted : (m k : ℕ) → k + m ≡ n → f k (drop k (rows_shown d x ws n)) ≡ length (filter (λ j. p (shown_at d x ws j)) (range_with_len k m))
+  pub counted : (m k : ℕ) → k + m ≡ n → f k (drop k (rows_shown d x ws n)) ≡ length (filter (λ j. p (shown_row d x ws j)) (range_with_len k m))
   counted zero k h = ap (f k) (shown_past d x ws n k (omega (arith, h))) ∙ none k
   counted (suc m) k h =
-      let e = ap (f k) (shown_rows_from d x ws n k (omega (arith, h))) ∙ more k (shown_at d x ws k) (drop (suc k) (rows_shown d x ws n)) in
-      let g : f (suc k) (drop (suc k) (rows_shown d x ws n)) ≡ length (filter (λ j. p (shown_at d x ws j)) (range_with_len (k + 1) m)) = rw add-one (counted m (suc k) (omega (arith, h))) in
-      e ∙ go (p (shown_at d x ws k)) _ g
+      let e = ap (f k) (shown_rows_from d x ws n k (omega (arith, h))) ∙ more k (shown_row d x ws k) (drop (suc k) (rows_shown d x ws n)) in
+      let g : f (suc k) (drop (suc k) (rows_shown d x ws n)) ≡ length (filter (λ j. p (shown_row d x ws j)) (range_with_len (k + 1) m)) = rw add-one (counted m (suc k) (omega (arith, h))) in
+      e ∙ go (p (shown_row d x ws k)) _ g
     where
       go : (b : Bool) {a : ℕ} (ks : List ℕ) → a ≡ length ks → if b 1 0 + a ≡ length (cond b (k ∷ ks) ks)
       go true ks e = omega (arith, e)
@@ -52,27 +52,27 @@ module _ (k : ℕ) (row : Row) (rest : List Row) where
       go true = omega arith
       go false = omega arith
 
-pub defines_is : {d x ws : List ℕ} {k : ℕ} {b : Bool} → Defines d x ws k b → b ≡ defines (shown_at d x ws k)
+pub defines_is : {d x ws : List ℕ} {k : ℕ} {b : Bool} → Defines d x ws k b → b ≡ defines (shown_row d x ws k)
 defines_is a = a.is
 
-pub counted_definitions : (d x ws : List ℕ) (n : ℕ) {r : ℕ} → r ≡ length (filter (λ k. defines (shown_at d x ws k)) (range_with_len 0 n)) → CountsDefinitions (rows_shown d x ws n) r
+pub counted_definitions : (d x ws : List ℕ) (n : ℕ) {r : ℕ} → r ≡ length (filter (λ k. defines (shown_row d x ws k)) (range_with_len 0 n)) → CountsDefinitions (rows_shown d x ws n) r
 counted_definitions d x ws n e = record {
   is = e ∙ sym (counted defines (λ k t. length (definitions_from k t)) (λ k. refl) more_from d x ws n n 0 (omega arith));
 }
 
--- ---- members that bear names of no row
+-- ---- members whose tp type no row defines
 
 -- a tp type that is there bears no name exactly when it refers to no row
-bears_none : (d x ws : List ℕ) (n m : ℕ) → absent (row_of (drop (m * 16) ws)).tp ≡ false → typed (λ tp. not (defined (rows_shown d x ws n) tp)) (shown_at d x ws m).tp ≡ empty (referred_by (rows_shown d x ws n) (shown_at d x ws m).tp)
+bears_none : (d x ws : List ℕ) (n m : ℕ) → absent (row_of (drop (m * 16) ws)).tp ≡ false → typed (λ tp. not (defined (rows_shown d x ws n) tp)) (shown_row d x ws m).tp ≡ empty (referred_by (rows_shown d x ws n) (shown_row d x ws m).tp)
 bears_none d x ws n m f =
     let s = shown d x (row_of (drop (m * 16) ws)).tp in
     rw f (ap not (defined_referred (rows_shown d x ws n) s) ∙ not-not (empty (referred (rows_shown d x ws n) s)))
 
-neither : (d x ws : List ℕ) (n m : ℕ) → absent (row_of (drop (m * 16) ws)).tp ≡ false → (o p : Option ℕ) → target (rows_shown d x ws n) false (shown_at d x ws m).tp ≡ o → target (rows_shown d x ws n) true (shown_at d x ws m).tp ≡ p → typed (λ tp. not (defined (rows_shown d x ws n) tp)) (shown_at d x ws m).tp ≡ empty (listed o ++ listed p)
+neither : (d x ws : List ℕ) (n m : ℕ) → absent (row_of (drop (m * 16) ws)).tp ≡ false → (o p : Option ℕ) → target (rows_shown d x ws n) false (shown_row d x ws m).tp ≡ o → target (rows_shown d x ws n) true (shown_row d x ws m).tp ≡ p → typed (λ tp. not (defined (rows_shown d x ws n) tp)) (shown_row d x ws m).tp ≡ empty (listed o ++ listed p)
 neither d x ws n m f o p g h =
     bears_none d x ws n m f
-    ∙ ap empty (referred_targets (rows_shown d x ws n) (shown_at d x ws m).tp)
-    ∙ ap (λ (z : Option ℕ). empty (listed z ++ listed (target (rows_shown d x ws n) true (shown_at d x ws m).tp))) g
+    ∙ ap empty (referred_targets (rows_shown d x ws n) (shown_row d x ws m).tp)
+    ∙ ap (λ (z : Option ℕ). empty (listed z ++ listed (target (rows_shown d x ws n) true (shown_row d x ws m).tp))) g
     ∙ ap (λ (z : Option ℕ). empty (listed o ++ listed z)) h
 
 module _ {d x ws : List ℕ} {n m : ℕ} {b : Bool} {p : Triple} (t : TripleIs ws m 8 p) (f : b ≡ absent p) where
@@ -86,7 +86,7 @@ module _ {d x ws : List ℕ} {n m : ℕ} {b : Bool} {p : Triple} (t : TripleIs w
         go : (u : Maybe ℕ) → v ≡ u → is_some u ≡ not r → BearsNone d x ws n m r
         go None h k = absurd (cc)
         go (Some i) h k = record {
-          is = z ∙ sym (neither d x ws n m (tp_is t f ∙ q) (some i) (target (rows_shown d x ws n) true (shown_at d x ws m).tp) (finds_some g.finds h) refl);
+          is = z ∙ sym (neither d x ws n m (tp_is t f ∙ q) (some i) (target (rows_shown d x ws n) true (shown_row d x ws m).tp) (finds_some g.finds h) refl);
         }
 
     pub bears_less : {w : Maybe ℕ} {r s : Bool} → is_some v ≡ not r → r ≡ true → Target d x ws n true m w → is_some w ≡ not s → BearsNone d x ws n m s
@@ -134,14 +134,14 @@ module _ {d x ws : List ℕ} {n k c : ℕ} (g : Missing d x ws n k c) where
 
   pub missing_more : {b : Bool} {r : ℕ} → k < n → IsUndefined d x ws n k b → Adds c b r → Missing d x ws n (k + 1) r
   missing_more {b} {r} l a p =
-      let e = ap (undefined_in (rows_shown d x ws n)) (shown_rows_from d x ws n k l) ∙ more_missing (rows_shown d x ws n) k (shown_at d x ws k) (drop (suc k) (rows_shown d x ws n)) in
-      let f : ◌≡◌ {A = ℕ} (if b 1 0) (if (is_undefined (rows_shown d x ws n) (shown_at d x ws k)) 1 0) = ap (λ (z : Bool). if z 1 0) a.is in
+      let e = ap (undefined_in (rows_shown d x ws n)) (shown_rows_from d x ws n k l) ∙ more_missing (rows_shown d x ws n) k (shown_row d x ws k) (drop (suc k) (rows_shown d x ws n)) in
+      let f : ◌≡◌ {A = ℕ} (if b 1 0) (if (is_undefined (rows_shown d x ws n) (shown_row d x ws k)) 1 0) = ap (λ (z : Bool). if z 1 0) a.is in
       record { is = rw add-one (omega (arith, g.is, e, f, p.is)); most = omega (arith, g.most, p.is, one_most b) }
 
-pub undefined_is : {d x ws : List ℕ} {n k : ℕ} {b : Bool} → IsUndefined d x ws n k b → b ≡ is_undefined (rows_shown d x ws n) (shown_at d x ws k)
+pub undefined_is : {d x ws : List ℕ} {n k : ℕ} {b : Bool} → IsUndefined d x ws n k b → b ≡ is_undefined (rows_shown d x ws n) (shown_row d x ws k)
 undefined_is a = a.is
 
-pub counted_undefined : (d x ws : List ℕ) (n : ℕ) {r : ℕ} → r ≡ length (filter (λ k. is_undefined (rows_shown d x ws n) (shown_at d x ws k)) (range_with_len 0 n)) → CountsUndefined (rows_shown d x ws n) r
+pub counted_undefined : (d x ws : List ℕ) (n : ℕ) {r : ℕ} → r ≡ length (filter (λ k. is_undefined (rows_shown d x ws n) (shown_row d x ws k)) (range_with_len 0 n)) → CountsUndefined (rows_shown d x ws n) r
 unfolding undefined
 counted_undefined d x ws n e =
     let t = rows_shown d x ws n in

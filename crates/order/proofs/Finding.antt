@@ -19,22 +19,22 @@ use Rattle.tables.specs.Triple.{shown}
 use Rattle.tables.specs.declared.Triple.{Triple}
 use Rattle.document.specs.Kinds as kinds
 use Rattle.document.specs.Elements.{among}
-use Rattle.items.specs.Words.{Word, TripleIs, row_of, rows_of, viewed, rows_shown, absent}
+use Rattle.items.specs.Words.{Word, TripleIs, row_of, rows_of, viewed, rows_shown, absent, shown_row}
 use Rattle.items.specs.Content.{Row}
 use Rattle.items.proofs.Rows.{row-at, length_rows_of}
 use Rattle.items.proofs.Words.{word_in, present_shown}
 use Rattle.order.specs.Types.{first_named}
-use Rattle.order.specs.Steps.{shown_at, Defines, HasName, MemberIn, Within, found, Finds, target, LastTwo, IsArray, ElementIs, Before, NoArray, IsSought, NoneSought, FirstNamed, Target}
+use Rattle.order.specs.Steps.{Defines, HasName, MemberIn, Within, found, Finds, target, LastTwo, IsArray, ElementIs, Before, NoArray, IsSought, NoneSought, FirstNamed, Target}
 
 -- ---- rows by their places
 
 module _ (d x ws : List ℕ) (n : ℕ) where
   -- the rows from row i on begin with row i
-  pub shown_rows_from : (i : ℕ) → i < n → drop i (rows_shown d x ws n) ≡ shown_at d x ws i ∷ drop (suc i) (rows_shown d x ws n)
+  pub shown_rows_from : (i : ℕ) → i < n → drop i (rows_shown d x ws n) ≡ shown_row d x ws i ∷ drop (suc i) (rows_shown d x ws n)
   shown_rows_from i h =
       drop-map (viewed d x) i (rows_of n ws)
       ∙ ap (map (viewed d x)) (row-at n i ws h)
-      ∙ ap (λ (l : List Row). shown_at d x ws i ∷ l) (sym (drop-map (viewed d x) (suc i) (rows_of n ws)))
+      ∙ ap (λ (l : List Row). shown_row d x ws i ∷ l) (sym (drop-map (viewed d x) (suc i) (rows_of n ws)))
 
   pub shown_past : (i : ℕ) → n ≤ i → drop i (rows_shown d x ws n) ≡ []
   shown_past i h =
@@ -175,7 +175,7 @@ tp_absent {ws = ws} {m = m} t a e =
     record { is = λ u. rw f }
 
 module _ (d x : List ℕ) {ws : List ℕ} {m : ℕ} {b : Bool} {p : Triple} {s : List ℕ} (t : TripleIs ws m 8 p) (a : b ≡ absent p) (e : b ≡ false) (q : s ≡ shown d x p) where
-  present_tp : (shown_at d x ws m).tp ≡ some s
+  present_tp : (shown_row d x ws m).tp ≡ some s
   present_tp =
       let f : absent (row_of (drop (m * 16) ws)).tp ≡ false = tp_is t a ∙ e in
       rw f (ap some (sym (q ∙ ap (shown d x) t.is)))

@@ -11,6 +11,7 @@ use lib.ListN.{length, get_or, set, replicate, length-set}
 use lib.Seq.{get_or-set_same, get_or-set_other}
 use Rattle.std.specs.Prelude.{Option as Maybe, None, Some}
 use Rattle.slices.specs.Bytes.{if}
+use Rattle.slices.proofs.Runs.{if_true}
 use Rattle.tables.specs.Table.{Rep, Put}
 use Rattle.tables.proofs.Tables.{empty_stands}
 use Rattle.document.specs.Elements.{among}
@@ -112,11 +113,7 @@ module _ {d x ws : List ℕ} {n room : ℕ} {marks : List Bool} {out : List ℕ}
     }
       where
         go : (k : ℕ) (b : Bool) → eqb k i ≡ b → get_or (set marks i true) k false ≡ true → if (among k g.xs) true (if b true false) ≡ true
-        go k true b f = last (among k g.xs)
-          where
-            last : (a : Bool) → if a true true ≡ true
-            last true = refl
-            last false = refl
+        go k true b f = if_true (among k g.xs)
         go k false b f = rw (g.marked k (sym (get_or-set_other marks i k true false (eqb-false k i b)) ∙ f))
 
     -- what the loop asks for

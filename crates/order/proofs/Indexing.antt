@@ -20,11 +20,11 @@ use Rattle.tables.specs.Triple.{shown}
 use Rattle.tables.specs.Table.{Wiped}
 use Rattle.tables.specs.declared.Triple.{Triple}
 use Rattle.tables.proofs.Tables.{clear_all}
-use Rattle.items.specs.Words.{TripleIs, row_of, rows_shown}
+use Rattle.items.specs.Words.{TripleIs, row_of, rows_shown, shown_row}
 use Rattle.items.specs.Content.{Row, present}
 use Rattle.items.proofs.Words.{present_shown}
 use Rattle.order.specs.Types.{defines, first_named}
-use Rattle.order.specs.Steps.{Held, shown_at, Defines, HasName, FirstNamed}
+use Rattle.order.specs.Steps.{Held, Defines, HasName, FirstNamed}
 use Rattle.order.specs.Index.{bucket_of, tag_of, bucket_at, tag_at, first_in, word_for, HashAt, Spread, WordIs, RowOf, Tagged, IndexedFrom, Indexed, Built}
 use Rattle.order.proofs.Lists.{clash, case, refuted, joined}
 use Rattle.order.proofs.Finding.{shown_rows_from, shown_past, found_here, found_none}
@@ -67,8 +67,8 @@ name_is s row t = sym (same_equal s (present row.name) (and_both (defines row) (
 module _ {d x ws s : List ℕ} {k w f : ℕ} (a : Tagged d x ws k w) (b : HashIs s f) where
   pub other_name : (w / 524288 ≡ f / 524288 → ⊥) → HasName d x ws k s false
   other_name h = record {
-    is = sym (refuted (defines (shown_at d x ws k) && same s (present (shown_at d x ws k).name))
-        (λ t. h (a.is ∙ ap tag_of (name_is s (shown_at d x ws k) t) ∙ sym (hash_tag s b.is))));
+    is = sym (refuted (defines (shown_row d x ws k) && same s (present (shown_row d x ws k).name))
+        (λ t. h (a.is ∙ ap tag_of (name_is s (shown_row d x ws k) t) ∙ sym (hash_tag s b.is))));
   }
 
 pub ruleset tags = (other_name, rules)
@@ -102,24 +102,24 @@ record Passed (d x ws : List ℕ) (n m : ℕ) (s : List ℕ) (i k : ℕ) : Type 
   pub past : i ≤ k
   pub within : k < n
   pub same : first_named s i (drop i (rows_shown d x ws n)) ≡ first_named s k (drop k (rows_shown d x ws n))
-  pub is : defines (shown_at d x ws k) ≡ true
+  pub is : defines (shown_row d x ws k) ≡ true
   pub falls : bucket_at d x ws m k ≡ bucket_of m s
 
 -- the rows from row i on begin with row i
-first_at : (d x ws : List ℕ) (n m h i : ℕ) → i < n → first_in m h i (drop i (rows_shown d x ws n)) ≡ if (defines (shown_at d x ws i) && eqb (bucket_at d x ws m i) h) (some i) (first_in m h (suc i) (drop (suc i) (rows_shown d x ws n)))
+first_at : (d x ws : List ℕ) (n m h i : ℕ) → i < n → first_in m h i (drop i (rows_shown d x ws n)) ≡ if (defines (shown_row d x ws i) && eqb (bucket_at d x ws m i) h) (some i) (first_in m h (suc i) (drop (suc i) (rows_shown d x ws n)))
 first_at d x ws n m h i l = ap (first_in m h i) (shown_rows_from d x ws n i l)
 
 module _ (d x ws : List ℕ) (n m : ℕ) (s : List ℕ) where
   pass : (f i : ℕ) → f + i ≡ n → (k : ℕ) → first_in m (bucket_of m s) i (drop i (rows_shown d x ws n)) ≡ some k → Passed d x ws n m s i k
   pass zero i e k q = some-none (sym q ∙ ap (first_in m (bucket_of m s) i) (shown_past d x ws n i (omega arith)))
   pass (suc f) i e k q =
-      go (defines (shown_at d x ws i) && eqb (bucket_at d x ws m i) (bucket_of m s)) refl
+      go (defines (shown_row d x ws i) && eqb (bucket_at d x ws m i) (bucket_of m s)) refl
       (sym (first_at d x ws n m (bucket_of m s) i (omega arith)) ∙ q)
       (pass f (suc i) (omega arith) k)
     where
-      go : (c : Bool) → defines (shown_at d x ws i) && eqb (bucket_at d x ws m i) (bucket_of m s) ≡ c → if c (some i) (first_in m (bucket_of m s) (suc i) (drop (suc i) (rows_shown d x ws n))) ≡ some k → (first_in m (bucket_of m s) (suc i) (drop (suc i) (rows_shown d x ws n)) ≡ some k → Passed d x ws n m s (suc i) k) → Passed d x ws n m s i k
+      go : (c : Bool) → defines (shown_row d x ws i) && eqb (bucket_at d x ws m i) (bucket_of m s) ≡ c → if c (some i) (first_in m (bucket_of m s) (suc i) (drop (suc i) (rows_shown d x ws n))) ≡ some k → (first_in m (bucket_of m s) (suc i) (drop (suc i) (rows_shown d x ws n)) ≡ some k → Passed d x ws n m s (suc i) k) → Passed d x ws n m s i k
       go true c q h =
-          let p = and_both (defines (shown_at d x ws i)) (eqb (bucket_at d x ws m i) (bucket_of m s)) c in
+          let p = and_both (defines (shown_row d x ws i)) (eqb (bucket_at d x ws m i) (bucket_of m s)) c in
           let j : i ≡ k = cc in
           subst (λ (z : ℕ). Passed d x ws n m s i z) j
           record { past = omega arith; within = omega arith; same = refl; is = p.0; falls = eqb-true (bucket_at d x ws m i) (bucket_of m s) p.1 }
@@ -129,7 +129,7 @@ module _ (d x ws : List ℕ) (n m : ℕ) (s : List ℕ) where
             past = omega (arith, g.past);
             within = g.within;
             same = ap (first_named s i) (shown_rows_from d x ws n i (omega arith))
-                ∙ skip m s i (shown_at d x ws i) (drop (suc i) (rows_shown d x ws n)) (miss m s (shown_at d x ws i) c)
+                ∙ skip m s i (shown_row d x ws i) (drop (suc i) (rows_shown d x ws n)) (miss m s (shown_row d x ws i) c)
                 ∙ g.same;
             is = g.is;
             falls = g.falls;
@@ -243,7 +243,7 @@ module _ {d x ws s hs ls : List ℕ} {n w k : ℕ} {r : Maybe ℕ} {b : Bool} (i
           same = g.same
               ∙ h.same
               ∙ ap (first_named s k) (shown_rows_from d x ws n k h.within)
-              ∙ skip (length hs) s k (shown_at d x ws k) (drop (suc k) (rows_shown d x ws n)) (sym a.is ∙ f);
+              ∙ skip (length hs) s k (shown_row d x ws k) (drop (suc k) (rows_shown d x ws n)) (sym a.is ∙ f);
           word = ix.next k (omega arith) h.within h.is
               ∙ ap (λ (z : ℕ). word_for d x ws (first_in (length hs) z (suc k) (drop (suc k) (rows_shown d x ws n)))) h.falls;
         },
@@ -274,7 +274,7 @@ pub ruleset follows = (follow_begins, follow_more, follow_less, follow_ends, fol
 -- ---- making the index
 
 -- whether row k is before the rows of bucket h
-at_row : (d x ws : List ℕ) (n m h k : ℕ) → k < n → (c : Bool) → defines (shown_at d x ws k) && eqb (bucket_at d x ws m k) h ≡ c → first_in m h k (drop k (rows_shown d x ws n)) ≡ if c (some k) (first_in m h (suc k) (drop (suc k) (rows_shown d x ws n)))
+at_row : (d x ws : List ℕ) (n m h k : ℕ) → k < n → (c : Bool) → defines (shown_row d x ws k) && eqb (bucket_at d x ws m k) h ≡ c → first_in m h k (drop k (rows_shown d x ws n)) ≡ if c (some k) (first_in m h (suc k) (drop (suc k) (rows_shown d x ws n)))
 at_row d x ws n m h k l c e =
     first_at d x ws n m h k l
     ∙ ap (λ (z : Bool). if z (some k) (first_in m h (suc k) (drop (suc k) (rows_shown d x ws n)))) e
@@ -289,7 +289,7 @@ module _ {d x ws hs ls : List ℕ} {n k : ℕ} (ix : IndexedFrom d x ws n (k + 1
 
   pub enter_other : b ≡ false → Built d x ws n k hs ls hs ls
   enter_other e =
-      let f : defines (shown_at d x ws k) ≡ false = sym a.is ∙ e in
+      let f : defines (shown_row d x ws k) ≡ false = sym a.is ∙ e in
       record {
         indexed = record {
           first = λ h q. later.first h q
@@ -308,29 +308,29 @@ module _ {d x ws hs ls : List ℕ} {n k : ℕ} (ix : IndexedFrom d x ws n (k + 1
 
   module _ (e : b ≡ true) {f h w : ℕ} (v : HashAt d x ws k f) (u : Spread f (length hs) h) (o : WordIs k f w) where
     bucket_here : h ≡ bucket_at d x ws (length hs) k
-    bucket_here = spread_bucket (present (shown_at d x ws k).name) v.is u
+    bucket_here = spread_bucket (present (shown_row d x ws k).name) v.is u
 
     word_here : w ≡ word_for d x ws (some k)
-    word_here = o.is ∙ ap (λ (z : ℕ). suc k + z * 524288) (hash_tag (present (shown_at d x ws k).name) v.is)
+    word_here = o.is ∙ ap (λ (z : ℕ). suc k + z * 524288) (hash_tag (present (shown_row d x ws k).name) v.is)
 
-    is_defined : defines (shown_at d x ws k) ≡ true
+    is_defined : defines (shown_row d x ws k) ≡ true
     is_defined = sym a.is ∙ e
 
     first_then : (g : ℕ) → g < length hs → get_or (set hs h w) g 0 ≡ word_for d x ws (first_in (length hs) g k (drop k (rows_shown d x ws n)))
     first_then g q =
         case (eqb g h)
         (λ t. let p : g ≡ h = eqb-true g h t in
-        let y : defines (shown_at d x ws k) && eqb (bucket_at d x ws (length hs) k) g ≡ true = joined (defines (shown_at d x ws k)) (eqb (bucket_at d x ws (length hs) k) g) is_defined (eq-eqb (bucket_at d x ws (length hs) k) g (sym bucket_here ∙ sym p)) in
+        let y : defines (shown_row d x ws k) && eqb (bucket_at d x ws (length hs) k) g ≡ true = joined (defines (shown_row d x ws k)) (eqb (bucket_at d x ws (length hs) k) g) is_defined (eq-eqb (bucket_at d x ws (length hs) k) g (sym bucket_here ∙ sym p)) in
         ap (λ (z : ℕ). get_or (set hs h w) z 0) p
         ∙ get_or-set_same hs h w 0 u.within
         ∙ word_here
         ∙ sym (ap (word_for d x ws) (at_row d x ws n (length hs) g k l true y)))
-        (λ t. let y : defines (shown_at d x ws k) && eqb (bucket_at d x ws (length hs) k) g ≡ false = not_both (defines (shown_at d x ws k)) (eqb (bucket_at d x ws (length hs) k) g) (ne_eqb (bucket_at d x ws (length hs) k) g (λ z. eqb-false g h t (sym z ∙ sym bucket_here))) in
+        (λ t. let y : defines (shown_row d x ws k) && eqb (bucket_at d x ws (length hs) k) g ≡ false = not_both (defines (shown_row d x ws k)) (eqb (bucket_at d x ws (length hs) k) g) (ne_eqb (bucket_at d x ws (length hs) k) g (λ z. eqb-false g h t (sym z ∙ sym bucket_here))) in
         get_or-set_other hs h g w 0 (eqb-false g h t)
         ∙ later.first g q
         ∙ sym (ap (word_for d x ws) (at_row d x ws n (length hs) g k l false y)))
 
-    next_then : (j : ℕ) → k ≤ j → j < n → defines (shown_at d x ws j) ≡ true → get_or (set ls k (get_or hs h 0)) j 0 ≡ word_for d x ws (first_in (length hs) (bucket_at d x ws (length hs) j) (suc j) (drop (suc j) (rows_shown d x ws n)))
+    next_then : (j : ℕ) → k ≤ j → j < n → defines (shown_row d x ws j) ≡ true → get_or (set ls k (get_or hs h 0)) j 0 ≡ word_for d x ws (first_in (length hs) (bucket_at d x ws (length hs) j) (suc j) (drop (suc j) (rows_shown d x ws n)))
     next_then j p q t =
         case (eqb j k)
         (λ z. let y : k ≡ j = sym (eqb-true j k z) in

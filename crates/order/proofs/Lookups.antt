@@ -9,7 +9,7 @@ use native.Mathlib.Omega.{arith}
 use lib.ListN.{length, take, drop, length-append, take-append-drop}
 use lib.Seq.{take-append_seam, drop-append_seam}
 use Rattle.slices.specs.Bytes.{if, bytes, same, empty}
-use Rattle.slices.proofs.Runs.{same_equal, same_self}
+use Rattle.slices.proofs.Runs.{if_false, same_equal, same_self}
 use Rattle.document.specs.Elements.{among}
 use Rattle.document.proofs.Tests.{among_append}
 use Rattle.items.specs.Content.{Row, present}
@@ -130,11 +130,7 @@ module _ (t : List Row) (j : ℕ) where
 
 module _ (t : List Row) (i j : ℕ) where
   member_uses : (tp : Option (List ℕ)) → if (counts t j) (typed (λ tp. bears tp (name_at t j)) tp) false ≡ among j (referred_by t tp)
-  member_uses none = go (counts t j)
-    where
-      go : (c : Bool) → if c false false ≡ false
-      go true = refl
-      go false = refl
+  member_uses none = if_false (counts t j)
   member_uses (some tp) = alike (if (counts t j) (bears tp (name_at t j)) false) (among j (referred t tp)) (used_referred t j tp) (referred_used t j tp)
 
   -- a member uses row j, or one of the others does
@@ -143,11 +139,7 @@ module _ (t : List Row) (i j : ℕ) where
   spread false b a = refl
 
   members_use : (ms : List Row) → if (counts t j) (any_row (λ m. member_in i m && typed (λ tp. bears tp (name_at t j)) m.tp) ms) false ≡ among j (targets_in t i ms)
-  members_use [] = go (counts t j)
-    where
-      go : (c : Bool) → if c false false ≡ false
-      go true = refl
-      go false = refl
+  members_use [] = if_false (counts t j)
   members_use (m ∷ ms) = go (member_in i m) (members_use ms)
     where
       others : Bool

@@ -10,6 +10,7 @@ use native.Mathlib.Omega.{arith}
 use lib.Dec.{eqb}
 use Rattle.slices.specs.Bytes.{if, bytes, same}
 use Rattle.slices.proofs.Runs.{and_both, same_equal, same_self}
+use Rattle.document.specs.Kinds as kinds
 use Rattle.document.specs.Elements.{among}
 use Rattle.items.specs.Content.{Row, present}
 use Rattle.order.specs.Types.{member_in, defines, definitions_from, definitions, name_at, first_named, counts, bears, typed, any_row, uses}
@@ -72,8 +73,8 @@ module _ (t : List Row) (i j : ℕ) where
       k : (member_in i m ≡ true) × (typed (λ tp. bears tp (name_at t j)) m.tp ≡ true)
       k = and_both (member_in i m) (typed (λ tp. bears tp (name_at t j)) m.tp) e
 
-      q : (eqb m.kind 12 ≡ true) × (eqb m.parent (suc i) ≡ true)
-      q = and_both (eqb m.kind 12) (eqb m.parent (suc i)) k.0
+      q : (eqb m.kind kinds.member ≡ true) × (eqb m.parent (suc i) ≡ true)
+      q = and_both (eqb m.kind kinds.member) (eqb m.parent (suc i)) k.0
 
       here : first_named (name_at t j) 0 t ≡ some j
       here = named_row_is j (first_named (name_at t j) 0 t) c
@@ -84,7 +85,7 @@ module _ (t : List Row) (i j : ℕ) where
         at = n;
         member = m;
         stands = s;
-        kind = eqb-true m.kind 12 q.0;
+        kind = eqb-true m.kind kinds.member q.0;
         parent = eqb-true m.parent (suc i) q.1;
         tp = tp;
         typed = o;
@@ -124,7 +125,7 @@ module _ (t : List Row) (i j : ℕ) where
       c = row_is j (first_named (name_at t j) 0 t) (p.1 ∙ ap some k_is)
 
       m : (member_in i u.member && typed (λ tp. bears tp (name_at t j)) u.member.tp) ≡ true
-      m = rw (eq-eqb u.member.kind 12 u.kind, eq-eqb u.member.parent (suc i) u.parent, u.typed) (bears_either u.tp u.named)
+      m = rw (eq-eqb u.member.kind kinds.member u.kind, eq-eqb u.member.parent (suc i) u.parent, u.typed) (bears_either u.tp u.named)
 
 pub uses_mean : UsesMeans
 uses_mean t i j = (uses_means t i j, means_uses t i j)

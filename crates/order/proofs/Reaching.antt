@@ -16,12 +16,12 @@ use Rattle.slices.specs.Bytes.{if}
 use Rattle.utf8.proofs.Sequences.{below}
 use Rattle.document.specs.Elements.{among}
 use Rattle.document.proofs.Tests.{among_append}
-use Rattle.items.specs.Words.{rows_shown}
+use Rattle.items.specs.Words.{rows_shown, shown_row}
 use Rattle.items.specs.Content.{Row}
 use Rattle.order.specs.Relation.{Chain, one, more, FirstOnCircle}
 use Rattle.order.specs.Types.{member_in, definitions, uses}
 use Rattle.order.specs.Lookup.{listed, referred_by, targets_in, targets}
-use Rattle.order.specs.Steps.{Held, shown_at, Defines, Within, Finds, Target, Unmarked, reached, steps_of, todo, Marked, RowReached, MemberReached, ReachedIn, TargetsReached, IsReached, NextReached, OnCircle, Searching, Clear, CircleFound}
+use Rattle.order.specs.Steps.{Held, Defines, Within, Finds, Target, Unmarked, reached, steps_of, todo, Marked, RowReached, MemberReached, ReachedIn, TargetsReached, IsReached, NextReached, OnCircle, Searching, Clear, CircleFound}
 use Rattle.order.specs.declared.chains.Mark.{Mark}
 use Rattle.order.specs.declared.chains.Mark.TheVariants.{Unreached, Reached, Followed}
 use Rattle.order.proofs.Lists.{clash, same_some, case}
@@ -109,7 +109,7 @@ found_reached f p = finds_cases f (λ i e q. rw q (p.some i e)) (λ e q. rw q (p
 
 pub member_reached : {d x ws : List ℕ} {n m : ℕ} {a b : Maybe ℕ} {t u v : List Mark} → RowReached b u v → RowReached a t u → Target d x ws n true m b → Target d x ws n false m a → MemberReached d x ws n m t v
 member_reached {d} {x} {ws} {n} {m} q p g f = record {
-  is = rw (referred_targets (rows_shown d x ws n) (shown_at d x ws m).tp) (marked_then (found_reached f.finds p) (found_reached g.finds q));
+  is = rw (referred_targets (rows_shown d x ws n) (shown_row d x ws m).tp) (marked_then (found_reached f.finds p) (found_reached g.finds q));
 }
 
 pub ruleset reach_members = (member_reached, target_within, row_held, rules)
@@ -138,7 +138,7 @@ module _ {d x ws : List ℕ} {t₀ t : List Mark} {n i k : ℕ} (g : Reaching d 
   reaching_more {u} l p = record {
     rest = λ v q. g.rest v
         (rw (shown_rows_from d x ws n k l)
-        (reaching_step (rows_shown d x ws n) i (shown_at d x ws k) (drop (suc k) (rows_shown d x ws n)) t u v p.is (rw add-one at q)));
+        (reaching_step (rows_shown d x ws n) i (shown_row d x ws k) (drop (suc k) (rows_shown d x ws n)) t u v p.is (rw add-one at q)));
   }
 
 pub ruleset reaching = (reaching_begins, reaching_ends, reaching_more, rules)

@@ -13,15 +13,16 @@ use Rattle.std.specs.Prelude.{Option as Maybe, None, Some, MatchOption}
 use Rattle.std.specs.Bool.{MatchBool}
 use Rattle.std.specs.List.{AllWithin, HoldsAt, range_with_len}
 use Rattle.slices.specs.Bytes.{if}
+use Rattle.slices.proofs.Runs.{if_same}
 use Rattle.utf8.proofs.Sequences.{below}
 use Rattle.document.specs.Elements.{among}
 use Rattle.document.proofs.Tests.{among_there}
-use Rattle.items.specs.Words.{rows_shown}
+use Rattle.items.specs.Words.{rows_shown, shown_row}
 use Rattle.items.specs.Content.{Row}
 use Rattle.order.specs.Relation.{uses_any, ready}
 use Rattle.order.specs.Types.{member_in, defines, definitions_from, definitions, first_named, uses}
 use Rattle.order.specs.Lookup.{of_array, element, listed, referred, referred_by, targets_in, targets}
-use Rattle.order.specs.Steps.{Held, shown_at, Defines, Within, Finds, target, Target, unmarked, left_in, any_among, IsLeft, MemberWaits, WaitsIn, Waits, IsReady, First, NextReady}
+use Rattle.order.specs.Steps.{Held, Defines, Within, Finds, target, Target, unmarked, left_in, any_among, IsLeft, MemberWaits, WaitsIn, Waits, IsReady, First, NextReady}
 use Rattle.order.proofs.Lists.{clash, same_some, case, refuted, or_else, first_true, second_true, among_here, among_cases, each_below, some_below}
 use Rattle.order.proofs.Taking.{uses_none}
 use Rattle.order.proofs.Tables.{from_below, named_listed}
@@ -71,10 +72,10 @@ defines_from i (suc k) (q ∷ t) r rs e =
     go true h = rw (ne_eqb (i + suc k) i (λ e. omega arith)) h
     go false h = h
 
-pub defined_at : (d x ws : List ℕ) (n i : ℕ) → i < n → among i (definitions (rows_shown d x ws n)) ≡ defines (shown_at d x ws i)
+pub defined_at : (d x ws : List ℕ) (n i : ℕ) → i < n → among i (definitions (rows_shown d x ws n)) ≡ defines (shown_row d x ws i)
 defined_at d x ws n i h =
     rw zero-add at
-    (defines_from 0 i (rows_shown d x ws n) (shown_at d x ws i) (drop (suc i) (rows_shown d x ws n)) (shown_rows_from d x ws n i h))
+    (defines_from 0 i (rows_shown d x ws n) (shown_row d x ws i) (drop (suc i) (rows_shown d x ws n)) (shown_rows_from d x ws n i h))
 
 definitions_past : (i : ℕ) (t : List Row) (k : ℕ) → among k (definitions_from i t) ≡ true → k < i + length t
 definitions_past i [] k m = clash m refl
@@ -109,12 +110,8 @@ module _ (t : List Row) (marks : List Bool) where
   found_left : (less : Bool) (tp : Option (List ℕ)) (n : ℕ) (r : Maybe ℕ) (b : Bool) → Finds (target t less tp) n r → IsLeft marks r b → any_among (listed (target t less tp)) (left_in t marks) ≡ b
   found_left less tp n r b f l =
       finds_cases f
-      (λ i e o. rw (o, left_among i, target_listed t less tp i o) (whole (unmarked marks i) ∙ sym (l.some i e)))
+      (λ i e o. rw (o, left_among i, target_listed t less tp i o) (if_same (unmarked marks i) ∙ sym (l.some i e)))
       (λ e o. rw o (sym (l.none e)))
-    where
-      whole : (a : Bool) → if a true false ≡ a
-      whole true = refl
-      whole false = refl
 
 any_append : (a b l : List ℕ) → any_among (a ++ b) l ≡ if (any_among a l) true (any_among b l)
 any_append [] b l = refl
@@ -132,12 +129,12 @@ referred_left t marks tp n r b f l =
 
 module _ {d x ws : List ℕ} {marks : List Bool} {n m : ℕ} {r : Maybe ℕ} {b : Bool} (f : Target d x ws n false m r) (l : IsLeft marks r b) where
   pub member_whole : b ≡ true → MemberWaits d x ws n marks m true
-  member_whole e = record { is = sym (referred_left (rows_shown d x ws n) marks (shown_at d x ws m).tp n r b f.finds l ∙ rw e) }
+  member_whole e = record { is = sym (referred_left (rows_shown d x ws n) marks (shown_row d x ws m).tp n r b f.finds l ∙ rw e) }
 
   pub member_less : {s : Maybe ℕ} {c : Bool} → b ≡ false → Target d x ws n true m s → IsLeft marks s c → MemberWaits d x ws n marks m c
   member_less {s} {c} e g k =
-      let h = found_left (rows_shown d x ws n) marks true (shown_at d x ws m).tp n s c g.finds k in
-      record { is = sym (referred_left (rows_shown d x ws n) marks (shown_at d x ws m).tp n r b f.finds l ∙ rw e h) }
+      let h = found_left (rows_shown d x ws n) marks true (shown_row d x ws m).tp n s c g.finds k in
+      record { is = sym (referred_left (rows_shown d x ws n) marks (shown_row d x ws m).tp n r b f.finds l ∙ rw e h) }
 
 pub row_held : {ws : List ℕ} {n i : ℕ} → Held ws n → i < n → i * 16 + 16 ≤ length ws
 row_held h l = omega (arith, h.held)
@@ -181,7 +178,7 @@ module _ (d x ws : List ℕ) (marks : List Bool) (n i : ℕ) where
   unfolding rest
   waits_here k l b a =
       ap (λ (rs : List Row). any_among (targets_in (rows_shown d x ws n) i rs) (left_in (rows_shown d x ws n) marks)) (shown_rows_from d x ws n k l)
-      ∙ waiting_step (rows_shown d x ws n) i (shown_at d x ws k) (drop (suc k) (rows_shown d x ws n)) (left_in (rows_shown d x ws n) marks) b a.is
+      ∙ waiting_step (rows_shown d x ws n) i (shown_row d x ws k) (drop (suc k) (rows_shown d x ws n)) (left_in (rows_shown d x ws n) marks) b a.is
 
   waits_some : (f j k : ℕ) → f + j ≡ k → k < n → WaitsIn d x ws n marks i k true → rest j ≡ true
   waits_some zero j k e l a = let z : k ≡ j = omega arith in waits_here j (omega arith) true (rw z at a)

@@ -19,7 +19,7 @@ use Rattle.order.specs.Ordering.{Outcome, ordered, wrong, types_ordered, orderin
 abbrev pub row : ℕ → ℕ → Option (List ℕ) → Option (List ℕ) → Row
 row k p name tp = record { kind = k; parent = p; name = name; value = none; tp = tp; doc = none; word = 0; at = 0 }
 
--- a simple_type, an enum, a mapping, a struct of a name in the node
+-- a simple-type, an enum, a mapping, a struct of a name in the node
 abbrev pub simple : string.String → Row
 simple s = row 8 1 (some (bytes s)) none
 
@@ -58,7 +58,7 @@ cases =
     -- with both a name and that name followed by `[]`, both are used; one `[]` is taken off and no more
     ∷ (struct "U" ∷ member 1 "A[]" ∷ simple "A[]" ∷ simple "A" ∷ [], ordered (3 ∷ 4 ∷ 1 ∷ []) 0)
     ∷ (struct "U" ∷ member 1 "A[][]" ∷ simple "A" ∷ [], ordered (1 ∷ 3 ∷ []) 1)
-    -- members that bear names of no row, each once; the empty tp type is a name, and a missing one is none
+    -- members whose tp type no row defines, each once; the empty tp type is a name, and a missing one is none
     ∷ (struct "A" ∷ member 1 "X" ∷ member 1 "X" ∷ member 1 "X[]" ∷ [], ordered (1 ∷ []) 3)
     ∷ (struct "A" ∷ member 1 "" ∷ untyped 1 ∷ [], ordered (1 ∷ []) 1)
     ∷ (struct "A" ∷ member 1 "[]" ∷ simple "" ∷ [], ordered (3 ∷ 1 ∷ []) 0)

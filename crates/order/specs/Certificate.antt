@@ -3,12 +3,11 @@ use Rattle.std.specs.Prelude.{ℕ, ◌+◌, ◌-◌, ◌/◌, ◌%◌, ◌≤◌
 use Rattle.slices.specs.Bytes.{if}
 use Rattle.tables.specs.Table.{Rep}
 use Rattle.document.specs.Elements.{among}
-use Rattle.items.specs.Words.{rows_shown}
+use Rattle.items.specs.Words.{rows_shown, shown_row}
 use Rattle.items.specs.Content.{Row}
 use Rattle.order.specs.Relation.{order, Chain, FirstOnCircle}
 use Rattle.order.specs.Types.{definitions, member_in, uses, is_undefined, undefined}
 use Rattle.order.specs.Lookup.{referred_by}
-use Rattle.order.specs.Steps.{shown_at}
 
 -- ---- words
 
@@ -23,7 +22,7 @@ pub record Kept (k : ℕ) (before after : List ℕ) : Type 0 where
 
 -- r is the row that row m is in, one of n rows; or none
 pub record IsParent (d x ws : List ℕ) (n m : ℕ) (r : Option ℕ) : Type 0 where
-  pub is : (i : ℕ) → r ≡ Some i → (shown_at d x ws m).parent ≡ i + 1
+  pub is : (i : ℕ) → r ≡ Some i → (shown_row d x ws m).parent ≡ i + 1
   pub within : (i : ℕ) → r ≡ Some i → i < n
 
 -- the member of an edge, and whether the edge is of what stands before `[]`
@@ -64,27 +63,27 @@ pub record EdgeFalls (n : ℕ) (work : List ℕ) (p i e : ℕ) (j : Option ℕ) 
 abbrev pub Late : List Row → ℕ → List ℕ → ℕ → Type 0
 Late t n work i = (k : ℕ) → ((j : ℕ) → uses t i j ≡ true → number n work j < k) → run_of n work i ≤ k
 
--- of both edges of row m, if it is a member; r is whether it is one whose tp type bears the name of no row, or none if the edges are not so
+-- of both edges of row m, if it is a member; r is whether it is one whose tp type no row defines, or none if the edges are not so
 pub record RowFalls (d x ws : List ℕ) (n : ℕ) (work : List ℕ) (p m : ℕ) (r : Option Bool) : Type 0 where
   pub falls :
       (b : Bool) →
       r ≡ Some b →
       (i j : ℕ) →
-      member_in i (shown_at d x ws m) ≡ true →
-      among j (referred_by (rows_shown d x ws n) (shown_at d x ws m).tp) ≡ true →
+      member_in i (shown_row d x ws m) ≡ true →
+      among j (referred_by (rows_shown d x ws n) (shown_row d x ws m).tp) ≡ true →
       Falls n work p i j
   pub noted :
       (b : Bool) →
       r ≡ Some b →
       n ≤ p →
       (i : ℕ) →
-      member_in i (shown_at d x ws m) ≡ true →
+      member_in i (shown_row d x ws m) ≡ true →
       0 < get_or work (n + n + i) 0 →
       member_of (get_or work (n + n + i) 0) ≡ m →
       Late (rows_shown d x ws n) n work i
-  pub unnamed : (b : Bool) → r ≡ Some b → b ≡ is_undefined (rows_shown d x ws n) (shown_at d x ws m)
+  pub unnamed : (b : Bool) → r ≡ Some b → b ≡ is_undefined (rows_shown d x ws n) (shown_row d x ws m)
 
--- of all members; r is the number of those whose tp type bears the name of no row, or none if their edges are not so
+-- of all members; r is the number of those whose tp type no row defines, or none if their edges are not so
 pub record Members (d x ws : List ℕ) (n : ℕ) (work : List ℕ) (p : ℕ) (r : Option ℕ) : Type 0 where
   pub falls : (u : ℕ) → r ≡ Some u → (i j : ℕ) → uses (rows_shown d x ws n) i j ≡ true → Falls n work p i j
   pub noted :
@@ -93,7 +92,7 @@ pub record Members (d x ws : List ℕ) (n : ℕ) (work : List ℕ) (p : ℕ) (r 
       n ≤ p →
       (i : ℕ) →
       member_of (get_or work (n + n + i) 0) < n →
-      member_in i (shown_at d x ws (member_of (get_or work (n + n + i) 0))) ≡ true →
+      member_in i (shown_row d x ws (member_of (get_or work (n + n + i) 0))) ≡ true →
       0 < get_or work (n + n + i) 0 →
       Late (rows_shown d x ws n) n work i
   pub count : (u : ℕ) → r ≡ Some u → u ≡ undefined (rows_shown d x ws n)
@@ -128,7 +127,7 @@ pub record Above (out : List ℕ) (k r from : ℕ) (b : Bool) : Type 0 where
 -- the edge that is noted for row r is one of its own, if its run does not begin at the first place
 pub record IsNoted (d x ws : List ℕ) (n : ℕ) (work : List ℕ) (r from : ℕ) (b : Bool) : Type 0 where
   pub within : b ≡ true → 0 < from → member_of (get_or work (n + n + r) 0) < n
-  pub member : b ≡ true → 0 < from → member_in r (shown_at d x ws (member_of (get_or work (n + n + r) 0))) ≡ true
+  pub member : b ≡ true → 0 < from → member_in r (shown_row d x ws (member_of (get_or work (n + n + r) 0))) ≡ true
 
 -- the row at place k is a definition with that number; the run before it is of smaller rows; and its edge is noted
 pub record Placed (d x ws : List ℕ) (n : ℕ) (work out : List ℕ) (k : ℕ) : Type 0 where
@@ -161,7 +160,7 @@ pub record IsOrder (d x ws : List ℕ) (n : ℕ) (work out : List ℕ) (b : Bool
   pub before : b ≡ true → PlacedBefore d x ws n work out (length out)
   pub stands : b ≡ true → (r : ℕ) → among r (definitions (rows_shown d x ws n)) ≡ true → Stands n work out r
 
--- no row is on a circle, with room for them the first words are the order, and u members bear names of no row
+-- no row is on a circle, with room for them the first words are the order, and u members have a tp type that no row defines
 pub record Certain (t : List Row) (out : List ℕ) (count u : ℕ) : Type 0 where
   pub free : (i : ℕ) → Chain (uses t) i i → ⊥
   pub order : count ≤ length out → Rep 1 out count (order (uses t) (definitions t))

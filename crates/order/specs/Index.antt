@@ -4,10 +4,9 @@ use Rattle.std.specs.Prelude.{ℕ, suc, ◌+◌, ◌*◌, ◌/◌, ◌%◌, ◌�
 use Rattle.std.proofs.Math.Option.{Option, none, some}
 use Rattle.slices.specs.Bytes.{if}
 use Rattle.slices.specs.Hash.{hash_of}
-use Rattle.items.specs.Words.{rows_shown}
+use Rattle.items.specs.Words.{rows_shown, shown_row}
 use Rattle.items.specs.Content.{Row, present}
 use Rattle.order.specs.Types.{defines}
-use Rattle.order.specs.Steps.{shown_at}
 
 -- the bucket of a name, by its hash, of m; and the first 13 bits of the hash
 unfoldable pub bucket_of : ℕ → List ℕ → ℕ
@@ -23,10 +22,10 @@ first_in m h i (r ∷ rs) = let n = first_in m h (suc i) rs in if (defines r && 
 
 -- those of the name of row i
 abbrev pub bucket_at : List ℕ → List ℕ → List ℕ → ℕ → ℕ → ℕ
-bucket_at d x ws m i = bucket_of m (present (shown_at d x ws i).name)
+bucket_at d x ws m i = bucket_of m (present (shown_row d x ws i).name)
 
 abbrev pub tag_at : List ℕ → List ℕ → List ℕ → ℕ → ℕ
-tag_at d x ws i = tag_of (present (shown_at d x ws i).name)
+tag_at d x ws i = tag_of (present (shown_row d x ws i).name)
 
 -- the word for a row: the row plus one, and above that the first bits of its name's hash; 0 for none
 abbrev pub word_for : List ℕ → List ℕ → List ℕ → Option ℕ → ℕ
@@ -35,7 +34,7 @@ word_for d x ws (some i) = suc i + tag_at d x ws i * 524288
 
 -- r is the hash of the name of row i
 pub record HashAt (d x ws : List ℕ) (i r : ℕ) : Type 0 where
-  pub is : r ≡ hash_of (present (shown_at d x ws i).name)
+  pub is : r ≡ hash_of (present (shown_row d x ws i).name)
 
 -- r is the bucket of hash f; the word for row k, whose name has hash f
 pub record Spread (f m r : ℕ) : Type 0 where
@@ -60,7 +59,7 @@ pub record IndexedFrom (d x ws : List ℕ) (n k : ℕ) (hs ls : List ℕ) : Type
       (j : ℕ)
       → k ≤ j
       → j < n
-      → defines (shown_at d x ws j) ≡ true
+      → defines (shown_row d x ws j) ≡ true
       → get_or ls j 0 ≡ word_for d x ws (first_in (length hs) (bucket_at d x ws (length hs) j) (suc j) (drop (suc j) (rows_shown d x ws n)))
   pub some : 0 < length hs
   pub held : n ≤ length ls

@@ -1,10 +1,10 @@
 -- What the functions that look names up and give rows out say.
-use Rattle.std.specs.Prelude.{ℕ, ◌+◌, ◌*◌, ◌-◌, ◌≤◌, ◌<◌, ◌≡◌, List, [], ◌∷◌, Bool, true, false, not, ◌&&◌, length, get_or, set, drop, Result, Option as Maybe, Some, None}
+use Rattle.std.specs.Prelude.{ℕ, ◌+◌, ◌*◌, ◌-◌, ◌≤◌, ◌<◌, ◌≡◌, List, [], ◌∷◌, Bool, true, false, not, ◌&&◌, length, get_or, set, Result, Option as Maybe, Some, None}
 use Rattle.std.proofs.Math.Option.{Option, none, some}
 use Rattle.slices.specs.Bytes.{if, same}
 use Rattle.tables.specs.Table.{Rep}
 use Rattle.document.specs.Elements.{among}
-use Rattle.items.specs.Words.{row_of, viewed, rows_shown}
+use Rattle.items.specs.Words.{rows_shown, shown_row}
 use Rattle.items.specs.Content.{Row, present}
 use Rattle.order.specs.Relation.{order, ready, Chain, FirstOnCircle}
 use Rattle.order.specs.Types.{defines, definitions, first_named, member_in, uses, typed, defined, is_undefined, undefined}
@@ -20,19 +20,15 @@ pub record Held (ws : List ℕ) (n : ℕ) : Type 0 where
   pub few : n ≤ 262144
   pub held : n * 16 ≤ length ws
 
--- row i of a lent table, with the bytes that it shows
-abbrev pub shown_at : List ℕ → List ℕ → List ℕ → ℕ → Row
-shown_at d x ws i = viewed d x (row_of (drop (i * 16) ws))
-
 -- whether row i is a definition; whether it is one of a name; whether it is a member; whether it is one of the definition in row p
 pub record Defines (d x ws : List ℕ) (i : ℕ) (r : Bool) : Type 0 where
-  pub is : r ≡ defines (shown_at d x ws i)
+  pub is : r ≡ defines (shown_row d x ws i)
 
 pub record HasName (d x ws : List ℕ) (i : ℕ) (s : List ℕ) (r : Bool) : Type 0 where
-  pub is : r ≡ defines (shown_at d x ws i) && same s (present (shown_at d x ws i).name)
+  pub is : r ≡ defines (shown_row d x ws i) && same s (present (shown_row d x ws i).name)
 
 pub record MemberIn (d x ws : List ℕ) (p i : ℕ) (r : Bool) : Type 0 where
-  pub is : r ≡ member_in p (shown_at d x ws i)
+  pub is : r ≡ member_in p (shown_row d x ws i)
 
 -- a row, if there is one, is one of n rows
 pub record Within (r : Maybe ℕ) (n : ℕ) : Type 0 where
@@ -81,17 +77,17 @@ pub record NoArray (tp : List ℕ) : Type 0 where
 
 -- what the tp type of row m names, as it is or less the `[]` at its end, is the first row of name s; it names none: in any table
 pub record IsSought (d x ws : List ℕ) (less : Bool) (m : ℕ) (s : List ℕ) : Type 0 where
-  pub is : (t : List Row) → target t less (shown_at d x ws m).tp ≡ first_named s 0 t
+  pub is : (t : List Row) → target t less (shown_row d x ws m).tp ≡ first_named s 0 t
 
 pub record NoneSought (d x ws : List ℕ) (less : Bool) (m : ℕ) : Type 0 where
-  pub is : (t : List Row) → target t less (shown_at d x ws m).tp ≡ none
+  pub is : (t : List Row) → target t less (shown_row d x ws m).tp ≡ none
 
 -- what looking it up among n rows finds: a name; the tp type of row m
 pub record FirstNamed (t : List Row) (s : List ℕ) (n : ℕ) (r : Maybe ℕ) : Type 0 where
   pub finds : Finds (first_named s 0 t) n r
 
 pub record Target (d x ws : List ℕ) (n : ℕ) (less : Bool) (m : ℕ) (r : Maybe ℕ) : Type 0 where
-  pub finds : Finds (target (rows_shown d x ws n) less (shown_at d x ws m).tp) n r
+  pub finds : Finds (target (rows_shown d x ws n) less (shown_row d x ws m).tp) n r
 
 -- ---- the rows left
 
@@ -117,10 +113,10 @@ pub record IsLeft (marks : List Bool) (i : Maybe ℕ) (r : Bool) : Type 0 where
   pub none : i ≡ None → r ≡ false
 
 pub record MemberWaits (d x ws : List ℕ) (n : ℕ) (marks : List Bool) (m : ℕ) (r : Bool) : Type 0 where
-  pub is : r ≡ any_among (referred_by (rows_shown d x ws n) (shown_at d x ws m).tp) (left_in (rows_shown d x ws n) marks)
+  pub is : r ≡ any_among (referred_by (rows_shown d x ws n) (shown_row d x ws m).tp) (left_in (rows_shown d x ws n) marks)
 
 pub record WaitsIn (d x ws : List ℕ) (n : ℕ) (marks : List Bool) (i k : ℕ) (r : Bool) : Type 0 where
-  pub is : r ≡ if (member_in i (shown_at d x ws k)) (any_among (referred_by (rows_shown d x ws n) (shown_at d x ws k).tp) (left_in (rows_shown d x ws n) marks)) false
+  pub is : r ≡ if (member_in i (shown_row d x ws k)) (any_among (referred_by (rows_shown d x ws n) (shown_row d x ws k).tp) (left_in (rows_shown d x ws n) marks)) false
 
 pub record Waits (d x ws : List ℕ) (n : ℕ) (marks : List Bool) (i : ℕ) (r : Bool) : Type 0 where
   pub is : r ≡ any_among (targets (rows_shown d x ws n) i) (left_in (rows_shown d x ws n) marks)
@@ -162,12 +158,12 @@ pub record GivenOut (t : List Row) (marks : List Bool) (out : List ℕ) (c : ℕ
 pub record Adds (c : ℕ) (b : Bool) (r : ℕ) : Type 0 where
   pub is : r ≡ c + if b 1 0
 
--- whether row m has a tp type that bears the name of no row; whether it also is a member
+-- whether row m has a tp type that no row defines; whether it also is a member
 pub record BearsNone (d x ws : List ℕ) (n m : ℕ) (r : Bool) : Type 0 where
-  pub is : r ≡ typed (λ tp. not (defined (rows_shown d x ws n) tp)) (shown_at d x ws m).tp
+  pub is : r ≡ typed (λ tp. not (defined (rows_shown d x ws n) tp)) (shown_row d x ws m).tp
 
 pub record IsUndefined (d x ws : List ℕ) (n m : ℕ) (r : Bool) : Type 0 where
-  pub is : r ≡ is_undefined (rows_shown d x ws n) (shown_at d x ws m)
+  pub is : r ≡ is_undefined (rows_shown d x ws n) (shown_row d x ws m)
 
 pub record CountsUndefined (t : List Row) (r : ℕ) : Type 0 where
   pub is : r ≡ undefined t
@@ -209,10 +205,10 @@ pub record RowReached (j : Maybe ℕ) (before after : List Mark) : Type 0 where
   pub none : j ≡ None → Marked [] before after
 
 pub record MemberReached (d x ws : List ℕ) (n m : ℕ) (before after : List Mark) : Type 0 where
-  pub is : Marked (referred_by (rows_shown d x ws n) (shown_at d x ws m).tp) before after
+  pub is : Marked (referred_by (rows_shown d x ws n) (shown_row d x ws m).tp) before after
 
 pub record ReachedIn (d x ws : List ℕ) (n i m : ℕ) (before after : List Mark) : Type 0 where
-  pub is : Marked (if (member_in i (shown_at d x ws m)) (referred_by (rows_shown d x ws n) (shown_at d x ws m).tp) []) before after
+  pub is : Marked (if (member_in i (shown_row d x ws m)) (referred_by (rows_shown d x ws n) (shown_row d x ws m).tp) []) before after
 
 pub record TargetsReached (t : List Row) (i : ℕ) (before after : List Mark) : Type 0 where
   pub is : Marked (targets t i) before after
@@ -251,7 +247,7 @@ pub record CircleFound (t : List Row) (r : Maybe ℕ) : Type 0 where
 
 -- ---- the answer
 
--- what is answered and left for c rows given out and u members that bear names of no row: 18 where the rows have no room
+-- what is answered and left for c rows given out and u members whose tp type no row defines: 18 where the rows have no room
 pub record Leaves (out : List ℕ) (c u : ℕ) (out' : List ℕ) (r : Result Ordered Fault) : Type 0 where
   pub short : length out < c → Says (wrong 18 c) (length out) out' r
   pub fits : c ≤ length out → (rows : List ℕ) → Rep 1 out c rows → Says (ordered rows u) (length out) out' r

@@ -7,7 +7,7 @@ use Rattle.document.specs.Elements.{among}
 use Rattle.items.specs.Words.{is_child}
 use Rattle.items.specs.Content.{Row, present}
 
--- simple_type, enum, struct, mapping
+-- simple-type, enum, struct, mapping
 abbrev pub defines : Row → Bool
 defines r = among r.kind kinds.definitions
 

@@ -9,7 +9,7 @@
 // - work[r]: the row that it is in.
 // - work[n + r]: the edge that comes after its first edge in the list that this is in; for the check, where a row's run begins.
 // - work[2n + r]: the edge that comes after its second edge in the list that this is in.
-ghost use Rattle.std.specs.Prelude.{◌≡◌, ◌+◌, ◌*◌, ◌≤◌, ◌<◌, length};
+ghost use Rattle.std.specs.Prelude.{◌+◌, ◌*◌, ◌≤◌, ◌<◌};
 ghost use Rattle.order.specs.Table.{over};
 ghost use Rattle.order.specs.Certificate.{Kept};
 ghost use Rattle.order.specs.Index.{Indexed};

@@ -2,8 +2,8 @@
 // For n rows: work[n + r] is the number of row r. work[2n + r] is an edge of row r (candidate.rt): on a circle the one that leads on, in an
 // order the one that the row waited for last, 0 for none (a word holds a number alone); then work[n + m] of that edge's member m is where the
 // run of smaller rows begins that stands before row r.
-ghost use Rattle.std.specs.Prelude.{◌+◌, ◌*◌, ◌≤◌, ◌<◌, true, false, length};
-ghost use Rattle.order.specs.Table.{of, over, shown_rows};
+ghost use Rattle.std.specs.Prelude.{◌+◌, ◌≤◌, ◌<◌, true, false};
+ghost use Rattle.order.specs.Table.{over, shown_rows};
 ghost use Rattle.order.specs.Steps.{Within};
 ghost use Rattle.order.specs.Certificate.{EdgeFalls, RowFalls, Members, Follows, IsCircle, RunIs, Runs, RunBefore, Above, IsNoted, IsNext, PlacedBefore, IsAscending, IsPlaced, ArePlaced, IsOrder};
 
@@ -34,7 +34,7 @@ fn edge_falls(n: usize, work: &[u32], p: usize, i: usize, e: usize, target: Opti
     below < own && (noted != e || run(work, n, i) <= below + 1)
 }
 
-// Whether row m is a member whose tp type bears the name of no row; or none, if it is a member and an edge of it leads otherwise than
+// Whether row m is a member whose tp type no row defines; or none, if it is a member and an edge of it leads otherwise than
 // `edge_falls` asks for.
 #[tactic(auto, using(crate::proofs::Checking::row_falling))]
 fn row_falls(by_name: &Index, p: usize, m: usize) -> Option<bool>
@@ -56,7 +56,7 @@ fn row_falls(by_name: &Index, p: usize, m: usize) -> Option<bool>
     Some(counts::bears_none(by_name.table, m, whole, less))
 }
 
-// The number of members whose tp type bears the name of no row, if the numbers are as said.
+// The number of members whose tp type no row defines, if the numbers are as said.
 #[tactic(auto, using(crate::proofs::Checking::fallings))]
 pub fn check_members(by_name: &Index, p: usize) -> Option<usize>
     ensures { over Members by_name.now.table.now by_name.now.work.now p result }

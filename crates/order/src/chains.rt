@@ -1,6 +1,6 @@
 // The first row on a circle, by a search from each row.
-ghost use Rattle.std.specs.Prelude.{◌+◌, ◌*◌, ◌≤◌, ◌<◌};
-ghost use Rattle.order.specs.Table.{of, over, shown_rows};
+ghost use Rattle.std.specs.Prelude.{◌≤◌, ◌<◌};
+ghost use Rattle.order.specs.Table.{over, shown_rows};
 ghost use Rattle.order.specs.Steps.{Within, Unmarked, RowReached, MemberReached, ReachedIn, TargetsReached, IsReached, NextReached, OnCircle, Clear, CircleFound};
 
 use super::definitions;
@@ -8,7 +8,7 @@ use super::table::Table;
 
 // What a search says of a row: it is not reached; it is reached; or it is followed, so that all rows that it uses are reached too.
 #[derive(Clone, Copy)]
-pub enum Mark {
+enum Mark {
     Unreached,
     Reached,
     Followed,

@@ -9,7 +9,7 @@
 //   then the next row of the stack plus one; for the check, its edge on the circle, 0 for none.
 // Of a member m, work[m] is for the search the row plus one that it came from by the member's edge, and for the circle the next row of the
 // stack plus one.
-ghost use Rattle.std.specs.Prelude.{◌≡◌, ◌+◌, ◌*◌, ◌≤◌, ◌<◌, length};
+ghost use Rattle.std.specs.Prelude.{◌+◌, ◌*◌, ◌<◌};
 
 use super::table::Table;
 use super::words::Word;

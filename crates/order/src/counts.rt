@@ -1,6 +1,6 @@
-// How many type definitions there are, and how many members bear names of no row.
+// How many type definitions there are, and how many members have a tp type that no row defines.
 ghost use Rattle.std.specs.Prelude.{◌*◌, ◌+◌, ◌≤◌, ◌<◌, true, false, length};
-ghost use Rattle.order.specs.Table.{of, over, shown_rows};
+ghost use Rattle.order.specs.Table.{over, shown_rows};
 ghost use Rattle.order.specs.Steps.{Target, BearsNone, IsUndefined, Adds, CountsUndefined, CountsDefinitions};
 
 use super::definitions;
@@ -24,7 +24,7 @@ pub fn count_definitions(table: &Table) -> usize
         .count()
 }
 
-// Whether row m has a tp type that bears the name of no row, as the rows tell that it names.
+// Whether row m has a tp type that no row defines, as the rows tell that it names.
 #[tactic(auto, using(crate::proofs::Counting::bearing))]
 pub fn bears_none(table: &Table, m: usize, whole: Option<usize>, less: Option<usize>) -> bool
     requires held { m * 16 + 16 ≤ length table.now.rows.now }
@@ -35,7 +35,7 @@ pub fn bears_none(table: &Table, m: usize, whole: Option<usize>, less: Option<us
     !items::is_absent(items::triple(table.rows, m, 8)) && whole.is_none() && less.is_none()
 }
 
-// Whether row m is a member with a tp type that bears the name of no row.
+// Whether row m is a member with a tp type that no row defines.
 #[tactic(auto, using(crate::proofs::Counting::undefineds))]
 fn is_undefined(table: &Table, m: usize) -> bool
     requires { m < table.now.n }
@@ -49,7 +49,7 @@ fn is_undefined(table: &Table, m: usize) -> bool
     bears_none(table, m, whole, less)
 }
 
-// The number of members whose tp type bears the name of no row.
+// The number of members whose tp type no row defines.
 pub fn count_undefined(table: &Table) -> usize
     ensures { CountsUndefined (shown_rows table.now) result }
 {

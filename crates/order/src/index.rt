@@ -2,7 +2,7 @@
 // for each definition for the next row of its bucket: the row plus one in the low 19 bits, the first 13 bits of its name's hash in the others;
 // 0 for none, since a word lent for work holds a number alone. Each chain of rows ascends. The bits of the hash spare most looks at rows of
 // other names.
-ghost use Rattle.std.specs.Prelude.{◌+◌, ◌*◌, ◌≤◌, ◌<◌, ◌≡◌, length};
+ghost use Rattle.std.specs.Prelude.{◌+◌, ◌*◌, ◌≤◌, ◌<◌, length};
 ghost use Rattle.slices.specs.Hash.{HashIs};
 ghost use Rattle.order.specs.Table.{of, over, shown_rows};
 ghost use Rattle.order.specs.Steps.{HasName, FirstNamed, Target};
@@ -80,7 +80,7 @@ fn row_of(word: u32) -> Option<usize>
     (word as usize % 524288).checked_sub(1)
 }
 
-// Whether row k is a type definition of a name, of hash f: the word for the row tells most others.
+// Whether row k is a type definition of a name, of hash f: the hash bits in the row's word rule out most rows of other names.
 #[tactic(auto, using(crate::proofs::Indexing::tags))]
 fn is_named(table: &Table, k: usize, word: u32, f: u32, name: &[u8]) -> bool
     requires held { k * 16 + 16 ≤ length table.now.rows.now }
@@ -114,7 +114,7 @@ fn first_named(by_name: &Index, name: &[u8]) -> Option<usize>
 
 // The row that the tp type of row m names, as it is or less the `[]` at its end.
 // Beside definitions' `find_target` it shares `name_sought`; a trait over the two searches would be longer than the two lines here.
-// Inlined: the order of a small table takes 9 % more time by a call for each member.
+// Inlined: the order of a small table takes longer by a call for each member.
 #[inline(always)]
 #[tactic(auto, using(crate::proofs::Finding::targets))]
 pub fn find_target(by_name: &Index, less: bool, m: usize) -> Option<usize>

@@ -1,7 +1,7 @@
 // The plain form: it needs no words lent for work, and for each row given out it seeks among all definitions the first that is ready.
-ghost use Rattle.std.specs.Prelude.{◌+◌, ◌*◌, ◌≤◌, ◌<◌, [], ◌∷◌};
+ghost use Rattle.std.specs.Prelude.{◌+◌, ◌≤◌, ◌<◌, [], ◌∷◌};
 ghost use Rattle.tables.specs.Table.{Put};
-ghost use Rattle.order.specs.Table.{of, over, shown_rows};
+ghost use Rattle.order.specs.Table.{over, shown_rows};
 ghost use Rattle.order.specs.Steps.{Within, IsLeft, MemberWaits, WaitsIn, Waits, IsReady, NextReady, Blank, Marks, GivenOut};
 
 use super::definitions;

@@ -1,7 +1,7 @@
 // Words lent for work, read and written with no demand on places, and edges in them (candidate.rt says what an edge is).
 // They are lent, since the library has no heap. The words and n are no struct: certificate.rt and index.rt, whose contracts speak of a slice,
 // are given the same words.
-ghost use Rattle.std.specs.Prelude.{◌≡◌, ◌≤◌, ◌<◌, length};
+ghost use Rattle.std.specs.Prelude.{◌≤◌, ◌<◌};
 ghost use Rattle.order.specs.Table.{over};
 ghost use Rattle.order.specs.Certificate.{Got, Kept, IsParent, MemberOf, LessOf};
 

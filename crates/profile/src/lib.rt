@@ -13,9 +13,9 @@ use faults::Fault;
 
 // A character: its code point, and how many bytes it takes.
 #[derive(Clone, Copy)]
-pub struct Character {
-    pub code: u32,
-    pub size: usize,
+struct Character {
+    code: u32,
+    size: usize,
 }
 
 // Whether what begins at a place is no Char.

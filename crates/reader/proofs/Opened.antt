@@ -30,6 +30,7 @@ use Rattle.document.specs.declared.Fill.{Fill}
 use Rattle.document.proofs.Runs.{run_refused}
 use Rattle.document.proofs.Loops.{moved_stands}
 use Rattle.document.proofs.Openings.{tag_named}
+use Rattle.elements.proofs.Rows.{node_kind}
 use Rattle.reader.specs.Nodes.{frames_of, no_level, Walking, Opens, Started}
 use Rattle.reader.specs.declared.Level.{Level}
 use Rattle.reader.specs.declared.Walk.{Walk}
@@ -202,4 +203,4 @@ module _ {doc : List ℕ} {opened : List Level} {c : StartTag} {s : Walk} (begun
                   let q : j ≡ s.depth = omega arith in
                   rw (q, get_or-set_same opened s.depth level no_level (level_inside n)) (omega (arith, fits.inside, fits.within, begun.four k))
 
-pub ruleset node_opens = (node_ready, row_small, parent_small, level_inside, row_below, name_below, open_fault, open_closes, open_deep, open_more, rules)
+pub ruleset node_opens = (node_kind, node_ready, row_small, parent_small, level_inside, row_below, name_below, open_fault, open_closes, open_deep, open_more, rules)

@@ -26,6 +26,7 @@ use Rattle.document.specs.declared.Token.{Token}
 use Rattle.document.proofs.Readers.{keeping}
 use Rattle.document.proofs.Runs.{run_more, run_last, run_refused, run_accepted}
 use Rattle.document.proofs.Openings.{tag_named}
+use Rattle.elements.proofs.Rows.{node_kind}
 use Rattle.reader.specs.Nodes.{frames_of, Walking, Turns, Walks, Levels, RootOpen, EndsNodes, ReadsRoot, ReadsWhole}
 use Rattle.reader.specs.declared.Walk.{Walk}
 use Rattle.reader.specs.declared.Level.{Level}
@@ -153,7 +154,7 @@ module _ {doc : List ℕ} {opened : List Level} {c : StartTag} {g : Fill} {rows 
 
 pub ruleset leveled = (levels_walk, levels_named, levels_read, keeping, rules)
 
-pub ruleset rooted = (root_ready, root_fault, root_closes, root_open, keeping, rules)
+pub ruleset rooted = (node_kind, root_ready, root_fault, root_closes, root_open, keeping, rules)
 
 -- the first token
 module _ {doc : List ℕ} {k : Result Token Refusal} (x : Tokenises doc 0 k) where

@@ -17,16 +17,16 @@ use tags::step;
 
 // How many nodes are open, and the counts so far.
 #[derive(Clone, Copy)]
-pub struct Walk {
-    pub depth: usize,
-    pub fill: Fill,
+struct Walk {
+    depth: usize,
+    fill: Fill,
 }
 
 // An open node: its row, and in `name` the place of its name.
 #[derive(Clone, Copy)]
-pub struct Level {
-    pub row: u32,
-    pub name: u32,
+struct Level {
+    row: u32,
+    name: u32,
 }
 
 // A child of a node with row i that is no node itself.
@@ -85,7 +85,7 @@ fn open_node(
     let depth = s.depth;
     let closes = c.closes;
     let h = f.moved(c.end);
-    let g = elements::node_row(doc, rows, text, c, i + 1, h)?;
+    let g = elements::untyped_row(doc, rows, text, c, kinds::NODE, i + 1, h)?;
     if closes {
         return Ok(ControlFlow::Continue(Walk { depth, fill: g }));
     }
@@ -268,7 +268,7 @@ fn root_node(r: &mut Reader, c: &StartTag) -> Result<Fill, Refusal>
         warnings: 0,
         text: 0,
     };
-    let g = elements::node_row(r.doc, &mut *r.rows, &mut *r.text, c, 0, fill)?;
+    let g = elements::untyped_row(r.doc, &mut *r.rows, &mut *r.text, c, kinds::NODE, 0, fill)?;
     if c.closes {
         return Ok(g);
     }

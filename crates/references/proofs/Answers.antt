@@ -11,7 +11,7 @@ use Rattle.tables.proofs.Tables.{empty_stands}
 use Rattle.utf8.specs.WellFormed.{ill_formed}
 use Rattle.answers.specs.Text.{wrong, Says, Finishes}
 use Rattle.answers.specs.Puts.{Puts}
-use Rattle.answers.proofs.Answers.{told, finished}
+use Rattle.answers.proofs.Answers.{makes, told, finished}
 use Rattle.faults.specs.declared.Fault.{Fault}
 use Rattle.references.specs.Escape.{escape}
 use Rattle.references.specs.Unescape.{unescape}
@@ -85,4 +85,4 @@ module _ {v : List ℕ} {a : Result (Unit {0}) ValueFault} (c : Reads v a) where
         let s = f.says d.is.2.0 ((q.puts d.is.2.0 d.is.2.1).stands [] (empty_stands 1 t)) in
         rw (d.is.1 _, d.is.2.1) (rw l at s)
 
-pub ruleset entries = (told, finished, escape-fault, escape-done, escape-room, unescape-fault, unescape-done, unescape-room, rules)
+pub ruleset entries = (makes, told, finished, escape-fault, escape-done, escape-room, unescape-fault, unescape-done, unescape-room, rules)

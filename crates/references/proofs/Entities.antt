@@ -11,10 +11,10 @@ use lib.Dec.{eqb}
 use lib.ListN.{length, drop, get_or}
 use Rattle.std.proofs.Common.{Ok, Err}
 use Rattle.std.proofs.lemmas.Slice.Eq.{text_from_reads}
-use Rattle.slices.specs.Bytes.{if, bytes, all, empty, same}
+use Rattle.slices.specs.Bytes.{if, bytes, all, empty, same, digit}
 use Rattle.slices.proofs.Runs.{same_equal, Differs, differing}
 use Rattle.references.specs.Characters.{xml_char}
-use Rattle.references.specs.Unescape.{Reference, character, fault, decimal_digit, hex_digit, number, of_code, of_digits, of_number, char_reference, reference}
+use Rattle.references.specs.Unescape.{Reference, character, fault, hex_digit, number, of_code, of_digits, of_number, char_reference, reference}
 use Rattle.references.specs.Outcome.{reference_of}
 use Rattle.references.proofs.Numbers.{char_small}
 
@@ -91,7 +91,7 @@ char_good (b ∷ []) c h =
 char_good (b ∷ d ∷ l) c h = (
   omega arith,
   either (xml_char c ≡ true) (eqb b 35) (of_number (d ∷ l)) (fault 10) c
-      (λ t. either (xml_char c ≡ true) (eqb d 120 || eqb d 88) (of_digits 16 hex_digit l) (of_digits 10 decimal_digit (d ∷ l)) c (λ u. digits_char 16 hex_digit l c) (digits_char 10 decimal_digit (d ∷ l) c))
+      (λ t. either (xml_char c ≡ true) (eqb d 120 || eqb d 88) (of_digits 16 hex_digit l) (of_digits 10 digit (d ∷ l)) c (λ u. digits_char 16 hex_digit l c) (digits_char 10 digit (d ∷ l) c))
       (no_fault 10 c) h,
 )
 

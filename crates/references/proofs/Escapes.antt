@@ -72,8 +72,6 @@ escape_same p d (b ∷ s) h =
     let t = both (p b) (all p s) h in
     rw (escaped_same b (d b t.0), escape_same p d s t.1)
 
--- ---- what is put
-
 -- ---- the loop that puts it
 
 pub record Escaping (v : List ℕ) (n : ℕ) (t₀ t : List ℕ) (at m : ℕ) : Type 0 where

@@ -1,4 +1,4 @@
--- Escaping and unescaping leave a well_formed text well_formed.
+-- Escaping and unescaping leave a well-formed text well-formed.
 use Prim.Native.Nat.{ℕ, zero, suc, ◌+◌, ◌≤◌, ◌<◌}
 use mathlib.Core.Path.{◌≡◌, refl, sym, ◌∙◌}
 use mathlib.Core.List.{List, [], ◌∷◌, ◌++◌}
@@ -90,7 +90,7 @@ all_plain (b ∷ c) h =
     let k : 128 ≤ b = leb-true 128 b t.0 in
     rw (sym (plain_above b (omega arith))) (all_plain c t.1)
 
--- what is shown of n bytes at most is well_formed
+-- what is shown of n bytes at most is well-formed
 abbrev Shown : ℕ → Type 0
 Shown n = (l : List ℕ) (at : ℕ) (t : List ℕ) → length l ≤ n → Whole l → shown_from 0 l at ≡ text t → Whole t
 
@@ -122,7 +122,7 @@ shown_whole zero l at t h w e = let q : l ≡ [] = none l h in let r : [] ≡ t 
 shown_whole (suc n) l at t h w e =
     whole_step n (shown_whole n) w.parts at t w.all (rw w.is h) (rw w.is e)
 
--- what a well_formed value shows is well_formed
+-- what a well-formed value shows is well-formed
 pub unescape_formed : UnescapeFormed
 unfolding unescape
 unescape_formed v t h e = formed (shown_whole (length v) v 0 t (omega arith) (whole v h) e)

@@ -8,11 +8,11 @@ use native.Mathlib.Numerals.{add-one}
 use native.Mathlib.Omega.{arith}
 use lib.Dec.{eqb}
 use lib.ListN.{length, length-append}
-use Rattle.slices.specs.Bytes.{if, bytes, other, span, past, all, empty, same}
+use Rattle.slices.specs.Bytes.{if, bytes, other, span, past, all, empty, same, digit}
 use Rattle.slices.proofs.Runs.{both, by_byte, span_stops, past_stops}
 use Rattle.utf8.specs.Encoding.{utf8}
 use Rattle.answers.specs.Text.{Text, text, wrong}
-use Rattle.references.specs.Unescape.{Reference, character, fault, decimal_digit, hex_digit, of_digits, of_number, char_reference, reference, shows, bad, referred, after_ampersand, piece, before, joined, shown_from, unescape}
+use Rattle.references.specs.Unescape.{Reference, character, fault, hex_digit, of_digits, of_number, char_reference, reference, shows, bad, referred, after_ampersand, piece, before, joined, shown_from, unescape}
 use Rattle.references.specs.Normal.{line_ends, named, refers, normal, after, continued, normal_from, normalised, outcome, FollowsRecommendation}
 
 -- a CR comes to a LF and something after it
@@ -51,9 +51,9 @@ number_ends [] = refl
 number_ends (b ∷ l) =
     by_cr (λ y k x. (line_ends (y ∷ k) ≡ x → of_number x ≡ of_number (y ∷ k))) b l (λ x q. refl) (λ n q. rw (digits_ends hex_digit refl refl 16 l) (decimal n)) refl
   where
-    decimal : eqb b 13 ≡ false → if (eqb b 120 || eqb b 88) (of_digits 16 hex_digit l) (of_digits 10 decimal_digit (b ∷ line_ends l)) ≡ if (eqb b 120 || eqb b 88) (of_digits 16 hex_digit l) (of_digits 10 decimal_digit (b ∷ l))
+    decimal : eqb b 13 ≡ false → if (eqb b 120 || eqb b 88) (of_digits 16 hex_digit l) (of_digits 10 digit (b ∷ line_ends l)) ≡ if (eqb b 120 || eqb b 88) (of_digits 16 hex_digit l) (of_digits 10 digit (b ∷ l))
     decimal n =
-        let d : of_digits 10 decimal_digit (b ∷ line_ends l) ≡ of_digits 10 decimal_digit (b ∷ l) = rw n at (digits_ends decimal_digit refl refl 10 (b ∷ l)) in
+        let d : of_digits 10 digit (b ∷ line_ends l) ≡ of_digits 10 digit (b ∷ l) = rw n at (digits_ends digit refl refl 10 (b ∷ l)) in
         ap (λ (r : Reference). if (eqb b 120 || eqb b 88) (of_digits 16 hex_digit l) r) d
 
 char_ends : (l : List ℕ) → char_reference (line_ends l) ≡ char_reference l

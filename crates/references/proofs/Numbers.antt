@@ -16,10 +16,10 @@ use lib.Seq.{drop-cons, take_all}
 use Rattle.std.proofs.Common.{Ok, Err}
 use Rattle.std.specs.Prelude.{min}
 use Rattle.std.proofs.Math.Nat.{min-eq_left, min-eq_right, min-le_right}
-use Rattle.slices.specs.Bytes.{if, all}
+use Rattle.slices.specs.Bytes.{if, all, digit}
 use Rattle.utf8.proofs.Sequences.{below}
 use Rattle.references.specs.Characters.{xml_char}
-use Rattle.references.specs.Unescape.{decimal_digit, hex_digit, digit_value, number, fault, of_code, of_digits}
+use Rattle.references.specs.Unescape.{hex_digit, digit_value, number, fault, of_code, of_digits}
 use Rattle.references.specs.Digits.{digit_in, Base}
 use Rattle.references.specs.Outcome.{reference_of}
 
@@ -75,10 +75,10 @@ char_small c h = let n : 1114112 ≤ c → ⊥ = λ l. never (xml_char c) (no_ch
 -- ---- digits
 
 module _ (b : ℕ) where
-  pub decimal_above : 48 ≤ b → leb b 57 ≡ decimal_digit b
+  pub decimal_above : 48 ≤ b → leb b 57 ≡ digit b
   decimal_above h = rw (le-leb 48 b h)
 
-  module _ {t : Bool} (e : t ≡ decimal_digit b) (f : t ≡ false) where
+  module _ {t : Bool} (e : t ≡ digit b) (f : t ≡ false) where
     pub hex_lower : 70 < b → 97 ≤ b → leb b 102 ≡ hex_digit b
     hex_lower h l = rw (sym e ∙ f, le-leb 65 b (omega arith), lt-leb b 70 h, le-leb 97 b l)
 
@@ -86,7 +86,7 @@ module _ (b : ℕ) where
   any_hex : (base : ℕ) → digit_in base b ≡ true → hex_digit b ≡ true
   any_hex base h = go (eqb base 16) h
     where
-      go : (t : Bool) → if t (hex_digit b) (decimal_digit b) ≡ true → hex_digit b ≡ true
+      go : (t : Bool) → if t (hex_digit b) (digit b) ≡ true → hex_digit b ≡ true
       go true e = e
       go false e = rw e
 
@@ -95,7 +95,7 @@ module _ (b : ℕ) where
     no_digit e = never (hex_digit b) (sym e) h
 
     module _ (k : 57 < b) where
-      no_decimal : false ≡ decimal_digit b
+      no_decimal : false ≡ digit b
       no_decimal = sym (lt-leb b 57 k) ∙ decimal_above (omega arith)
 
     most_digit : b ≤ 102

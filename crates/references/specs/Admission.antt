@@ -5,7 +5,7 @@ use Rattle.references.specs.Unescape.{unescape}
 use Rattle.references.specs.Entries.{checked, unescaping}
 use Rattle.references.specs.declared.ValueFault.{ValueFault}
 
--- 2, then 1: a value that is short enough and well_formed, or the fault, whatever is asked
+-- 2, then 1: a value that is short enough and well-formed, or the fault, whatever is asked
 abbrev pub IsAdmitted : List ℕ → Result (Unit {0}) ValueFault → Type 0
 IsAdmitted v (Ok u) = (length v ≤ 1048576) × ((o : Text) → checked v o ≡ o)
 IsAdmitted v (Err f) = (o : Text) → checked v o ≡ wrong f.number f.place.0

@@ -16,7 +16,7 @@ UnescapeEscape = (s : List ℕ) → unescape (escape s) ≡ text s
 abbrev pub EscapeQuotable : Type 0
 EscapeQuotable = (s : List ℕ) → (all (other 34) (escape s) ≡ true) × (all (other 60) (escape s) ≡ true)
 
--- both leave UTF-8 well_formed
+-- both leave UTF-8 well-formed
 abbrev pub EscapeFormed : Type 0
 EscapeFormed = (s : List ℕ) → ill_formed s ≡ length s → ill_formed (escape s) ≡ length (escape s)
 

@@ -1,17 +1,14 @@
 -- What a raw attribute value shows: XML 1.0, sections 2.11 (line ends), 3.3.3 (normalisation) and 4.1 (references), with
 -- references as docs/FORMAT.md takes them: `#X` as `#x`, any number of leading zeros, five entities and no others.
 use Rattle.std.specs.Prelude.{ℕ, zero, suc, ◌+◌, ◌-◌, ◌*◌, List, [], ◌∷◌, ◌++◌, Bool, not, ◌&&◌, ◌||◌, eqb, leb, length}
-use Rattle.slices.specs.Bytes.{if, bytes, other, span, past, all, empty, same}
+use Rattle.slices.specs.Bytes.{if, bytes, other, digit, span, past, all, empty, same}
 use Rattle.utf8.specs.Encoding.{utf8}
 use Rattle.answers.specs.Text.{Text, text, wrong}
 use Rattle.references.specs.Characters.{xml_char}
 
--- [0-9], [0-9a-fA-F], and the value of a digit
-abbrev pub decimal_digit : ℕ → Bool
-decimal_digit b = leb 48 b && leb b 57
-
+-- [0-9a-fA-F], and the value of a digit
 abbrev pub hex_digit : ℕ → Bool
-hex_digit b = decimal_digit b || (leb 65 b && leb b 70) || (leb 97 b && leb b 102)
+hex_digit b = digit b || (leb 65 b && leb b 70) || (leb 97 b && leb b 102)
 
 abbrev pub digit_value : ℕ → ℕ
 digit_value b = if (leb b 57) (b - 48) (if (leb b 70) (b - 55) (b - 87))
@@ -37,7 +34,7 @@ abbrev pub of_number : List ℕ → Reference
 of_number [] = fault 11
 of_number (b ∷ l) =
     let hex = of_digits 16 hex_digit l in
-    let dec = of_digits 10 decimal_digit (b ∷ l) in
+    let dec = of_digits 10 digit (b ∷ l) in
     if (eqb b 120 || eqb b 88) hex dec
 
 abbrev pub char_reference : List ℕ → Reference

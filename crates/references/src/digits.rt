@@ -1,7 +1,8 @@
 // The digits of a character reference, and the character that they write.
 ghost use Rattle.std.specs.Prelude.{◌≡◌, true, ◌+◌, ◌*◌, ◌≤◌, ◌<◌, drop, min};
+ghost use Rattle.slices.specs.Bytes.{digit};
 ghost use Rattle.references.specs.Characters.{xml_char};
-ghost use Rattle.references.specs.Unescape.{decimal_digit, hex_digit, digit_value, of_digits};
+ghost use Rattle.references.specs.Unescape.{hex_digit, digit_value, of_digits};
 ghost use Rattle.references.specs.Digits.{digit_in, Base};
 ghost use Rattle.references.specs.Outcome.{reference_of};
 
@@ -14,7 +15,7 @@ fn is_xml_char(c: u32) -> bool
 }
 
 fn is_decimal(b: u8) -> bool
-    ensures { result ≡ decimal_digit b }
+    ensures { result ≡ digit b }
 {
     b.is_ascii_digit()
 }

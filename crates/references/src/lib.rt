@@ -3,7 +3,7 @@
 
 ghost use Rattle.std.specs.Prelude.{◌≡◌, ◌+◌, ◌*◌, ◌<◌, ◌^◌, length, drop, get_or, Ok};
 ghost use Rattle.faults.specs.Fault.{fault};
-ghost use Rattle.answers.specs.Text.{answer_of, left_of};
+ghost use Rattle.answers.specs.Text.{Makes};
 ghost use Rattle.answers.specs.Puts.{Puts};
 ghost use Rattle.references.specs.Escape.{escaped, escape};
 ghost use Rattle.references.specs.Unescape.{of_number, reference};
@@ -33,9 +33,9 @@ pub enum Shown {
 
 // What stands at a place of a value, and the place after it.
 #[derive(Clone, Copy)]
-pub struct Piece {
-    pub shown: Shown,
-    pub next: usize,
+struct Piece {
+    shown: Shown,
+    next: usize,
 }
 
 // Why a value is refused: a fault's number, and its place in the value.
@@ -261,9 +261,7 @@ fn admit_shown(value: &[u8]) -> Result<(), ValueFault>
 // Escapes a value. A value of more than 1,048,576 bytes is refused with 2, an ill-formed one with 1, one that has no room with 21 and the
 // bytes needed.
 pub fn escape(value: &[u8], out: &mut [u8]) -> TextAnswer
-    ensures answer { result ≡ answer_of (escaping value.now (length out.old)) }
-    ensures left { out.new ≡ left_of (length out.old)
-        (escaping value.now (length out.old)) }
+    ensures { Makes (escaping value.now) out.old out.new result }
 {
     match admit(value) {
         Err(fault) => answers::refuse(out, Fault::from(fault)),
@@ -277,9 +275,7 @@ pub fn escape(value: &[u8], out: &mut [u8]) -> TextAnswer
 
 // Unescapes a value. Refused as for `escape` with 2 and 1, then with 9 to 11 at a reference, and with 18 where there is no room.
 pub fn unescape(value: &[u8], out: &mut [u8]) -> TextAnswer
-    ensures answer { result ≡ answer_of (unescaping value.now (length out.old)) }
-    ensures left { out.new ≡ left_of (length out.old)
-        (unescaping value.now (length out.old)) }
+    ensures { Makes (unescaping value.now) out.old out.new result }
 {
     match admit_shown(value) {
         Err(fault) => answers::refuse(out, Fault::from(fault)),

@@ -9,19 +9,20 @@ use lib.Dec.{eqb}
 use lib.ListN.{length}
 use Rattle.slices.specs.Bytes.{bytes}
 use Rattle.utf8.specs.WellFormed.{ill_formed}
-use Rattle.document.specs.Kinds.{definitions, parts, typed}
+use Rattle.document.specs.Kinds as kinds
+use Rattle.document.specs.Kinds.{definitions, typed}
 use Rattle.document.specs.Tags.{Shown}
 use Rattle.document.specs.Tokens.{Tag, Token, start, close, fault, end}
 use Rattle.document.specs.Rows.{Warning, Tables}
 use Rattle.document.specs.Elements.{among, attr, some_signature, Opened, opens, refuses, opens_as}
-use Rattle.document.specs.Reading.{Name, Parts, Definition, Frame, element, definition, passing, name_of, name_shown, tag_name, type_reason, tag_reason, parts_reason, reason_of, noted_in, noted, frame_of, begun, run}
+use Rattle.document.specs.Reading.{Name, Parts, Definition, Frame, element, definition, passing, name_of, name_shown, tag_name, type_reason, tag_reason, parts_reason, reason_of, noted, frame_of, begun, run}
 use Rattle.document.specs.Refusals.{excerpt, fault_in}
 use Rattle.document.specs.Outcome.{whole}
 use Rattle.document.specs.declared.Excerpt.{Excerpt}
 use Rattle.document.specs.declared.Refusal.{Refusal}
 use Rattle.document.proofs.Tests.{either, among_each, among_all}
 use Rattle.document.proofs.Opens.{any_way, Refuses, lacks, at_name, at-end}
-use Rattle.document.proofs.Steps.{Known, Kept, Closes, Ways}
+use Rattle.document.proofs.Steps.{noted_keeps, Known, Kept, Closes, Ways}
 use Rattle.accepted.proofs.Tokens.{Starts, Faults, of_markup, of_name, of_reference, Comes}
 use Rattle.accepted.proofs.Values.{HeldIn, lookup_held}
 use Rattle.accepted.proofs.Folding.{run_kept}
@@ -51,10 +52,10 @@ reason_of_tag k (some n) ty = either (In of_tag) (among k typed) (λ t. reason_o
 reason_of_parts : (k : ℕ) (p : Parts) → In or_none (parts_reason k p)
 reason_of_parts k p =
     either (In or_none) p.broken
-    (λ t. either (In or_none) (eqb k 9) (λ t. refl) (λ t. refl))
-    (λ t. either (In or_none) (eqb k 11)
+    (λ t. either (In or_none) (eqb k kinds.enum) (λ t. refl) (λ t. refl))
+    (λ t. either (In or_none) (eqb k kinds.struct)
     (λ t. either (In or_none) (eqb p.count 0) (λ t. refl) (λ t. refl))
-    (λ t. either (In or_none) (eqb k 13)
+    (λ t. either (In or_none) (eqb k kinds.mapping)
     (λ t. either (In or_none) (eqb p.count 2) (λ t. either (In or_none) p.basic (λ t. refl) (λ t. refl)) (λ t. refl))
     (λ t. refl)))
 
@@ -119,18 +120,12 @@ module _ (doc : List ℕ) where
     root = λ u h. h.1;
   }
 
-  noted_in_stand : (k : ℕ) (t : Tag) (fs : List Frame) → Framed fs → Framed (noted_in k t fs)
-  noted_in_stand k t [] h = h
-  noted_in_stand k t (element c n r ∷ fs) h = h
-  noted_in_stand k t (definition d ∷ fs) h = h
-  noted_in_stand k t (passing p ns ∷ fs) h = h
-
   frame_stands : (k : ℕ) (t : Tag) (i : ℕ) → Stands doc (name_shown (tag_name t)) → FrameStands (frame_of k t i)
   frame_stands k t i s =
       either FrameStands (among k definitions) (λ c. (refl, s, reason_of_tag k (attr (bytes "name") t) (attr (bytes "type") t))) (λ c. s)
 
   entered_stand : (k : ℕ) (t : Tag) (i : ℕ) (fs : List Frame) → Stands doc (name_shown (tag_name t)) → Framed fs → Framed (frame_of k t i ∷ noted k t fs)
-  entered_stand k t i fs s h = (frame_stands k t i s, either Framed (among k parts) (λ c. noted_in_stand k t fs h) (λ c. h))
+  entered_stand k t i fs s h = (frame_stands k t i s, noted_keeps Framed k t (λ d gs f. f) fs h)
 
   module _ (utf8 : ill_formed doc ≡ length doc) where
     -- ---- refusals

@@ -11,8 +11,9 @@ use Rattle.document.specs.Rows.{Row, Tables}
 use Rattle.document.specs.Kinds as kinds
 use Rattle.document.specs.Elements.{kind_of, may_hold, among, Opened, opens, refuses, Keeping, opens_as}
 use Rattle.document.specs.Refusals.{fault_in}
-use Rattle.document.specs.Reading.{Purpose, ignored, captures, Frame, element, definition, passing, State, begun, reading, accepted, refused, parent_of, name_of, noted_in, noted, frame_of, with_row, closed, judged, captured, passed, shut, too_deep, entered, opened, begins, unsupported, docstring_in, child, started, turn, root, step, fold}
+use Rattle.document.specs.Reading.{Purpose, ignored, captures, Frame, element, definition, passing, State, begun, reading, accepted, refused, parent_of, name_of, noted, frame_of, with_row, closed, judged, captured, passed, shut, too_deep, entered, opened, begins, unsupported, docstring_in, child, started, turn, root, step, fold}
 use Rattle.document.proofs.Tests.{either, pairwise}
+use Rattle.document.proofs.Steps.{noted_keeps}
 
 -- Open holds of the places where docstrings begin, Shut of those where they end
 module _ {A : Type 0} (keep : Keeping A) (d d' : List ℕ) (Open Shut : ℕ → Type 0) (alike : (s lt i : ℕ) (u : Tables A) → Open s → Shut lt → captured (take (lt - s) (drop s d)) s i u ≡ captured (take (lt - s) (drop s d')) s i u) where
@@ -53,14 +54,8 @@ module _ {A : Type 0} (keep : Keeping A) (d d' : List ℕ) (Open Shut : ℕ → 
 
   -- ---- frames
 
-  noted_in_ok : (k : ℕ) (t : Tag) (fs : List Frame) → FramesOk fs → FramesOk (noted_in k t fs)
-  noted_in_ok k t [] h = h
-  noted_in_ok k t (element c n r ∷ fs) h = h
-  noted_in_ok k t (definition f ∷ fs) h = h
-  noted_in_ok k t (passing p ns ∷ fs) h = h
-
   noted_ok : (k : ℕ) (t : Tag) (fs : List Frame) → FramesOk fs → FramesOk (noted k t fs)
-  noted_ok k t fs h = either FramesOk (among k kinds.parts) (λ c. noted_in_ok k t fs h) (λ c. h)
+  noted_ok k t = noted_keeps FramesOk k t (λ f gs h. h)
 
   closed_ok : (fs : List Frame) (u : Tables A) → FramesOk fs → StateOk (closed fs u)
   closed_ok [] u h = tt

@@ -15,12 +15,12 @@ use Rattle.document.specs.Rows.{Doc, Row, Warning, Tables, documented}
 use Rattle.document.specs.Refusals.{fault_in}
 use Rattle.document.specs.declared.Refusal.{Refusal}
 use Rattle.document.specs.Elements.{among, Opened, opens, refuses, opens_as}
-use Rattle.document.specs.Reading.{Name, Purpose, ignored, captures, Frame, element, definition, passing, State, name_of, noted_in, noted, frame_of, with_row, step, fold}
+use Rattle.document.specs.Reading.{Name, Purpose, ignored, captures, Frame, element, definition, passing, State, name_of, noted, frame_of, with_row, step, fold}
 use Rattle.document.specs.Outcome.{whole}
 use Rattle.document.proofs.Tests.{either}
 use Rattle.document.proofs.Opens.{Refuses, lacks, at_name, at-end, any_way}
 use Rattle.document.proofs.Steps as steps
-use Rattle.document.proofs.Steps.{Known, Kept, Closes, Ways, step_kept}
+use Rattle.document.proofs.Steps.{noted_keeps, Known, Kept, Closes, Ways, step_kept}
 use Rattle.remarks.specs.Alike.{Same, SameIn}
 
 -- the docstrings of rows
@@ -122,13 +122,7 @@ module _ (d d' : List ℕ) where
     frame_name_same (passing p (n ∷ ns)) h = h.1.0
 
     noted_ok : (k : ℕ) (t : Tag) (fs : List Frame) → FramesOk fs → FramesOk (noted k t fs)
-    noted_ok k t fs h = either FramesOk (among k kinds.parts) (λ c. go fs h) (λ c. h)
-      where
-        go : (fs : List Frame) → FramesOk fs → FramesOk (noted_in k t fs)
-        go [] h = h
-        go (element c n r ∷ fs) h = h
-        go (definition f ∷ fs) h = h
-        go (passing p ns ∷ fs) h = h
+    noted_ok k t = noted_keeps FramesOk k t (λ f gs h. h)
 
     frame_ok : (k : ℕ) (t : Tag) (i : ℕ) → TagOk t → FrameOk (frame_of k t i)
     frame_ok k t i g = either FrameOk (among k kinds.definitions) (λ c. (g.name, g.name)) (λ c. g.name)

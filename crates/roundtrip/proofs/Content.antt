@@ -9,6 +9,7 @@ use borrow.Author.Tests.{eq-eqb, ne_eqb}
 use lib.Dec.{eqb}
 use lib.ListN.{length, length-append}
 use lib.Seq.{drop-append_seam}
+use Rattle.document.specs.Kinds as kinds
 use Rattle.items.specs.Written.{Annotation, Arg, Direction, no-direction, inward, outward, Member, Item, annotated, argument, method, signal}
 use Rattle.items.specs.Words.{is_child}
 use Rattle.items.specs.Content.{Row, annotations, arg_of, args, member_of, content, direction}
@@ -101,7 +102,7 @@ args_back b m p (x ∷ xs) t i z h e k l =
     (narrow i (i + length (args_rows p i (x ∷ xs))) (i + n) (i + n + length rest) m (omega arith) (omega arith) l) in
     rw (eq-eqb p p refl, args_append t p (suc i) (annotation_rows (suc i) x.annotations) rest, no_args t p (suc i) (suc i) x.annotations, f) (λ j. a j ∷ y j)
 
-module _ (k : ℕ) (not-arg : eqb k 7 ≡ false) (not-note : eqb k 6 ≡ false) (b m : List Row) (p : ℕ) (c : Member) (t : List Row) (i : ℕ) (z : length b ≡ i) (older : p ≤ i) (e : t ≡ b ++ (member_rows k p i c ++ m))
+module _ (k : ℕ) (not-arg : eqb k kinds.arg ≡ false) (not-note : eqb k kinds.annotation ≡ false) (b m : List Row) (p : ℕ) (c : Member) (t : List Row) (i : ℕ) (z : length b ≡ i) (older : p ≤ i) (e : t ≡ b ++ (member_rows k p i c ++ m))
     (before : Clear i (i + length (member_rows k p i c)) b) (after : Clear i (i + length (member_rows k p i c)) m) where
   abbrev own : Row
   own = bare_row k p (some c.name) none 0

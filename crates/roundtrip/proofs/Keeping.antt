@@ -8,6 +8,7 @@ use lib.Dec.{eqb, leb, ltb}
 use lib.ListN.{length, length-map, take, drop}
 use Rattle.slices.specs.Bytes.{if, same}
 use Rattle.utf8.specs.WhiteSpace.{trim_start, trim_end}
+use Rattle.document.specs.Kinds as kinds
 use Rattle.document.specs.Tags.{Shown}
 use Rattle.document.specs.Tokens.{Tag, Token, start, close, fault, end, tokens}
 use Rattle.document.specs.Rows.{Doc, Row, Tables, documented}
@@ -109,7 +110,7 @@ module _ {A B : Type 0} (f : A → B) (keep : Keeping A) where
     view_child : (k i : ℕ) (t : Tag) (fs : List Frame) (u : Tables A) → view f (child keep doc k i t fs u) ≡ child seen doc k i t fs (view_tables f u)
     view_child k i t fs u =
         let c = kind_of t.name in
-        branch (view f) (eqb c 14 && not (eqb k 6)) (view_docstring t fs i u) (branch (view f) (may_hold k c) (view_begins c t fs u) (view_unsupported t fs u))
+        branch (view f) (eqb c kinds.docstring && not (eqb k kinds.annotation)) (view_docstring t fs i u) (branch (view f) (may_hold k c) (view_begins c t fs u) (view_unsupported t fs u))
 
     view_started : (g : Frame) (fs : List Frame) (u : Tables A) (t : Tag) → view f (started keep doc g fs u t) ≡ started seen doc g fs (view_tables f u) t
     view_started (element k n i) fs u t = view_child k i t (element k n i ∷ fs) u

@@ -1,4 +1,4 @@
--- What sound rows show: valid names and signatures, well_formed texts; and so the content of each row.
+-- What sound rows show: valid names and signatures, well-formed texts; and so the content of each row.
 use Prim.Native.Nat.{ℕ, zero, suc, ◌+◌, ◌*◌}
 use native.Mathlib.Omega.{arith}
 use mathlib.Core.Path.{◌≡◌, refl, ap, sym, ◌∙◌}
@@ -17,6 +17,7 @@ use Rattle.names.specs.Signature.{signature}
 use Rattle.slices.proofs.Runs.{and_both}
 use Rattle.tables.specs.Triple as triples
 use Rattle.tables.specs.declared.Triple.{Triple}
+use Rattle.document.specs.Kinds as kinds
 use Rattle.document.specs.Elements.{among, may_hold}
 use Rattle.items.specs.Words.{RowWords, absent, row_of, rows_of, shown_by, viewed, rows_shown, is_child}
 use Rattle.items.specs.Sound.{Use, name_use, value_use, valid_name, valid_value, kind_at, good_triple, sound_row, sound, soundness}
@@ -50,13 +51,13 @@ module _ (document text : List ℕ) (u : Use) (valid : List ℕ → Bool) (t : T
       go true e = let z : true ≡ false = sym (rw m at e) in cc
       go false e = (and_both (u.may && triples.inside document text t && well_formed (triples.shown document text t)) (valid (triples.shown document text t)) e).1
 
--- names and values are well_formed; a method's and a signal's name is valid, an arg's signature too
+-- names and values are well-formed; a method's and a signal's name is valid, an arg's signature too
 record Fine (r : Row) : Type 0 where
   name : Formed (present r.name)
   value : Formed (present r.value)
-  method_named : r.kind ≡ 3 → member_name (present r.name) ≡ true
-  signal_named : r.kind ≡ 5 → member_name (present r.name) ≡ true
-  signed : r.kind ≡ 7 → signature (present r.value) ≡ true
+  method_named : r.kind ≡ kinds.method → member_name (present r.name) ≡ true
+  signal_named : r.kind ≡ kinds.signal → member_name (present r.name) ≡ true
+  signed : r.kind ≡ kinds.arg → signature (present r.value) ≡ true
 
 abbrev AllFine : List Row → Type 0
 AllFine [] = Unit {0}
@@ -69,9 +70,9 @@ fine document text rows i r h =
     record {
       name = good_formed document text (name_use k) (valid_name k) r.name p.name;
       value = good_formed document text (value_use k) (valid_value k) r.value p.value;
-      method_named = λ q. good_valid document text (name_use 3) (valid_name 3) r.name (rw q at p.name) refl;
-      signal_named = λ q. good_valid document text (name_use 5) (valid_name 5) r.name (rw q at p.name) refl;
-      signed = λ q. good_valid document text (value_use 7) (valid_value 7) r.value (rw q at p.value) refl;
+      method_named = λ q. good_valid document text (name_use kinds.method) (valid_name kinds.method) r.name (rw q at p.name) refl;
+      signal_named = λ q. good_valid document text (name_use kinds.signal) (valid_name kinds.signal) r.name (rw q at p.name) refl;
+      signed = λ q. good_valid document text (value_use kinds.arg) (valid_value kinds.arg) r.value (rw q at p.value) refl;
     }
 
 -- the m rows from row i on, up to row n
@@ -99,7 +100,7 @@ name_formed (some n) h = (h, tt)
 
 annotations_formed : (p : ℕ) (rs : List Row) → AllFine rs → AllFormed (note_values (annotations p rs))
 annotations_formed p [] h = tt
-annotations_formed p (r ∷ rs) h = go (is_child 6 p r.kind r.parent) (annotations_formed p rs h.1)
+annotations_formed p (r ∷ rs) h = go (is_child kinds.annotation p r.kind r.parent) (annotations_formed p rs h.1)
   where
     go : (b : Bool) → AllFormed (note_values (annotations p rs)) → AllFormed (note_values (if b (annotation_of r ∷ annotations p rs) (annotations p rs)))
     go true k = (h.0.name, (h.0.value, k))
@@ -112,15 +113,15 @@ module _ (t : List Row) (all : AllFine t) where
 
   args_formed : (p i : ℕ) (rs : List Row) → AllFine rs → AllFormed (args_values (args t p i rs)) × Signed (args t p i rs)
   args_formed p i [] h = (tt, tt)
-  args_formed p i (r ∷ rs) h = go (eqb r.kind 7) refl (eqb r.parent p) (args_formed p (suc i) rs h.1)
+  args_formed p i (r ∷ rs) h = go (eqb r.kind kinds.arg) refl (eqb r.parent p) (args_formed p (suc i) rs h.1)
     where
       rest : List Arg
       rest = args t p (suc i) rs
 
-      go : (a : Bool) → eqb r.kind 7 ≡ a → (b : Bool) → AllFormed (args_values rest) × Signed rest → AllFormed (args_values (if (a && b) (arg_of t i r ∷ rest) rest)) × Signed (if (a && b) (arg_of t i r ∷ rest) rest)
+      go : (a : Bool) → eqb r.kind kinds.arg ≡ a → (b : Bool) → AllFormed (args_values rest) × Signed rest → AllFormed (args_values (if (a && b) (arg_of t i r ∷ rest) rest)) × Signed (if (a && b) (arg_of t i r ∷ rest) rest)
       go true e true k = (
         formed_append (arg_values (arg_of t i r)) (args_values rest) (arg_formed i r h.0) k.0,
-        (h.0.signed (eqb-true r.kind 7 e), k.1),
+        (h.0.signed (eqb-true r.kind kinds.arg e), k.1),
       )
       go true e false k = k
       go false e b k = k
@@ -131,7 +132,7 @@ module _ (t : List Row) (all : AllFine t) where
       (f.name, formed_append (args_values (args t (suc i) 0 t)) (note_values (annotations (suc i) t)) (args_formed (suc i) 0 t all).0 (annotations_formed (suc i) t all))
 
   item_good : (i : ℕ) (r : Row) → Fine r → (c : Item) → item_of t i r ≡ some c → Good c × AllFormed (values c)
-  item_good i r f c = go (eqb r.kind 3) refl (eqb r.kind 5) refl (eqb r.kind 6) (eqb r.kind 7) refl
+  item_good i r f c = go (eqb r.kind kinds.method) refl (eqb r.kind kinds.signal) refl (eqb r.kind kinds.annotation) (eqb r.kind kinds.arg) refl
     where
       m : Item
       m = method (member_of t i r)
@@ -148,11 +149,11 @@ module _ (t : List Row) (all : AllFine t) where
       is : (d : Item) → Good d × AllFormed (values d) → some d ≡ some c → Good c × AllFormed (values c)
       is d k e = let q : d ≡ c = cc in rw q at k
 
-      go : (x : Bool) → eqb r.kind 3 ≡ x → (y : Bool) → eqb r.kind 5 ≡ y → (z w : Bool) → eqb r.kind 7 ≡ w → if x (some m) (if y (some s) (if z (some a) (if w (some g) none))) ≡ some c → Good c × AllFormed (values c)
-      go true e y _ z w _ = is m ((f.method_named (eqb-true r.kind 3 e), (args_formed (suc i) 0 t all).1), member_formed i r f)
-      go false _ true e z w _ = is s ((f.signal_named (eqb-true r.kind 5 e), (args_formed (suc i) 0 t all).1), member_formed i r f)
+      go : (x : Bool) → eqb r.kind kinds.method ≡ x → (y : Bool) → eqb r.kind kinds.signal ≡ y → (z w : Bool) → eqb r.kind kinds.arg ≡ w → if x (some m) (if y (some s) (if z (some a) (if w (some g) none))) ≡ some c → Good c × AllFormed (values c)
+      go true e y _ z w _ = is m ((f.method_named (eqb-true r.kind kinds.method e), (args_formed (suc i) 0 t all).1), member_formed i r f)
+      go false _ true e z w _ = is s ((f.signal_named (eqb-true r.kind kinds.signal e), (args_formed (suc i) 0 t all).1), member_formed i r f)
       go false _ false _ true w _ = is a (tt, (f.name, (f.value, tt)))
-      go false _ false _ false true e = is g (f.signed (eqb-true r.kind 7 e), arg_formed i r f)
+      go false _ false _ false true e = is g (f.signed (eqb-true r.kind kinds.arg e), arg_formed i r f)
       go false _ false _ false false e = λ q. let z : ◌≡◌ {A = ℕ} 0 1 = cc in absurd (omega arith)
 
   first_good : (i : ℕ) (rs : List Row) → AllFine rs → (c : Item) → first_item t i rs ≡ some c → Good c × AllFormed (values c)
@@ -164,7 +165,7 @@ fine_drop zero rs h = h
 fine_drop (suc i) [] h = tt
 fine_drop (suc i) (r ∷ rs) h = fine_drop i rs h.1
 
--- what sound rows hold is what a reader takes, and its texts are well_formed
+-- what sound rows hold is what a reader takes, and its texts are well-formed
 pub content_good : (document text ws : List ℕ) (n i : ℕ) (c : Item) → soundness document text ws n ≡ sound → content_at document text ws n i ≡ some c → Good c × AllFormed (values c)
 unfolding content
 content_good document text ws n i c e h =
@@ -183,23 +184,23 @@ module _ (v : RowWords → Row) (same_kind : (r : RowWords) → (v r).kind ≡ r
   row_there ks z (r ∷ rs) zero h = (v r, map v rs, refl, rw (same_kind r) h)
   row_there ks z (r ∷ rs) (suc i) h = row_there ks z rs i h
 
-there : (t : List Row) (i : ℕ) (r : Row) → among r.kind (3 ∷ 5 ∷ 6 ∷ []) ≡ true → (c : Item) × (item_of t i r ≡ some c) × (may_hold 2 (kind c) ≡ true)
-there t i r = go (eqb r.kind 3) (eqb r.kind 5) (eqb r.kind 6)
+there : (t : List Row) (i : ℕ) (r : Row) → among r.kind (kinds.method ∷ kinds.signal ∷ kinds.annotation ∷ []) ≡ true → (c : Item) × (item_of t i r ≡ some c) × (may_hold kinds.interface (kind c) ≡ true)
+there t i r = go (eqb r.kind kinds.method) (eqb r.kind kinds.signal) (eqb r.kind kinds.annotation)
   where
     last : Option Item
-    last = if (eqb r.kind 7) (some (argument (arg_of t i r))) none
+    last = if (eqb r.kind kinds.arg) (some (argument (arg_of t i r))) none
 
-    go : (x y z : Bool) → if x true (if y true (if z true false)) ≡ true → (c : Item) × (if x (some (method (member_of t i r))) (if y (some (signal (member_of t i r))) (if z (some (annotated (annotation_of r))) last)) ≡ some c) × (may_hold 2 (kind c) ≡ true)
+    go : (x y z : Bool) → if x true (if y true (if z true false)) ≡ true → (c : Item) × (if x (some (method (member_of t i r))) (if y (some (signal (member_of t i r))) (if z (some (annotated (annotation_of r))) last)) ≡ some c) × (may_hold kinds.interface (kind c) ≡ true)
     go true y z h = (method (member_of t i r), refl, unfold may_hold in refl)
     go false true z h = (signal (member_of t i r), refl, unfold may_hold in refl)
     go false false true h = (annotated (annotation_of r), refl, unfold may_hold in refl)
     go false false false h = let z : ◌≡◌ {A = ℕ} 0 1 = cc in absurd (omega arith)
 
--- a row of kind 3, 5 or 6 has content that may stand in an interface
-pub content_there : (document text ws : List ℕ) (n i : ℕ) → among (kind_at (rows_of n ws) i) (3 ∷ 5 ∷ 6 ∷ []) ≡ true → (c : Item) × (content_at document text ws n i ≡ some c) × (may_hold 2 (kind c) ≡ true)
+-- a method, a signal or an annotation has content that may stand in an interface
+pub content_there : (document text ws : List ℕ) (n i : ℕ) → among (kind_at (rows_of n ws) i) (kinds.method ∷ kinds.signal ∷ kinds.annotation ∷ []) ≡ true → (c : Item) × (content_at document text ws n i ≡ some c) × (may_hold kinds.interface (kind c) ≡ true)
 unfolding content
 content_there document text ws n i h =
     let t = rows_shown document text ws n in
-    let r = row_there (viewed document text) (λ r. refl) (3 ∷ 5 ∷ 6 ∷ []) refl (rows_of n ws) i h in
+    let r = row_there (viewed document text) (λ r. refl) (kinds.method ∷ kinds.signal ∷ kinds.annotation ∷ []) refl (rows_of n ws) i h in
     let x = there t i r.0 r.3 in
     (x.0, ap (first_item t i) r.2 ∙ x.1, x.2)

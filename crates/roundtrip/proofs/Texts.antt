@@ -1,4 +1,4 @@
--- What is written is well_formed UTF-8 if its texts are.
+-- What is written is well-formed UTF-8 if its texts are.
 use Prim.Native.Nat.{ℕ}
 use mathlib.Core.Path.{◌≡◌, refl}
 use mathlib.Core.List.{List, [], ◌∷◌, ◌++◌, map}
@@ -30,7 +30,7 @@ append_whole : (cs ds : List (List ℕ)) → AllWhole cs → AllWhole ds → All
 append_whole [] ds h k = k
 append_whole (c ∷ cs) ds h k = (h.0, append_whole cs ds h.1 k)
 
--- attributes with names below 128 and well_formed texts
+-- attributes with names below 128 and well-formed texts
 abbrev Pairs : List Pair → Type 0
 Pairs [] = Unit {0}
 Pairs (p ∷ ps) = Whole p.key × Formed p.value × Pairs ps

@@ -1,11 +1,10 @@
 -- A written item in a document of its own is read as its rows, if the document is short enough and the room is there.
-use Prim.Native.Nat.{ℕ, ◌+◌, ◌/◌}
+use Prim.Native.Nat.{ℕ, ◌+◌}
 use native.Mathlib.Omega.{arith}
 use mathlib.Core.Path.{◌≡◌, refl, ap, ◌∙◌, sym}
 use mathlib.Core.List.{List, [], ◌∷◌, ◌++◌, map, append_assoc, append-nil}
 use mathlib.Core.Option.{Option, none, some}
 use mathlib.Core.Bool.{Bool, true, false, not}
-use borrow.Author.Tests.{le-ltb}
 use lib.Dec.{ltb}
 use lib.ListN.{length, length-map}
 use Rattle.slices.specs.Bytes.{bytes}
@@ -16,6 +15,7 @@ use Rattle.names.proofs.Bytes.{interface_bytes, name_all}
 use Rattle.scan.specs.Classes.{escapable}
 use Rattle.references.specs.Escape.{escape}
 use Rattle.references.proofs.Escapes.{escape_same}
+use Rattle.document.specs.Kinds as kinds
 use Rattle.document.specs.Tags.{Shown}
 use Rattle.document.specs.Rows as tables
 use Rattle.document.specs.Rows.{Tables, texts}
@@ -26,6 +26,7 @@ use Rattle.document.specs.Reading.{begun, accepted, begins, step, run}
 use Rattle.document.specs.Whole.{Room, meaning, read}
 use Rattle.items.specs.View.{over, view_row, view_tables, view, text_shown}
 use Rattle.items.specs.Written.{Item, named, tag, closing_tag, element, written}
+use Rattle.accepted.proofs.Accepted.{means_run, means_read}
 use Rattle.roundtrip.specs.Items.{rows, node_row, interface_row, values, referenced}
 use Rattle.roundtrip.specs.Statement.{around, Fits}
 use Rattle.roundtrip.proofs.Tags.{tag_at}
@@ -63,7 +64,7 @@ module _ (n : List ℕ) (h : interface_name n ≡ true) where
   interface_opens : (root : ℕ) → Opens 2 (bytes "interface") (named n ∷ []) (inside (in_node root) (marked node_row ∷ []) []) (marked (interface_row n)) (in_node root) (marked node_row ∷ []) []
   interface_opens root = record { name = (refl, refl, refl, refl); keys = (refl, refl, tt); few = omega arith; enters = interface_enters root }
 
-  holding_element : (c : Item) → may_hold 2 (kind c) ≡ true → Good c → Element (holding n c) begun (accepted (table (map marked (node_row ∷ interface_row n ∷ rows 2 2 c)) []))
+  holding_element : (c : Item) → may_hold kinds.interface (kind c) ≡ true → Good c → Element (holding n c) begun (accepted (table (map marked (node_row ∷ interface_row n ∷ rows 2 2 c)) []))
   holding_element c i g =
       an_element node_opens _
       (λ root. child (an_element (interface_opens root) _ (λ at. child (item_element 2 c i g (name_from at (bytes "interface")) 1 (in_node root) (marked node_row ∷ marked (interface_row n) ∷ []) []).passes childless)).passes childless)
@@ -100,7 +101,7 @@ read_on {b} {s} x doc r e =
     ap (λ l. states.fold keeps doc s (tokens l 0)) e
     ∙ rw (x.lexed 0 r, fold-append doc s (x.toks 0) (tokens r (0 + length b)), x.folds doc 0)
 
-module _ (n : List ℕ) (h : interface_name n ≡ true) (c : Item) (i : may_hold 2 (kind c) ≡ true) (g : Good c) where
+module _ (n : List ℕ) (h : interface_name n ≡ true) (c : Item) (i : may_hold kinds.interface (kind c) ≡ true) (g : Good c) where
   run_held : run keeps (around n (written c)) 0 begun ≡ accepted (table (map marked (node_row ∷ interface_row n ∷ rows 2 2 c)) [])
   unfolding tokens step
   run_held =
@@ -146,19 +147,18 @@ pub record Answers (doc : List ℕ) (room : Room) (name : List ℕ) (c : Item) :
   pub many : length (tables).rows ≡ 2 + length (rows 2 2 c)
   pub text : length (texts (tables).rows) ≡ referenced (values c)
 
-module _ (n : List ℕ) (h : interface_name n ≡ true) (c : Item) (i : may_hold 2 (kind c) ≡ true) (g : Good c) (w : AllFormed (values c)) (room : Room) (f : Fits n c room) where
+module _ (n : List ℕ) (h : interface_name n ≡ true) (c : Item) (i : may_hold kinds.interface (kind c) ≡ true) (g : Good c) (w : AllFormed (values c)) (room : Room) (f : Fits n c room) where
   abbrev doc : List ℕ
   doc = around n (written c)
 
   well_formed : ill_formed doc ≡ length doc
   well_formed = formed (whole_around n h (written c) (whole_written c w))
 
-  means_run : meaning doc ≡ run whole doc 0 begun
-  unfolding meaning
-  means_run = rw (le-ltb 1048576 (length doc) f.short, well_formed, le-ltb (length doc) (length doc) (omega arith))
-
   found : (t : Tables Shown) × (run whole doc 0 begun ≡ accepted t) × (view_tables held t ≡ table (map marked (node_row ∷ interface_row n ∷ rows 2 2 c)) [])
   found = accepted_view (run whole doc 0 begun) _ (view_run held whole doc 0 begun ∙ run_held n h c i g)
+
+  meant : meaning doc ≡ accepted found.0
+  meant = means_run doc f.short well_formed ∙ found.1
 
   held_rows : map (view_row held) found.0.rows ≡ map marked (node_row ∷ interface_row n ∷ rows 2 2 c)
   held_rows = ap (λ u. u.rows) found.2
@@ -173,20 +173,14 @@ module _ (n : List ℕ) (h : interface_name n ≡ true) (c : Item) (i : may_hold
   text_size = texts_size found.0.rows ∙ ap sizes held_rows ∙ table_size n c (same_escaped n h)
 
   fits : read doc room ≡ accepted found.0
-  unfolding read
   fits =
       let none : length found.0.warnings ≡ 0 = ap length no_warnings in
-      rw (means_run, found.1)
-      (rw (
-        le-ltb (room.rows / 16) (length found.0.rows) (omega (arith, f.rows, row_count)),
-        le-ltb (room.warnings / 4) (length found.0.warnings) (omega (arith, none)),
-        le-ltb room.text (length (texts found.0.rows)) (omega (arith, f.text, text_size)),
-      ))
+      means_read doc room found.0 meant (omega (arith, f.rows, row_count)) (omega (arith, none)) (omega (arith, f.text, text_size))
 
   pub answers : Answers doc room n c
   answers = record {
     tables = found.0;
-    means = means_run ∙ found.1;
+    means = meant;
     reads = fits;
     silent = no_warnings;
     shows = shown_held found.0.rows ∙ ap (map (view_row value_of)) held_rows ∙ unmarked (node_row ∷ interface_row n ∷ rows 2 2 c) (refl, (refl, item_placeless 2 2 c));

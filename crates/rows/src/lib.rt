@@ -34,11 +34,11 @@ impl Head {
 
 // The triple of a value, and how many bytes of text there are after it. No `Triple` in it: its three words go into the row one by one.
 #[derive(Clone, Copy)]
-pub struct Placed {
-    pub source: u32,
-    pub start: u32,
-    pub len: u32,
-    pub text: usize,
+struct Placed {
+    source: u32,
+    start: u32,
+    len: u32,
+    text: usize,
 }
 
 // The triple of a value; a changed one's shown bytes go into the text.
@@ -102,7 +102,7 @@ fn put_placed(rows: &mut [u32], n: usize, head: Head, a: Placed, b: Placed, c: P
 }
 
 // Adds a row where a whole one has room, and the text of its changed values; counts in any case.
-// Inlined: the counts would be copied once more on the way back, and reading takes 4 % more time.
+// Inlined: the counts would be copied once more on the way back, and reading takes longer.
 #[inline(always)]
 pub fn put_row(
     doc: &[u8],

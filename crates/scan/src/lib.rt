@@ -1,7 +1,7 @@
 // Scanning: the table of classes, white space, names, and what is ignorable between tags.
 #![tactic(auto)]
 
-ghost use Rattle.std.specs.Prelude.{◌≡◌, suc, pred, ◌+◌, ◌^◌, ◌≤◌, ◌<◌, eqb, length, drop, get_or};
+ghost use Rattle.std.specs.Prelude.{◌≡◌, suc, pred, ◌+◌, ◌^◌, ◌≤◌, ◌<◌, eqb, length, get_or};
 ghost use Rattle.slices.specs.Bytes.{if};
 ghost use Rattle.slices.specs.Run.{Run};
 ghost use Rattle.scan.specs.Classes.{white, nc_name_byte};

@@ -23,7 +23,7 @@ document_outcome raw =
     let s = read_file raw program_room program_decoded in
     outcome_of (verdict_of s) (rows_left program_room s) (warnings_left program_room s)
 
--- opening or reading failed, or so many bytes were read, of which more than 65,536 are over_long
+-- opening or reading failed, or so many bytes were read, of which more than 65,536 are over-long
 unfoldable pub file_outcome : Bool → List ℕ → Outcome
 file_outcome failed bs = let d = document_outcome bs in if failed unreadable (if (nat_lt 65536 (length bs)) (refused 2) d)
 

@@ -41,7 +41,7 @@ lines_of s = files_line s ++ (lines_by 114 s.numbers ++ (lines_by 107 s.kinds ++
 abbrev pub more_line : Bool → List ℕ
 more_line b = if b (bytes "more" ++ (10 ∷ [])) []
 
--- the only line where the list is over_long
+-- the only line where the list is over-long
 unfoldable pub long_line : List ℕ
 long_line = bytes "refused 2 262144" ++ (10 ∷ [])
 

@@ -1,7 +1,7 @@
 // Sheets: counts of what comes of files; the names of a list of files; the lines printed.
 #![tactic(auto)]
 
-ghost use Rattle.std.specs.Prelude.{◌≡◌, ◌<◌, ◌≤◌, [], ◌∷◌, length};
+ghost use Rattle.std.specs.Prelude.{◌<◌, ◌≤◌, [], ◌∷◌, length};
 ghost use Rattle.sheets.specs.Sheet.{unreadable, refused, accepted, blank};
 ghost use Rattle.sheets.specs.Answer.{firsts, outcome_of};
 ghost use Rattle.sheets.specs.Counts.{Counted, Stands, Adds};

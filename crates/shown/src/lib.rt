@@ -1,7 +1,7 @@
 // Tests on the text that a value shows: names, signatures, an access, a direction. A text of more than 255 bytes passes none of them.
 #![tactic(auto)]
 
-ghost use Rattle.std.specs.Prelude.{◌≡◌, ◌≤◌, List, ℕ, length};
+ghost use Rattle.std.specs.Prelude.{List, ℕ};
 ghost use Rattle.names.specs.Names.{interface_name, member_name, property_name};
 ghost use Rattle.names.specs.Signature.{basic_signature, signature};
 ghost use Rattle.document.specs.Elements.{access_of, direction_of, some_signature};

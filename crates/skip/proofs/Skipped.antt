@@ -1,4 +1,4 @@
--- An element that nobody asked for: its warning, and the ways on from there.
+-- An element that its parent does not hold: its warning, and the ways on from there.
 use Prim.Native.Nat.{ℕ, ◌≤◌}
 use mathlib.Core.Path.{◌≡◌, refl, sym, ◌∙◌, ap}
 use mathlib.Core.List.{List, [], ◌∷◌}

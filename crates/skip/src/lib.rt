@@ -47,7 +47,7 @@ fn skip_element(
     }
 }
 
-// An element that nobody asked for: its warning, then its content.
+// An element that its parent does not hold: its warning, then its content.
 pub fn skip_unsupported(
     doc: &[u8],
     classes: &ClassTable,
@@ -73,7 +73,8 @@ fn capture(doc: &[u8], rows: &mut [u32], from: usize, lt: usize, i: usize)
     requires within { lt ≤ length doc.now }
     requires small { length doc.now ≤ 1048576 }
     requires row_small { i < 1048576 }
-    requires formed { ill_formed (take (lt - from) (drop from doc.now)) ≡ length (take (lt - from) (drop from doc.now)) }
+    requires formed { ill_formed (take (lt - from) (drop from doc.now))
+        ≡ length (take (lt - from) (drop from doc.now)) }
     ensures { Puts doc.now from lt i rows.old rows.new }
 {
     let s = utf8::trim(&doc[from..lt]);
@@ -107,7 +108,7 @@ fn docstring(
     Ok(f.moved(closing.end))
 }
 
-// A docstring for row i, or an element that nobody asked for.
+// A docstring for row i, or an element that its parent does not hold.
 pub fn docstring_or_skip(
     doc: &[u8],
     classes: &ClassTable,

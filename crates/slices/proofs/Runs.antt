@@ -1,5 +1,5 @@
 -- Runs of a class of bytes, equal lists and beginnings.
-use Rattle.std.proofs.Common.{◌≡◌, ℕ, zero, suc, ◌+◌, ◌-◌, ◌<◌, ◌≤◌, Bool, true, false, ◌&&◌, eqb, List, [], ◌∷◌, ◌++◌, length, get_or, drop, sym, refl, ap, ◌∙◌, subst, add-zero, add-one, arith, length-drop, drop_of_length-le, get_or-drop, drop-cons, drop-drop, rules, eq-eqb, ne_eqb, eqb-true}
+use Rattle.std.proofs.Common.{◌≡◌, ℕ, zero, suc, ◌+◌, ◌-◌, ◌<◌, ◌≤◌, Bool, true, false, ◌&&◌, eqb, List, [], ◌∷◌, ◌++◌, length, get_or, drop, sym, refl, ap, ◌∙◌, subst, append_assoc, add-zero, add-one, arith, length-drop, drop_of_length-le, get_or-drop, drop-cons, drop-drop, rules, eq-eqb, ne_eqb, eqb-true}
 use mathlib.Core.Bool.{false≢true, and-eq-true_iff}
 use borrow.Author.Tests.{eqb-false}
 use Rattle.std.specs.Prelude.{Option, None, Some, MatchOption}
@@ -19,12 +19,23 @@ pub if_false : (t : Bool) → if t false false ≡ false
 if_false true = refl
 if_false false = refl
 
+pub if_true : (t : Bool) → if t true true ≡ true
+if_true true = refl
+if_true false = refl
+
+pub if_same : (t : Bool) → if t true false ≡ t
+if_same true = refl
+if_same false = refl
+
 pub eqb_swap : (m n : ℕ) → eqb m n ≡ eqb n m
 eqb_swap m n = go (eqb m n) refl
   where
     go : (t : Bool) → eqb m n ≡ t → eqb m n ≡ eqb n m
     go true e = e ∙ sym (eq-eqb n m (sym (eqb-true m n e)))
     go false e = e ∙ sym (ne_eqb n m (λ q. eqb-false m n e (sym q)))
+
+pub append_regroup : (a b c d : List ℕ) → a ++ ((b ++ c) ++ d) ≡ (a ++ b) ++ (c ++ d)
+append_regroup a b c d = simp append_assoc
 
 -- a byte is one of a kind, or it is not
 pub by_byte : (P : ℕ → Type 0) (b k : ℕ) → P k → (eqb b k ≡ false → P b) → P b
@@ -59,7 +70,7 @@ past_stops p (a ∷ s) r h e =
     let t = both (p a) (all p s) h in
     rw t.0 (past_stops p s r t.1 e)
 
--- what follows a run, by its place: the bridge to code, which has the place
+-- what follows a run, by its place, as code uses it
 pub past-drop : (p : ℕ → Bool) (l : List ℕ) → past p l ≡ drop (length (span p l)) l
 past-drop p [] = refl
 past-drop p (b ∷ l) = go (p b) (past-drop p l)

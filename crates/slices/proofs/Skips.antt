@@ -1,5 +1,5 @@
 -- Laws of looking for a byte by blocks.
-use Rattle.std.proofs.Common.{◌≡◌, ℕ, zero, suc, ◌+◌, ◌-◌, ◌*◌, ◌<◌, ◌≤◌, Bool, true, false, T, List, length, get_or, sym, refl, ap, ◌∙◌, subst, arith, rules}
+use Rattle.std.proofs.Common.{◌≡◌, ℕ, ◌+◌, ◌-◌, ◌*◌, ◌<◌, ◌≤◌, Bool, true, false, List, length, get_or, sym, refl, ap, ◌∙◌, subst, arith, rules}
 use native.Mathlib.Decide.{dec_lt}
 use Rattle.slices.specs.Bytes.{other}
 use Rattle.slices.specs.Run.{Blocks, Run, Told, Without, Sought}

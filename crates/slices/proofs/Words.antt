@@ -1,5 +1,6 @@
 -- Laws of 8 bytes taken as one number: the trailing zeros of a mask count the bytes before the first that is below a bound.
-use Rattle.std.proofs.Common.{◌≡◌, ℕ, zero, suc, ◌+◌, ◌-◌, ◌*◌, ◌/◌, ◌%◌, ◌^◌, ◌<◌, ◌≤◌, Bool, true, ◌⊎◌, List, length, get_or, take, drop, sym, refl, ap, ◌∙◌, subst, inl, inr, add-zero, suc-add, zero-add, mul-one, arith, length-drop, take_all, w64, Fits, rules}
+use Rattle.std.proofs.Common.{◌≡◌, ℕ, zero, suc, ◌+◌, ◌-◌, ◌*◌, ◌/◌, ◌%◌, ◌^◌, ◌<◌, ◌≤◌, Bool, true, ◌⊎◌, List, length, get_or, take, drop, sym, refl, ap, ◌∙◌, subst, inl, inr, add-zero, suc-add, zero-add, mul-one, arith, w64, Fits, rules}
+use Rattle.std.proofs.lemmas.List.{take_rest}
 use native.Mathlib.Nat.{mul-add-mod_self_right}
 use native.Mathlib.Decide.{dec_lt}
 use lib.Bits.{bit_and, bit_xor, xor_block, xor_add_and, xor_self, xor_lt, and_shr, and_mod, and_high, and_le_l, and_le_r, shifted_even, shifted_half}
@@ -213,14 +214,11 @@ agreeing a b (suc r) h e f =
     let n : r + 1 ≡ suc r = omega arith in
     subst (Matching a 0 b) n (match_more (agreeing a b r (omega arith) e (λ i l. f i (omega (arith, l)))) h (rw z (f r (omega arith))))
 
-all_left : (l : List ℕ) (r : ℕ) → take (length l - r) (drop r l) ≡ drop r l
-all_left l r = take_all (length l - r) (drop r l) (omega (arith, length-drop r l))
-
 pub agrees_rest : {a b : List ℕ} {r : ℕ} {t : Bool} → length a ≡ length b → Agrees a b r → t ≡ starts (take (length b - r) (drop r b)) (take (length a - r) (drop r a)) → t ≡ same a b
 agrees_rest {a} {b} {r} {t} e g h =
     let z : 0 + r ≡ r = omega arith in
     let m : starts b a ≡ starts (drop r b) (drop (0 + r) a) = (agreeing a b r g.within e g.bytes).left in
-    same_long a b t e (h ∙ rw (all_left a r, all_left b r) (sym (rw z at m)))
+    same_long a b t e (h ∙ rw (take_rest a r, take_rest b r) (sym (rw z at m)))
 
 pub ruleset worded = (word_from_bytes, zeros_fit, lead_word, below_of, equal_of, rules)
 

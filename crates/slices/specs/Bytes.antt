@@ -1,5 +1,5 @@
 -- Lists of bytes: texts, runs of a class, equal lists and beginnings.
-use Rattle.std.specs.Prelude.{ℕ, Bool, true, false, not, List, [], ◌∷◌, ◌==◌}
+use Rattle.std.specs.Prelude.{ℕ, Bool, true, false, not, ◌&&◌, List, [], ◌∷◌, ◌==◌, leb}
 use Prim.Native.Char.{code}
 use Prim.Native.String as string
 
@@ -15,6 +15,10 @@ bytes (string.◌∷◌ c s) = code c ∷ bytes s
 -- any byte but q
 abbrev pub other : ℕ → ℕ → Bool
 other q b = not (b == q)
+
+-- [0-9]
+abbrev pub digit : ℕ → Bool
+digit b = leb 48 b && leb b 57
 
 -- the longest beginning whose bytes are all of a class, and what follows it
 abbrev pub span : (ℕ → Bool) → List ℕ → List ℕ

@@ -1,7 +1,7 @@
 // Byte slices: the first place of a byte, whether a key stands at a place, whether two slices are equal, a hash.
 #![tactic(auto)]
 
-ghost use Rattle.std.specs.Prelude.{◌≡◌, ℕ, ◌+◌, ◌*◌, ◌<◌, ◌≤◌, Bool, length, drop};
+ghost use Rattle.std.specs.Prelude.{◌≡◌, ℕ, ◌+◌, ◌*◌, ◌<◌, ◌≤◌, ◌⊎◌, Bool, false, length, drop};
 ghost use Rattle.slices.specs.Bytes.{other, same, starts};
 ghost use Rattle.slices.specs.Hash.{mixed, HashIs};
 ghost use Rattle.slices.specs.Run.{Blocks, Run, Sought, Tells, Told, Without};
@@ -59,12 +59,13 @@ pub fn run_end<F: Fn(u8) -> bool>(s: &[u8], from: usize, test: F) -> usize
     (from..s.len()).find(|&at| !test(s[at])).unwrap_or(s.len())
 }
 
-// Past whole blocks of n bytes, of whose places the test is true.
+// Past whole blocks of n bytes, of whose places the test is true, up to one of which it is false, or where fewer than n bytes are left.
 pub fn blocks<F: Fn(usize) -> bool>(s: &[u8], from: usize, n: usize, test: F) -> usize
     requires in_bounds { from ≤ length s.now }
     requires nonempty { 0 < n }
     requires callable { (at : ℕ) → at + n ≤ length s.now → F.pre test at }
-    ensures { Blocks (F.post test) s.now from n result }
+    ensures passed { Blocks (F.post test) s.now from n result }
+    ensures stops { (length s.now < result + n) ⊎ F.post test result false }
 {
     let mut at = from;
     // By `step_by` no line would be shorter.
@@ -127,7 +128,7 @@ pub fn find(s: &[u8], from: usize, b: u8) -> usize
     run_end(s, near, |x| x != b)
 }
 
-// The same for a byte that is near as a rule: 4 words first. By `find`, which looks at whole blocks first, reading takes 4 % more time.
+// The same for a byte that is near as a rule: 4 words first. By `find`, which looks at whole blocks first, reading takes longer.
 #[tactic(auto, using(crate::proofs::Skips::finds))]
 pub fn find_near(s: &[u8], from: usize, b: u8) -> usize
     requires { from ≤ length s.now }
@@ -143,7 +144,7 @@ pub fn find_near(s: &[u8], from: usize, b: u8) -> usize
     find(s, at, b)
 }
 
-// Whether the key stands at a place. Not by std's `starts_with`, nor `equal` by `==`: reading takes 10 % more instructions a byte with them.
+// Whether the key stands at a place. Not by std's `starts_with`, nor `equal` by `==`: reading takes more instructions a byte with them.
 #[tactic(auto, using(crate::proofs::Runs::matches))]
 pub fn starts_at(s: &[u8], from: usize, key: &[u8]) -> bool
     requires { from ≤ length s.now }
@@ -177,7 +178,7 @@ fn agreed(a: &[u8], b: &[u8]) -> usize
 }
 
 // Whether two slices hold the same bytes, where they may be long: by words first.
-// By `equal`, documents whose names have a long beginning in common take a fifth more time to read.
+// By `equal`, documents whose names have a long beginning in common take longer to read.
 #[tactic(auto, using(crate::proofs::Words::agrees))]
 pub fn equal_long(a: &[u8], b: &[u8]) -> bool
     ensures { result ≡ same a.now b.now }

@@ -9,13 +9,17 @@ use native.Mathlib.Omega.{arith}
 use lib.Dec.{eqb, ltb}
 use lib.ListN.{length, take, drop, get_or, length-drop}
 use lib.Seq.{length-take-le, drop-cons}
+use Rattle.slices.specs.Run.{Run}
 use Rattle.utf8.specs.WellFormed.{sequence, ill_formed, well_formed}
 use Rattle.utf8.specs.Sequence.{continuation}
+use Rattle.utf8.specs.Ascii.{ascii}
 use Rattle.utf8.specs.Trim.{Start}
 use Rattle.utf8.proofs.Sequences.{below, within_true, within_false, shape}
 use Rattle.utf8.proofs.Texts.{formed, whole_char, ascii_char, sequence_none}
 use Rattle.utf8.proofs.Parts.{Edge, start_none, start_found, edges_formed, first_edge, last_edge}
-use Rattle.soundness.specs.Outcome.{edge}
+use Rattle.soundness.specs.declared.ends.Look.{Look}
+use Rattle.soundness.specs.declared.ends.Look.TheVariants.{Whole, Ascii, Nothing}
+use Rattle.soundness.specs.Outcome.{Knows, edge}
 
 -- ---- one end
 
@@ -109,7 +113,14 @@ pub ruleset parts = (part_none, part_checked, part_begins, part_ends, rules)
 
 -- ---- how much of a buffer is UTF-8
 
-pub looked : (s : List ℕ) {r : ℕ} → r ≡ ill_formed s → Start s r
-looked s e = rw e (start_found s)
+module _ {s : List ℕ} {look : Look} {r : ℕ} where
+  pub looked_whole : look ≡ Whole → r ≡ ill_formed s → Knows look s r
+  looked_whole l e = rw l record { is = e; start = rw e (start_found s) }
 
-pub ruleset looks = (start_none, looked, rules)
+  pub looked_ascii : look ≡ Ascii → Run ascii s 0 r → Start s r → Knows look s r
+  looked_ascii l g b = rw l record { is = g; start = b }
+
+pub looked_nothing : (s : List ℕ) {look : Look} → look ≡ Nothing → Knows look s 0
+looked_nothing s l = rw l record { is = refl; start = start_none s }
+
+pub ruleset looks = (looked_ascii, rules)

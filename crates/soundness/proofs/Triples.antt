@@ -12,6 +12,7 @@ use Rattle.slices.proofs.Runs.{and_both}
 use Rattle.utf8.specs.WellFormed.{well_formed}
 use Rattle.tables.specs.Triple.{inside, shown}
 use Rattle.tables.specs.declared.Triple.{Triple}
+use Rattle.document.specs.Kinds as kinds
 use Rattle.document.specs.Elements.{among}
 use Rattle.items.specs.Words.{absent}
 use Rattle.items.specs.Sound.{Use, nameless, tp_typed, unused, optional, required, name_use, value_use, tp_use, doc_use, valid_name, valid_value, any_text, good_triple, in_document}
@@ -188,10 +189,10 @@ module _ (d x : List ℕ) (k : ℕ) (t : Triple) {a : Bool} (e : a ≡ absent t)
   doc_absent h =
       let s : absent t ≡ true = sym e ∙ h in
       let z : eqb t.source 0 ≡ true = (and_both (eqb t.source 0) (eqb t.start 0) (and_both (eqb t.source 0 && eqb t.start 0) (eqb t.len 0) s).0).0 in
-      sym (rw (good_absent d x (doc_use k) any_text t s, either_doc (eqb k 6), z))
+      sym (rw (good_absent d x (doc_use k) any_text t s, either_doc (eqb k kinds.annotation), z))
 
   module _ (h : a ≡ false) where
-    pub doc_unused : k ≡ 6 → false ≡ good_doc d x k t
+    pub doc_unused : k ≡ kinds.annotation → false ≡ good_doc d x k t
     unfolding good_doc
     doc_unused q = sym (rw (q, good_unused d x unused any_text t (sym e ∙ h) refl))
 
@@ -206,8 +207,8 @@ module _ (d x : List ℕ) (k : ℕ) (t : Triple) {a : Bool} (e : a ≡ absent t)
         go true z = sym (rw (good_no_text d x (doc_use k) any_text t (sym e ∙ h) (nowhere z)))
         go false z = sym (rw (z, ne_eqb t.source 1 q, and-false))
 
-    pub doc_text : {r : Bool} → (k ≡ 6 → ⊥) → t.source ≡ 1 → r ≡ is_part d t → r ≡ good_doc d x k t
+    pub doc_text : {r : Bool} → (k ≡ kinds.annotation → ⊥) → t.source ≡ 1 → r ≡ is_part d t → r ≡ good_doc d x k t
     unfolding good_doc
-    doc_text n q f = text_of_document d x t q f ∙ sym (rw (ne_eqb k 6 n, good_any d x optional any_text t (sym e ∙ h) refl, q, and-true))
+    doc_text n q f = text_of_document d x t q f ∙ sym (rw (ne_eqb k kinds.annotation n, good_any d x optional any_text t (sym e ∙ h) refl, q, and-true))
 
 pub ruleset documented = (doc_absent, doc_unused, doc_elsewhere, doc_text, rules)

@@ -2,9 +2,12 @@
 use Rattle.std.specs.Prelude.{ℕ, suc, ◌+◌, ◌*◌, ◌≤◌, ◌<◌, ◌≡◌, Bool, true, false, not, ◌&&◌, ◌||◌, List, [], ◌∷◌, eqb, leb, ltb, length, take, drop, get_or, Option, None, Some, Result, Ok, Err}
 use Rattle.std.specs.Borrow.{Bor}
 use Rattle.slices.specs.Bytes.{if}
+use Rattle.slices.specs.Run.{Run}
 use Rattle.faults.specs.Fault.{fault}
 use Rattle.faults.specs.declared.Fault.{Fault}
-use Rattle.utf8.specs.WellFormed.{within, well_formed}
+use Rattle.utf8.specs.WellFormed.{within, ill_formed, well_formed}
+use Rattle.utf8.specs.Ascii.{ascii}
+use Rattle.utf8.specs.Trim.{Start}
 use Rattle.utf8.specs.Sequence.{continuation}
 use Rattle.names.specs.Signature.{basic_signature}
 use Rattle.tables.specs.Triple.{inside, shown}
@@ -14,6 +17,8 @@ use Rattle.document.specs.Kinds as kinds
 use Rattle.items.specs.Words.{RowWords, triple_at, row_of, rows_of, is_child}
 use Rattle.items.specs.Order.{parent_at, Under, DocumentOrder}
 use Rattle.items.specs.Sound.{placed, nameless, valued, tp_typed, good_triple, name_use, value_use, tp_use, doc_use, valid_name, valid_value, any_text, in_document, good_row, members_of, keyed, counted, sound_row, first_bad, judged, Soundness, sound, unsound, soundness}
+use Rattle.soundness.specs.declared.ends.Look.{Look}
+use Rattle.soundness.specs.declared.ends.Look.TheVariants.{Whole, Ascii, Nothing}
 use Rattle.soundness.specs.declared.tally.Tally.{Tally}
 use Rattle.soundness.specs.declared.tally.Tally.TheVariants.{Empty, Key, Other, Pair, Many}
 
@@ -30,6 +35,17 @@ uses_tp k = among k tp_typed
 -- a place is u, or has a byte that continues no character
 unfoldable pub edge : List ℕ → ℕ → ℕ → Bool
 edge s u at = eqb at u || not (within continuation (get_or s at 0))
+
+-- how many bytes of a buffer are known to be UTF-8, by how much of it is looked through: those before the first ill-formed sequence, those
+-- before the first from 128 on, or none
+abbrev pub KnownBy : Look → List ℕ → ℕ → Type 0
+KnownBy Whole s r = r ≡ ill_formed s
+KnownBy Ascii s r = Run ascii s 0 r
+KnownBy Nothing s r = r ≡ 0
+
+pub record Knows (look : Look) (s : List ℕ) (r : ℕ) : Type 0 where
+  pub is : KnownBy look s r
+  pub start : Start s r
 
 -- a triple leads to a part of a buffer that is UTF-8, and of its buffer
 unfoldable pub is_part : List ℕ → Triple → Bool

@@ -1,8 +1,7 @@
 // Whether a part of a buffer is UTF-8. In a beginning that is known to be UTF-8 the bytes at its two ends decide.
 ghost use Rattle.std.specs.Prelude.{◌≡◌, ◌+◌, ◌-◌, ◌≤◌, ◌<◌, length, take, drop};
 ghost use Rattle.utf8.specs.WellFormed.{well_formed};
-ghost use Rattle.utf8.specs.Trim.{Start};
-ghost use Rattle.soundness.specs.Outcome.{edge};
+ghost use Rattle.soundness.specs.Outcome.{Knows, edge};
 
 use super::lent::Buffer;
 
@@ -56,7 +55,7 @@ pub enum Look {
 // How many bytes of a buffer are then known to be UTF-8.
 #[tactic(auto, using(crate::proofs::Known::looks))]
 pub fn known(s: &[u8], look: Look) -> usize
-    ensures { Start s.now result }
+    ensures { Knows look s.now result }
 {
     match look {
         Look::Whole => utf8::ill_formed(s),

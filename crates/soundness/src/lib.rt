@@ -1,8 +1,8 @@
 // Whether the rows of a lent table are sound (docs/FORMAT.md, Sound rows).
 #![tactic(auto)]
 
-ghost use Rattle.std.specs.Prelude.{◌≡◌, ◌+◌, ◌*◌, ◌≤◌, ◌<◌, length};
-ghost use Rattle.soundness.specs.Outcome.{Placed, Texts, RowGood, RowSound, Tallied, Prepared, FirstBad, Judges, Admits};
+ghost use Rattle.std.specs.Prelude.{◌+◌, ◌*◌, ◌≤◌, ◌<◌, length};
+ghost use Rattle.soundness.specs.Outcome.{Placed, Texts, RowGood, RowSound, Prepared, FirstBad, Judges, Admits};
 
 mod ends;
 mod kinds;

@@ -18,7 +18,7 @@ fn is_part(buffer: &Buffer, t: Triple) -> bool
 }
 
 // Whether a triple leads to a part of the buffer that it names, and the part is UTF-8. The buffer is chosen first: with a call for each
-// buffer the check of rows takes an eighth more time.
+// buffer the check of rows takes longer.
 #[tactic(auto, using(crate::proofs::Triples::in_buffers))]
 fn is_text(table: &Table, t: Triple) -> bool
     ensures { result ≡ is_text table.now.document.bytes.now table.now.text.bytes.now t }

@@ -1,7 +1,7 @@
 // The strict entry: a file is read as ever, and one that is accepted and has a breach of the strict profile is refused.
 #![tactic(auto)]
 
-ghost use Rattle.std.specs.Prelude.{◌≡◌, length};
+ghost use Rattle.std.specs.Prelude.{length};
 ghost use Rattle.document.specs.Whole.{room_of};
 ghost use Rattle.breaches.specs.Outcome.{Accepted};
 ghost use Rattle.strict.specs.Strict.{ReadsStrictly};

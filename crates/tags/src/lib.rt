@@ -4,7 +4,7 @@
 ghost use Rattle.std.specs.Prelude.{◌≡◌, suc, ◌+◌, ◌≤◌, ◌-◌, ◌<◌, ◌^◌, length, drop, take};
 ghost use Rattle.slices.specs.Bytes.{other, span};
 ghost use Rattle.scan.specs.Colons.{Scanned};
-ghost use Rattle.document.specs.Tokens.{opening, closing, tag};
+ghost use Rattle.document.specs.Tokens.{opening, closing};
 ghost use Rattle.document.specs.Elements.{kind_of, local_name};
 ghost use Rattle.document.specs.Prefixes.{local_start};
 ghost use Rattle.document.specs.Refusals.{showing, fault_in};

@@ -48,7 +48,7 @@ by_definition P a b c d {k} h = go (eqb k kinds.simple_type) (eqb k kinds.enum) 
 
 -- ---- the children of a part
 
--- the kinds of docstrings and of elements that nobody asked for
+-- the kinds of docstrings and of elements that their parent does not hold
 pub child_none : {doc : List ℕ} {c : StartTag} {i : ℕ} {f : Fill} {rows rows' w w' bytes : List ℕ} {r : Result Fill Refusal} → Others doc c i f rows rows' w w' r → Child doc [] true c i f (lent rows w bytes) (lent rows' w' bytes) r
 child_none h = child_other refl h
 

@@ -8,7 +8,7 @@ use Rattle.document.specs.Tokens.{Tag}
 use Rattle.document.specs.Rows.{Row, Tables}
 use Rattle.document.specs.Elements.{among, held_by, attr}
 use Rattle.document.specs.Reading as reading
-use Rattle.document.specs.Reading.{Name, tag_name, Definition, Frame, element, definition, State, refused, closed, judged, child, begins, tag_reason, parts_reason, reason_of, complete, is_some, one_more}
+use Rattle.document.specs.Reading.{Name, tag_name, Definition, Frame, definition, State, refused, closed, judged, child, begins, tag_reason, parts_reason, reason_of, complete, is_some, one_more}
 use Rattle.document.specs.Outcome as outcome
 use Rattle.document.specs.Outcome.{Lent, lent, name_at, Stands, Bounded, Ready, TagIs, runs, whole}
 use Rattle.document.specs.declared.StartTag.{StartTag}
@@ -17,7 +17,7 @@ use Rattle.document.specs.declared.Refusal.{Refusal}
 use Rattle.telepathy.specs.declared.Parts.{Parts}
 use Rattle.telepathy.specs.declared.Inner.{Inner}
 
--- simple_type, enum, struct, mapping
+-- simple-type, enum, struct, mapping
 pub record DefinitionKind (k : ℕ) : Type 0 where
   pub is : among k kinds.definitions ≡ true
 

@@ -15,17 +15,17 @@ use tags::step;
 // What was seen of a definition's parts: how many, whether one was incomplete, whether the first one's type is basic. No other field
 // depends on the two answers, so neither is an Option of one.
 #[derive(Clone, Copy)]
-pub struct Parts {
-    pub count: usize,
-    pub broken: bool,
-    pub basic: bool,
+struct Parts {
+    count: usize,
+    broken: bool,
+    basic: bool,
 }
 
 // What was read of a definition's content: where it ended, and its parts.
 #[derive(Clone, Copy)]
-pub struct Inner {
-    pub fill: Fill,
-    pub parts: Parts,
+struct Inner {
+    fill: Fill,
+    parts: Parts,
 }
 
 // An enumvalue and a member hold docstrings alone.

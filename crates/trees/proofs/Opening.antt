@@ -138,20 +138,20 @@ pub ruleset opening = (held_row, held_few, opens_docstring, opens_child, rules)
 -- ---- nodes
 
 module _ {k o : ℕ} where
-  pub deep_node : {b : Bool} → k ≡ 1 → b ≡ leb 1024 o → IsDeep k o b
+  pub deep_node : {b : Bool} → k ≡ kinds.node → b ≡ leb 1024 o → IsDeep k o b
   deep_node {b} e f = record {
     deep = λ t. (e, leb-true 1024 o (sym f ∙ t));
     shallow = λ t _. leb-false 1024 o (sym f ∙ t);
   }
 
-  pub deep_other : (k ≡ 1 → ⊥) → IsDeep k o false
+  pub deep_other : (k ≡ kinds.node → ⊥) → IsDeep k o false
   deep_other e = record { deep = λ t. absurd (subst T (sym t) tt); shallow = λ t f. absurd (e f) }
 
-  pub around_node : k ≡ 1 → IsAround k o (o - 1)
-  around_node e = record { is = λ a p. omega (arith, p ∙ ap (λ b. if b (suc a) a) (eq-eqb k 1 e)) }
+  pub around_node : k ≡ kinds.node → IsAround k o (o - 1)
+  around_node e = record { is = λ a p. omega (arith, p ∙ ap (λ b. if b (suc a) a) (eq-eqb k kinds.node e)) }
 
-  pub around_other : (k ≡ 1 → ⊥) → IsAround k o o
-  around_other e = record { is = λ a p. p ∙ ap (λ b. if b (suc a) a) (ne_eqb k 1 e) }
+  pub around_other : (k ≡ kinds.node → ⊥) → IsAround k o o
+  around_other e = record { is = λ a p. p ∙ ap (λ b. if b (suc a) a) (ne_eqb k kinds.node e) }
 
 pub ruleset counting = (deep_node, deep_other, around_node, around_other, rules)
 

@@ -28,7 +28,7 @@ use Rattle.trees.specs.declared.walk.Start.TheVariants.{Closed, Opened}
 use Rattle.std.specs.Prelude.{Result, Ok, Err}
 use Rattle.std.specs.declared.ops.ControlFlow.{ControlFlow}
 use Rattle.std.specs.declared.ops.ControlFlow.TheVariants.{Continue, Break}
-use Rattle.slices.proofs.Runs.{and_both}
+use Rattle.slices.proofs.Runs.{and_both, append_regroup}
 use Rattle.trees.specs.Walk.{rest, bytes_of, bytes_in, inside_of, AmongOpen, IsAround, Resumes, Begins, Above, at_top, up, Walking, Going, TopOpen, Walks, DeepRow, Goes, Enters, Leaves, Turns, LeavesIs}
 use Rattle.trees.proofs.Standing.{held_row, held_few, group_is}
 use Rattle.trees.proofs.Zipper.{rest_all_on, rest_next, rest_next_on, rest_later, rest_none, rest_pass}
@@ -52,9 +52,6 @@ first_both none b c = refl
 first_both (some p) b c = refl
 
 -- how the bytes are put together
-closed_on : (a b c e : List ℕ) → a ++ ((b ++ c) ++ e) ≡ (a ++ b) ++ (c ++ e)
-closed_on a b c e = ap (◌++◌ a) (append_assoc b c e) ∙ sym (append_assoc a b (c ++ e))
-
 open_on : (a b u k r e : List ℕ) → a ++ (((b ++ (u ++ k)) ++ r) ++ e) ≡ (a ++ b) ++ (u ++ (k ++ (r ++ e)))
 open_on a b u k r e =
     ap (◌++◌ a) (append_assoc (b ++ (u ++ k)) r e ∙ append_assoc b (u ++ k) (r ++ e) ∙ ap (◌++◌ b) (append_assoc u k (r ++ e)))
@@ -137,7 +134,7 @@ module _ {d x ws : List ℕ} {n top : ℕ} {s : Standing} {w : Walk} {out : List
         stands = b.is.puts.stands h.done h.stands;
         whole = h.whole
             ∙ ap (λ f. h.done ++ (bytes_in d x ws f ++ (closing_tag (tag_of (word_at ws w.row 0)) ++ h.tail))) (rest_next_on ws n q)
-            ∙ closed_on h.done (bytes_of d x ws (tree k (under k (links_of n ws)))) (bytes_in d x ws (rest (links_of n ws) w.group w.row (k + 1))) (closing_tag (tag_of (word_at ws w.row 0)) ++ h.tail);
+            ∙ append_regroup h.done (bytes_of d x ws (tree k (under k (links_of n ws)))) (bytes_in d x ws (rest (links_of n ws) w.group w.row (k + 1))) (closing_tag (tag_of (word_at ws w.row 0)) ++ h.tail);
         deep = h.deep
             ∙ ap (λ f. first (too_deeps (element_at d x ws) w.nodes f) h.next) (rest_next_on ws n q)
             ∙ ap (λ p. first (first p (too_deeps (element_at d x ws) w.nodes (rest (links_of n ws) w.group w.row (k + 1)))) h.next) (closed_shallow d x ws k (under k (links_of n ws)) w.nodes b.is.closed);

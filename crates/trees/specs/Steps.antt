@@ -160,10 +160,6 @@ pub record GroupPast (ws : List ℕ) (i g k : ℕ) (s : Standing) (r : Bool) : T
 abbrev pub keyed : List ℕ → List ℕ
 keyed k = 32 ∷ k ++ (61 ∷ 34 ∷ [])
 
--- there is room to count so many more
-pub record CountFits (n more : ℕ) : Type 0 where
-  pub fits : n + more < 2 ^ 62
-
 pub record NamePut (kind : ℕ) (before : List ℕ) (n : ℕ) (t t' : List ℕ) (r : ℕ) : Type 0 where
   pub puts : Puts (before ++ tag_of kind) n t t' r
   pub most : r ≤ n + length before + 20

@@ -1,11 +1,11 @@
 -- What the elements of a tree show, and their bytes (docs/FORMAT.md, Trees).
-use Rattle.std.specs.Prelude.{ℕ, ◌*◌, List, [], ◌∷◌, ◌++◌, false, eqb, take, drop}
+use Rattle.std.specs.Prelude.{ℕ, List, [], ◌∷◌, ◌++◌, false, eqb, take, drop}
 use Rattle.std.proofs.Math.Option.{Option, none, some}
 use Rattle.slices.specs.Bytes.{if, bytes}
 use Rattle.document.specs.Kinds as kinds
 use Rattle.document.specs.Rows.{Doc}
 use Rattle.document.specs.Elements.{among}
-use Rattle.items.specs.Words.{row_of, viewed}
+use Rattle.items.specs.Words.{shown_row}
 use Rattle.items.specs.View.{over}
 use Rattle.items.specs.Content.{Row}
 use Rattle.items.specs.Written.{Pair, tag, closing_tag, element}
@@ -37,7 +37,7 @@ element_of document r = record {
 
 -- row i of a table
 abbrev pub element_at : List ℕ → List ℕ → List ℕ → ℕ → Element
-element_at document text ws i = element_of document (viewed document text (row_of (drop (i * 16) ws)))
+element_at document text ws i = element_of document (shown_row document text ws i)
 
 -- the content of row i of n rows and of all under it
 abbrev pub tree_at : List ℕ → List ℕ → List ℕ → ℕ → ℕ → Tree Element

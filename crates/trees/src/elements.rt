@@ -2,8 +2,9 @@
 ghost use Rattle.std.specs.Prelude.{◌≡◌, true, ◌+◌, ◌≤◌, ◌<◌, ◌^◌, length};
 ghost use Rattle.items.specs.Sound.{valid_word};
 ghost use Rattle.items.specs.Written.{pairs};
+ghost use Rattle.writer.specs.Counts.{CountFits};
 ghost use Rattle.trees.specs.Written.{tag_of, name_key, value_key, word_pairs};
-ghost use Rattle.trees.specs.Steps.{StartPut, DocstringPut, ClosePut, keyed, CountFits, NamePut, GivenHeld, GivenPut, AttributePut, AttributesPut, TaggedPut, WordHeld, WordPut};
+ghost use Rattle.trees.specs.Steps.{StartPut, DocstringPut, ClosePut, keyed, NamePut, GivenHeld, GivenPut, AttributePut, AttributesPut, TaggedPut, WordHeld, WordPut};
 
 use crate::lent::Table;
 use answers::put::put_bytes;

@@ -1,10 +1,9 @@
 -- The document of a written tree is accepted if it is short enough and the room is there: its rows show those of the tree.
-use Prim.Native.Nat.{ℕ, suc, ◌+◌, ◌/◌}
+use Prim.Native.Nat.{ℕ, suc, ◌+◌}
 use native.Mathlib.Omega.{arith}
 use mathlib.Core.Path.{◌≡◌, refl, ap, sym, ◌∙◌}
 use mathlib.Core.List.{List, [], ◌∷◌, ◌++◌, map, map-append, append-nil}
 use mathlib.Core.Option.{Option, none, some}
-use borrow.Author.Tests.{le-ltb}
 use lib.ListN.{length, length-map}
 use Rattle.slices.specs.Bytes.{if, all}
 use Rattle.utf8.specs.WellFormed.{ill_formed}
@@ -21,7 +20,7 @@ use Rattle.items.specs.Content as content
 use Rattle.items.specs.Words.{rows_shown}
 use Rattle.items.specs.View.{view_row, view_tables, text_shown}
 use Rattle.items.specs.Written.{annotated, concat}
-use Rattle.accepted.proofs.Accepted.{words_shown}
+use Rattle.accepted.proofs.Accepted.{means_run, means_read, words_shown}
 use Rattle.roundtrip.specs.Items.{name_values, referenced}
 use Rattle.roundtrip.proofs.Held.{held, Row, marked, table}
 use Rattle.roundtrip.proofs.Equal.{value_of, Placeless, both_placeless, unmarked}
@@ -114,12 +113,11 @@ module _ (t : Tree Element) (room : Room) (is : kind_in t ≡ kinds.node) (g : G
   well_formed : ill_formed doc ≡ length doc
   well_formed = formed (whole_tree t 0 g)
 
-  means_run : meaning doc ≡ run whole doc 0 begun
-  unfolding meaning
-  means_run = rw (le-ltb 1048576 (length doc) f.short, well_formed, le-ltb (length doc) (length doc) (omega arith))
-
   found : (u : Tables Shown) × (run whole doc 0 begun ≡ accepted u) × (view_tables held u ≡ table (map marked (flat 0 0 0 t)) [])
   found = accepted_view (run whole doc 0 begun) _ (view_run held whole doc 0 begun ∙ tree_run t is g)
+
+  meant : meaning doc ≡ accepted found.0
+  meant = means_run doc f.short well_formed ∙ found.1
 
   held_rows : map (view_row held) found.0.rows ≡ map marked (flat 0 0 0 t)
   held_rows = ap (λ u. u.rows) found.2
@@ -134,15 +132,9 @@ module _ (t : Tree Element) (room : Room) (is : kind_in t ≡ kinds.node) (g : G
   text_size = texts_size found.0.rows ∙ ap sizes held_rows ∙ tree_size 0 0 0 t
 
   fits : read doc room ≡ accepted found.0
-  unfolding read
   fits =
       let none : length found.0.warnings ≡ 0 = ap length no_warnings in
-      rw (means_run, found.1)
-      (rw (
-        le-ltb (room.rows / 16) (length found.0.rows) (omega (arith, f.rows, row_count)),
-        le-ltb (room.warnings / 4) (length found.0.warnings) (omega (arith, none)),
-        le-ltb room.text (length (texts found.0.rows)) (omega (arith, f.text, text_size)),
-      ))
+      means_read doc room found.0 meant (omega (arith, f.rows, row_count)) (omega (arith, none)) (omega (arith, f.text, text_size))
 
   shown-rows : map (view_row text_shown) found.0.rows ≡ flat 0 0 0 t
   shown-rows = shown_held found.0.rows ∙ ap (map (view_row value_of)) held_rows ∙ unmarked (flat 0 0 0 t) (flat-placeless 0 0 0 t)
@@ -153,8 +145,8 @@ module _ (t : Tree Element) (room : Room) (is : kind_in t ≡ kinds.node) (g : G
       let w = words_from 0 found.0.rows in
       ap (λ y. rows_shown doc y w (length found.0.rows)) (sym (append-nil x))
       ∙ ap (λ y. rows_shown doc (x ++ []) y (length found.0.rows)) (sym (append-nil w))
-      ∙ words_shown doc found.0 (means_run ∙ found.1) [] []
+      ∙ words_shown doc found.0 meant [] []
       ∙ shown-rows
 
   pub reads : Answers t room
-  reads = record { tables = found.0; means = means_run ∙ found.1; accepts = fits; silent = no_warnings; rows = row_count; bytes = text_size; shows = words-show }
+  reads = record { tables = found.0; means = meant; accepts = fits; silent = no_warnings; rows = row_count; bytes = text_size; shows = words-show }

@@ -11,15 +11,16 @@ use lib.Dec.{eqb}
 use lib.ListN.{length, take, get_or, length-append, get_or-append}
 use lib.Seq.{length-take-le, get_or-take, get_or-append_seam}
 use Rattle.utf8.proofs.Sequences.{below}
-use Rattle.document.specs.Kinds.{definitions, parts}
+use Rattle.document.specs.Kinds as kinds
+use Rattle.document.specs.Kinds.{definitions}
 use Rattle.document.specs.Tags.{Shown}
 use Rattle.document.specs.Tokens.{Tag, Token, start, close, fault, end, tokens}
 use Rattle.document.specs.Rows.{Doc, Row, Tables, documented}
 use Rattle.document.specs.Elements.{among, opens, opens_as}
-use Rattle.document.specs.Reading.{Definition, Purpose, ignored, captures, Frame, element, definition, passing, State, begun, row_of, parent_of, noted_in, noted, frame_of, too_deep, step, fold, run, tag_name}
+use Rattle.document.specs.Reading.{Definition, Purpose, ignored, captures, Frame, element, definition, passing, State, begun, row_of, parent_of, noted, frame_of, too_deep, step, fold, run, tag_name}
 use Rattle.document.specs.Outcome.{whole}
 use Rattle.document.proofs.Tests.{either}
-use Rattle.document.proofs.Steps.{kind_in, TakesDocs, Begins, Known, Kept, Closes, Ways, step_kept}
+use Rattle.document.proofs.Steps.{noted_keeps, kind_in, TakesDocs, Begins, Known, Kept, Closes, Ways, step_kept}
 use Rattle.rows.proofs.Words.{length_documented}
 use Rattle.items.proofs.Order.{Falls, falls_more}
 use Rattle.accepted.proofs.Folding.{Accepts}
@@ -62,7 +63,7 @@ parents b i = (b i).parent
 
 -- a node is at most the 1,024th
 abbrev pub Low : (ℕ → Brief) → ℕ → Type 0
-Low b r = (b r).kind ≡ 1 → (d : ℕ) → Deep (parents b) (suc d) (suc r) → d < 1024
+Low b r = (b r).kind ≡ kinds.node → (d : ℕ) → Deep (parents b) (suc d) (suc r) → d < 1024
 
 same_parents : (n : ℕ) (b c : ℕ → Brief) → Agree n b c → Alike n (parents b) (parents c)
 same_parents n b c a i l = ap (λ (x : Brief). x.parent) (a i l)
@@ -123,22 +124,10 @@ module _ (b c : ℕ → Brief) where
   nest_agree n (passing p ns ∷ fs) a w h = (aims_agree n p a w h.0, nest_agree n fs a w h.1)
 
 noted_long : (k : ℕ) (t : Tag) (fs : List Frame) → length (noted k t fs) ≡ length fs
-noted_long k t fs = either (λ (gs : List Frame). length gs ≡ length fs) (among k parts) (λ c. go fs) (λ c. refl)
-  where
-    go : (fs : List Frame) → length (noted_in k t fs) ≡ length fs
-    go [] = refl
-    go (element c m r ∷ fs) = refl
-    go (definition d ∷ fs) = refl
-    go (passing p ns ∷ fs) = refl
+noted_long k t fs = noted_keeps (λ gs. length gs ≡ length fs) k t (λ d gs h. h) fs refl
 
 noted_nest : (n : ℕ) (b : ℕ → Brief) (k : ℕ) (t : Tag) (fs : List Frame) → Nest n b fs → Nest n b (noted k t fs)
-noted_nest n b k t fs h = either (λ (gs : List Frame). Nest n b gs) (among k parts) (λ c. go fs h) (λ c. h)
-  where
-    go : (fs : List Frame) → Nest n b fs → Nest n b (noted_in k t fs)
-    go [] h = tt
-    go (element c m r ∷ fs) h = h
-    go (definition d ∷ fs) h = (h.0, h.1, h.2, h.3)
-    go (passing p ns ∷ fs) h = h
+noted_nest n b k t = noted_keeps (Nest n b) k t (λ d gs h. h)
 
 -- each open node is at most the 1,024th
 abbrev LowFrames : List Frame → Type 0
@@ -153,7 +142,7 @@ module _ (n : ℕ) (b : ℕ → Brief) (k : ℕ) where
   in_deep (definition d ∷ fs) g h = (h.2, omega (arith, h.0))
   in_deep (passing p ns ∷ fs) g h = absurd g.0
 
-low_row : (b : ℕ → Brief) (k r l : ℕ) → (b r).kind ≡ k → Deep (parents b) (suc l) (suc r) → (k ≡ 1 → l < 1024) → Low b r
+low_row : (b : ℕ → Brief) (k r l : ℕ) → (b r).kind ≡ k → Deep (parents b) (suc l) (suc r) → (k ≡ kinds.node → l < 1024) → Low b r
 low_row b k r l e h s z d g =
     let q : suc l ≡ suc d = deep_once (parents b) (suc l) (suc d) (suc r) h g in
     let m = s (sym e ∙ z) in
@@ -343,13 +332,7 @@ popped fs rs w h = record { falls = h.falls; nest = w; holding = h.holding; docu
 -- ---- depths, step by step
 
 noted_low : (k : ℕ) (t : Tag) (fs : List Frame) → LowFrames fs → LowFrames (noted k t fs)
-noted_low k t fs h = either LowFrames (among k parts) (λ c. go fs h) (λ c. h)
-  where
-    go : (fs : List Frame) → LowFrames fs → LowFrames (noted_in k t fs)
-    go [] h = tt
-    go (element c m r ∷ fs) h = h
-    go (definition d ∷ fs) h = (h.0, h.1)
-    go (passing p ns ∷ fs) h = h
+noted_low k t = noted_keeps LowFrames k t (λ d gs h. h)
 
 -- each open node under the innermost element
 abbrev Under : List Frame → Type 0
@@ -370,8 +353,8 @@ module _ (doc : List ℕ) where
       (λ c. ((λ e. few e), noted_low k t fs h))
       (λ c. ((λ e. few e), noted_low k t fs h))
     where
-      few : k ≡ 1 → length (noted k t fs) < 1024
-      few e = rw (noted_long k t fs) (leb-false 1024 (length fs) (rw (eq-eqb k 1 e) at d))
+      few : k ≡ kinds.node → length (noted k t fs) < 1024
+      few e = rw (noted_long k t fs) (leb-false 1024 (length fs) (rw (eq-eqb k kinds.node e) at d))
 
   closes : Closes whole doc own held
   unfolding held own

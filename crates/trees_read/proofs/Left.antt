@@ -11,7 +11,7 @@ use Rattle.document.specs.Tags.{Shown}
 use Rattle.document.specs.Rows.{Row, Tables, row_text, words_from, texts}
 use Rattle.document.specs.Reading.{accepted}
 use Rattle.document.specs.Whole.{meaning}
-use Rattle.items.specs.Words.{row_of, viewed, rows_shown}
+use Rattle.items.specs.Words.{row_of, viewed, rows_shown, shown_row}
 use Rattle.items.specs.View.{view_row, text_shown}
 use Rattle.items.specs.Content as content
 use Rattle.accepted.proofs.Folding.{meaning_accepts}
@@ -63,12 +63,12 @@ module _ (e g : ℕ → Element) where
 abbrev bare_row : content.Row
 bare_row = record { kind = 0; parent = 0; name = none; value = none; tp = none; doc = none; word = 0; at = 0 }
 
-shown_row : (doc x ws : List ℕ) (n i : ℕ) → i < n → get_or (rows_shown doc x ws n) i bare_row ≡ viewed doc x (row_of (drop (i * 16) ws))
-shown_row doc x ws zero i l = absurd (omega arith)
-shown_row doc x ws (suc n) zero l = refl
-shown_row doc x ws (suc n) (suc i) l =
+shown_row_is : (doc x ws : List ℕ) (n i : ℕ) → i < n → get_or (rows_shown doc x ws n) i bare_row ≡ shown_row doc x ws i
+shown_row_is doc x ws zero i l = absurd (omega arith)
+shown_row_is doc x ws (suc n) zero l = refl
+shown_row_is doc x ws (suc n) (suc i) l =
     let e : 16 + i * 16 ≡ suc i * 16 = omega arith in
-    shown_row doc x (drop 16 ws) n i (omega arith)
+    shown_row_is doc x (drop 16 ws) n i (omega arith)
     ∙ ap (λ (k : List ℕ). viewed doc x (row_of k)) (drop-drop (i * 16) 16 ws ∙ ap (λ (k : ℕ). drop k ws) e)
 
 links_long : (m : ℕ) (rs : List (Row Shown)) → length (map link_of (rows_from m rs)) ≡ length rs
@@ -86,7 +86,7 @@ module _ (doc : List ℕ) (u : Tables Shown) (e : meaning doc ≡ accepted u) wh
       let ws = words_from 0 u.rows ++ z in
       ap (λ rs. map_tree (element_at doc x ws) (tree 0 (under 0 (map link_of rs)))) (rows_words 0 u.rows z)
       ∙ root_alike (element_at doc x ws) known (length u.rows)
-      (λ i l. ap (element_of doc) (sym (shown_row doc x ws (length u.rows) i l) ∙ ap (λ rs. get_or rs i bare_row) (words_shown doc u e y z)))
+      (λ i l. ap (element_of doc) (sym (shown_row_is doc x ws (length u.rows) i l) ∙ ap (λ rs. get_or rs i bare_row) (words_shown doc u e y z)))
       (map link_of (rows_from 0 u.rows))
       (accepts_rooted doc (meaning_accepts doc u e))
       (links_long 0 u.rows)

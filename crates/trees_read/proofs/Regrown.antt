@@ -11,7 +11,7 @@ use lib.ListN.{length, take, drop, length-append}
 use lib.Seq.{drop-drop, drop-nil, drop_at, take-append_seam}
 use Rattle.slices.specs.Bytes.{if, empty}
 use Rattle.document.specs.Elements.{among}
-use Rattle.items.specs.Words.{row_of, viewed, rows_shown}
+use Rattle.items.specs.Words.{row_of, viewed, rows_shown, shown_row}
 use Rattle.items.specs.View.{over}
 use Rattle.items.specs.Content.{Row}
 use Rattle.items.specs.Written.{Pair, tag, closing_tag, concat, element}
@@ -161,7 +161,7 @@ shown_links doc text (suc n) ws = ap (◌∷◌ (link_of (row_of ws))) (shown_li
 
 -- ---- the elements of the rows shown
 
-row_shown : (doc text : List ℕ) (n i : ℕ) (ws : List ℕ) (r : Row) (rs : List Row) → drop i (rows_shown doc text ws n) ≡ r ∷ rs → viewed doc text (row_of (drop (i * 16) ws)) ≡ r
+row_shown : (doc text : List ℕ) (n i : ℕ) (ws : List ℕ) (r : Row) (rs : List Row) → drop i (rows_shown doc text ws n) ≡ r ∷ rs → shown_row doc text ws i ≡ r
 row_shown doc text zero i ws r rs e = let z : ◌≡◌ {A = List Row} [] (r ∷ rs) = sym (drop-nil i) ∙ e in cc
 row_shown doc text (suc n) zero ws r rs e = cc
 row_shown doc text (suc n) (suc i) ws r rs e =

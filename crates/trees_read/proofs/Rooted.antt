@@ -3,15 +3,15 @@ use Prim.Native.Nat.{ℕ, zero, suc, ◌<◌}
 use mathlib.Core.List.{List, [], ◌∷◌, ◌++◌}
 use native.Mathlib.Omega.{arith}
 use lib.ListN.{length, take, length-append}
-use Rattle.document.specs.Kinds.{definitions, parts}
+use Rattle.document.specs.Kinds.{definitions}
 use Rattle.document.specs.Tags.{Shown}
 use Rattle.document.specs.Tokens.{Tag, Token, start, close, fault, end, tokens}
 use Rattle.document.specs.Rows.{Doc, Row, Tables, documented}
 use Rattle.document.specs.Elements.{among}
-use Rattle.document.specs.Reading.{Frame, element, definition, passing, State, begun, reading, accepted, refused, noted_in, noted, frame_of, step, fold, run}
+use Rattle.document.specs.Reading.{Frame, element, definition, passing, State, begun, reading, accepted, refused, noted, frame_of, step, fold, run}
 use Rattle.document.specs.Outcome.{whole}
 use Rattle.document.proofs.Tests.{either}
-use Rattle.document.proofs.Steps.{Begins, Known, Kept, Closes, Ways, step_kept}
+use Rattle.document.proofs.Steps.{noted_keeps, Begins, Known, Kept, Closes, Ways, step_kept}
 use Rattle.rows.proofs.Words.{length_documented}
 use Rattle.accepted.proofs.Folding.{Accepts}
 
@@ -37,13 +37,7 @@ after : Known Shown
 after = record { first = Unit {0}; inside = λ fs u. Rooted fs u.rows; done = λ u. 0 < length u.rows; fault = λ x. Unit {0} }
 
 noted_later : (k : ℕ) (t : Tag) (fs : List Frame) → Later fs → Later (noted k t fs)
-noted_later k t fs h = either Later (among k parts) (λ c. go fs h) (λ c. h)
-  where
-    go : (fs : List Frame) → Later fs → Later (noted_in k t fs)
-    go [] h = tt
-    go (element c m r ∷ fs) h = h
-    go (definition d ∷ fs) h = h
-    go (passing p ns ∷ fs) h = h
+noted_later k t = noted_keeps Later k t (λ d gs h. h)
 
 row_rooted : (k : ℕ) (t : Tag) (r : Row Shown) (fs : List Frame) (rs : List (Row Shown)) → Begins (length rs) k fs → Before fs rs → Rooted (frame_of k t (length rs) ∷ noted k t fs) (rs ++ r ∷ [])
 row_rooted k t r [] rs b h = rw b.1 (omega (arith, length-append rs (r ∷ [])), tt)

@@ -60,7 +60,7 @@ module _ (e : ℕ → Element) where
   shut_none d x bare p = refl
   shut_none d x (more t f) p = never (sym p)
 
-  module _ (b : ℕ → Brief) (n : ℕ) (alike : (i : ℕ) → i < n → (e i).kind ≡ (b i).kind) (in-node : (c i : ℕ) → c < n → (b c).parent ≡ suc i → (b c).kind ≡ 1 → (b i).kind ≡ 1) (holding : (c r : ℕ) → c < n → (b c).parent ≡ suc r → Low b r) (documented : (r : ℕ) → r < n → empty (docstrings (e r).doc) ≡ false → Low b r) where
+  module _ (b : ℕ → Brief) (n : ℕ) (alike : (i : ℕ) → i < n → (e i).kind ≡ (b i).kind) (in-node : (c i : ℕ) → c < n → (b c).parent ≡ suc i → (b c).kind ≡ kinds.node → (b i).kind ≡ kinds.node) (holding : (c r : ℕ) → c < n → (b c).parent ≡ suc r → Low b r) (documented : (r : ℕ) → r < n → empty (docstrings (e r).doc) ≡ false → Low b r) where
     -- the rows from row k on
     abbrev From : ℕ → List Link → Type 0
     From k [] = Unit {0}
@@ -82,16 +82,16 @@ module _ (e : ℕ → Element) where
 
     -- those that stand in p, if they are nodes, are the d-th but one
     abbrev Stand : ℕ → ℕ → Type 0
-    Stand d p = (c : ℕ) → c < n → (b c).parent ≡ p → (b c).kind ≡ 1 → Deep (parents b) (suc d) (suc c)
+    Stand d p = (c : ℕ) → c < n → (b c).parent ≡ p → (b c).kind ≡ kinds.node → Deep (parents b) (suc d) (suc c)
 
-    module _ (k d : ℕ) (rs : List Link) (l : k < n) (m : From (suc k) rs) (deep : (b k).kind ≡ 1 → Deep (parents b) (suc d) (suc k)) (each : (ks : List ℕ) (d : ℕ) → Stand d (suc k) → too_deeps e d (forest ks (suc k) (suc k) rs) ≡ none) where
+    module _ (k d : ℕ) (rs : List Link) (l : k < n) (m : From (suc k) rs) (deep : (b k).kind ≡ kinds.node → Deep (parents b) (suc d) (suc k)) (each : (ks : List ℕ) (d : ℕ) → Stand d (suc k) → too_deeps e d (forest ks (suc k) (suc k) rs) ≡ none) where
       abbrev inside : Forest ℕ
       inside = grouped (λ ks. forest ks (suc k) (suc k) rs)
 
-      low_few : (b k).kind ≡ 1 → Low b k → leb 1024 d ≡ false
+      low_few : (b k).kind ≡ kinds.node → Low b k → leb 1024 d ≡ false
       low_few z h = lt-leb 1024 d (h z d (deep z))
 
-      open_few : (b k).kind ≡ 1 → is_open (e k) inside ≡ true → leb 1024 d ≡ false
+      open_few : (b k).kind ≡ kinds.node → is_open (e k) inside ≡ true → leb 1024 d ≡ false
       open_few z o = go (children (suc k) (suc k) rs m)
         where
           go : ((c : ℕ) × (c < n) × ((b c).parent ≡ suc k)) ⊎ ((ks : List ℕ) → forest ks (suc k) (suc k) rs ≡ bare) → leb 1024 d ≡ false
@@ -101,11 +101,11 @@ module _ (e : ℕ → Element) where
               low_few z (documented k l (not-true (empty (docstrings (e k).doc)) (subst (λ h. is_open (e k) h ≡ true) g o)))
 
       tree_none : too_deep e d (tree k inside) ≡ none
-      tree_none = by_kind (eqb (e k).kind 1) refl
+      tree_none = by_kind (eqb (e k).kind kinds.node) refl
         where
-          by_kind : (t : Bool) → eqb (e k).kind 1 ≡ t → if (t && is_open (e k) inside) (if (leb 1024 d) (some k) (too_deeps e (suc d) inside)) (too_deeps e d inside) ≡ none
+          by_kind : (t : Bool) → eqb (e k).kind kinds.node ≡ t → if (t && is_open (e k) inside) (if (leb 1024 d) (some k) (too_deeps e (suc d) inside)) (too_deeps e d inside) ≡ none
           by_kind true q =
-              let z : (b k).kind ≡ 1 = sym (alike k l) ∙ eqb-true (e k).kind 1 q in
+              let z : (b k).kind ≡ kinds.node = sym (alike k l) ∙ eqb-true (e k).kind kinds.node q in
               either (λ (o : Option ℕ). o ≡ none) (is_open (e k) inside)
               (λ o. rw (open_few z o)
               (grouped_none (suc d) (λ ks. forest ks (suc k) (suc k) rs)
@@ -113,7 +113,7 @@ module _ (e : ℕ → Element) where
               (λ o. shut_none d (e k) inside o)
           by_kind false q =
               grouped_none d (λ ks. forest ks (suc k) (suc k) rs)
-              (λ ks. each ks d (λ c j p y. absurd (eqb-false (e k).kind 1 q (alike k l ∙ in-node c k j p y))))
+              (λ ks. each ks d (λ c j p y. absurd (eqb-false (e k).kind kinds.node q (alike k l ∙ in-node c k j p y))))
 
     forest_none : (rs : List Link) (ks : List ℕ) (p k d : ℕ) → From k rs → Stand d p → too_deeps e d (forest ks p k rs) ≡ none
     forest_none [] ks p k d m h = refl
@@ -132,17 +132,17 @@ module _ (e : ℕ → Element) where
 -- ---- the tables of a document that is accepted
 
 -- only nodes hold nodes
-in_nodes : (k : ℕ) → may_hold k 1 ≡ true → k ≡ 1
+in_nodes : (k : ℕ) → may_hold k kinds.node ≡ true → k ≡ kinds.node
 unfolding may_hold
 in_nodes k =
-    either P (eqb k 1) (λ c e. eqb-true k 1 c)
-    (λ c. either P (eqb k 2) (λ c e. never e)
+    either P (eqb k kinds.node) (λ c e. eqb-true k kinds.node c)
+    (λ c. either P (eqb k kinds.interface) (λ c e. never e)
     (λ c. either P (among k kinds.callables) (λ c e. never e)
     (λ c. either P (among k kinds.values) (λ c e. never e)
-    (λ c. either P (eqb k 9) (λ c e. never e) (λ c. either P (among k (11 ∷ 13 ∷ [])) (λ c e. never e) (λ c e. never e))))))
+    (λ c. either P (eqb k kinds.enum) (λ c e. never e) (λ c. either P (among k (kinds.struct ∷ kinds.mapping ∷ [])) (λ c e. never e) (λ c e. never e))))))
   where
     P : List ℕ → Type 0
-    P xs = among 1 xs ≡ true → k ≡ 1
+    P xs = among kinds.node xs ≡ true → k ≡ kinds.node
 
 placed_in : (ks : ℕ → ℕ) (c i : ℕ) → Placed ks c (ks c) (suc i) → ks c ≡ 1 → ks i ≡ 1
 placed_in ks zero i h e = absurd (omega (arith, h.1))
@@ -172,7 +172,7 @@ module _ (doc : List ℕ) (u : Tables Shown) (a : Accepts doc u) (x z : List ℕ
       go none q e = never (sym e)
       go (some d) q e = (accepts_depths doc a).documented i d l q
 
-  standing : (c i : ℕ) → c < length rs → (row_at rs c).parent ≡ suc i → (row_at rs c).kind ≡ 1 → (row_at rs i).kind ≡ 1
+  standing : (c i : ℕ) → c < length rs → (row_at rs c).parent ≡ suc i → (row_at rs c).kind ≡ kinds.node → (row_at rs i).kind ≡ kinds.node
   standing c i l p k =
       placed_in (λ j. (row_at rs j).kind) c i
       (subst (λ q. Placed (λ j. (row_at rs j).kind) c (row_at rs c).kind q) p ((accepts_holds doc a.sound.utf8 a).fine c l).0) k

@@ -125,17 +125,31 @@ direction (suc zero) e = inward
 direction (suc (suc zero)) e = outward
 direction (suc (suc (suc w))) e = absurd (omega (arith, leb-true (suc (suc (suc w))) 2 e))
 
+-- the kinds that have a name alone, and those that have a name and a value
+module _ {k : ℕ} (n v tp o : Option (List ℕ)) (w : ℕ) (f : Fit (record { kind = k; name = n; value = v; tp = tp; doc = o; word = w })) (named : (name_use k).must ≡ true) (untyped : (tp_use k).may ≡ false) (word : valid_word k w ≡ true → eqb w 0 ≡ true) where
+  name_alone : (value_use k).may ≡ false → ((n : List ℕ) → valid_name k n ≡ true → Shaped k (some n) none none 0) → Shaped k n v tp w
+  name_alone u h =
+      there (name_use k) (valid_name k) (λ x. Shaped k x v tp w) named n f.name λ n i.
+      missing (value_use k) (valid_value k) (λ x. Shaped k (some n) x tp w) u v f.value
+      (missing (tp_use k) any_text (λ x. Shaped k (some n) none x w) untyped tp f.tp (wordless (λ x. Shaped k (some n) none none x) w (word f.word) (h n i)))
+
+  name_value : (value_use k).must ≡ true → ((n v : List ℕ) → valid_value k v ≡ true → Shaped k (some n) (some v) none 0) → Shaped k n v tp w
+  name_value u h =
+      there (name_use k) (valid_name k) (λ x. Shaped k x v tp w) named n f.name λ n i.
+      there (value_use k) (valid_value k) (λ x. Shaped k (some n) x tp w) u v f.value λ v j.
+      missing (tp_use k) any_text (λ x. Shaped k (some n) (some v) x w) untyped tp f.tp (wordless (λ x. Shaped k (some n) (some v) none x) w (word f.word) (h n v j))
+
 pub shaped : {k : ℕ} → Known k → (n v tp o : Option (List ℕ)) (w : ℕ) → Fit (record { kind = k; name = n; value = v; tp = tp; doc = o; word = w }) → Shaped k n v tp w
-shaped node n v tp o w f = missing (value_use 1) (valid_value 1) (λ x. Shaped 1 n x tp w) refl v f.value (missing (tp_use 1) any_text (λ x. Shaped 1 n none x w) refl tp f.tp (wordless (λ x. Shaped 1 n none none x) w f.word (node n)))
-shaped interface n v tp o w f = there (name_use 2) (valid_name 2) (λ x. Shaped 2 x v tp w) refl n f.name (λ n h. missing (value_use 2) (valid_value 2) (λ x. Shaped 2 (some n) x tp w) refl v f.value (missing (tp_use 2) any_text (λ x. Shaped 2 (some n) none x w) refl tp f.tp (wordless (λ x. Shaped 2 (some n) none none x) w f.word (interface n h))))
-shaped method n v tp o w f = there (name_use 3) (valid_name 3) (λ x. Shaped 3 x v tp w) refl n f.name (λ n h. missing (value_use 3) (valid_value 3) (λ x. Shaped 3 (some n) x tp w) refl v f.value (missing (tp_use 3) any_text (λ x. Shaped 3 (some n) none x w) refl tp f.tp (wordless (λ x. Shaped 3 (some n) none none x) w f.word (method n h))))
-shaped property n v tp o w f = there (name_use 4) (valid_name 4) (λ x. Shaped 4 x v tp w) refl n f.name (λ n h. there (value_use 4) (valid_value 4) (λ x. Shaped 4 (some n) x tp w) refl v f.value (λ v i. property n v tp w h i (access w f.word)))
-shaped signal n v tp o w f = there (name_use 5) (valid_name 5) (λ x. Shaped 5 x v tp w) refl n f.name (λ n h. missing (value_use 5) (valid_value 5) (λ x. Shaped 5 (some n) x tp w) refl v f.value (missing (tp_use 5) any_text (λ x. Shaped 5 (some n) none x w) refl tp f.tp (wordless (λ x. Shaped 5 (some n) none none x) w f.word (signal n h))))
-shaped annotation n v tp o w f = there (name_use 6) (valid_name 6) (λ x. Shaped 6 x v tp w) refl n f.name (λ n h. there (value_use 6) (valid_value 6) (λ x. Shaped 6 (some n) x tp w) refl v f.value (λ v i. missing (tp_use 6) any_text (λ x. Shaped 6 (some n) (some v) x w) refl tp f.tp (wordless (λ x. Shaped 6 (some n) (some v) none x) w f.word (annotation n v))))
-shaped arg n v tp o w f = there (value_use 7) (valid_value 7) (λ x. Shaped 7 n x tp w) refl v f.value (λ v i. arg n v tp w i (direction w f.word))
-shaped simple_type n v tp o w f = there (name_use 8) (valid_name 8) (λ x. Shaped 8 x v tp w) refl n f.name (λ n h. there (value_use 8) (valid_value 8) (λ x. Shaped 8 (some n) x tp w) refl v f.value (λ v i. missing (tp_use 8) any_text (λ x. Shaped 8 (some n) (some v) x w) refl tp f.tp (wordless (λ x. Shaped 8 (some n) (some v) none x) w f.word (simple_type n v i))))
-shaped enum n v tp o w f = there (name_use 9) (valid_name 9) (λ x. Shaped 9 x v tp w) refl n f.name (λ n h. there (value_use 9) (valid_value 9) (λ x. Shaped 9 (some n) x tp w) refl v f.value (λ v i. missing (tp_use 9) any_text (λ x. Shaped 9 (some n) (some v) x w) refl tp f.tp (wordless (λ x. Shaped 9 (some n) (some v) none x) w f.word (enum n v i))))
-shaped enumvalue n v tp o w f = there (name_use 10) (valid_name 10) (λ x. Shaped 10 x v tp w) refl n f.name (λ n h. there (value_use 10) (valid_value 10) (λ x. Shaped 10 (some n) x tp w) refl v f.value (λ v i. missing (tp_use 10) any_text (λ x. Shaped 10 (some n) (some v) x w) refl tp f.tp (wordless (λ x. Shaped 10 (some n) (some v) none x) w f.word (enumvalue n v))))
-shaped struct n v tp o w f = there (name_use 11) (valid_name 11) (λ x. Shaped 11 x v tp w) refl n f.name (λ n h. missing (value_use 11) (valid_value 11) (λ x. Shaped 11 (some n) x tp w) refl v f.value (missing (tp_use 11) any_text (λ x. Shaped 11 (some n) none x w) refl tp f.tp (wordless (λ x. Shaped 11 (some n) none none x) w f.word (struct n))))
-shaped member n v tp o w f = there (name_use 12) (valid_name 12) (λ x. Shaped 12 x v tp w) refl n f.name (λ n h. there (value_use 12) (valid_value 12) (λ x. Shaped 12 (some n) x tp w) refl v f.value (λ v i. wordless (λ x. Shaped 12 (some n) (some v) tp x) w f.word (member n v tp i)))
-shaped mapping n v tp o w f = there (name_use 13) (valid_name 13) (λ x. Shaped 13 x v tp w) refl n f.name (λ n h. missing (value_use 13) (valid_value 13) (λ x. Shaped 13 (some n) x tp w) refl v f.value (missing (tp_use 13) any_text (λ x. Shaped 13 (some n) none x w) refl tp f.tp (wordless (λ x. Shaped 13 (some n) none none x) w f.word (mapping n))))
+shaped {k} node n v tp o w f = missing (value_use k) (valid_value k) (λ x. Shaped k n x tp w) refl v f.value (missing (tp_use k) any_text (λ x. Shaped k n none x w) refl tp f.tp (wordless (λ x. Shaped k n none none x) w f.word (node n)))
+shaped interface n v tp o w f = name_alone n v tp o w f refl refl (λ e. e) refl interface
+shaped method n v tp o w f = name_alone n v tp o w f refl refl (λ e. e) refl method
+shaped {k} property n v tp o w f = there (name_use k) (valid_name k) (λ x. Shaped k x v tp w) refl n f.name (λ n h. there (value_use k) (valid_value k) (λ x. Shaped k (some n) x tp w) refl v f.value (λ v i. property n v tp w h i (access w f.word)))
+shaped signal n v tp o w f = name_alone n v tp o w f refl refl (λ e. e) refl signal
+shaped annotation n v tp o w f = name_value n v tp o w f refl refl (λ e. e) refl (λ n v h. annotation n v)
+shaped {k} arg n v tp o w f = there (value_use k) (valid_value k) (λ x. Shaped k n x tp w) refl v f.value (λ v i. arg n v tp w i (direction w f.word))
+shaped simple_type n v tp o w f = name_value n v tp o w f refl refl (λ e. e) refl simple_type
+shaped enum n v tp o w f = name_value n v tp o w f refl refl (λ e. e) refl enum
+shaped enumvalue n v tp o w f = name_value n v tp o w f refl refl (λ e. e) refl (λ n v h. enumvalue n v)
+shaped struct n v tp o w f = name_alone n v tp o w f refl refl (λ e. e) refl (λ n h. struct n)
+shaped {k} member n v tp o w f = there (name_use k) (valid_name k) (λ x. Shaped k x v tp w) refl n f.name (λ n h. there (value_use k) (valid_value k) (λ x. Shaped k (some n) x tp w) refl v f.value (λ v i. wordless (λ x. Shaped k (some n) (some v) tp x) w f.word (member n v tp i)))
+shaped mapping n v tp o w f = name_alone n v tp o w f refl refl (λ e. e) refl (λ n h. mapping n)

@@ -197,15 +197,15 @@ held_kinds = kinds.struct ∷ kinds.mapping ∷ []
 
 only_members : (k c : ℕ) → among k held_kinds ≡ true → may_hold k c ≡ true → c ≡ kinds.member
 unfolding may_hold
-only_members k c = go (eqb k 11) refl (eqb k 13) refl
+only_members k c = go (eqb k kinds.struct) refl (eqb k kinds.mapping) refl
   where
-    one : (b : Bool) → eqb c 12 ≡ b → if b true false ≡ true → c ≡ 12
-    one true e h = eqb-true c 12 e
+    one : (b : Bool) → eqb c kinds.member ≡ b → if b true false ≡ true → c ≡ 12
+    one true e h = eqb-true c kinds.member e
     one false e h = absurd (not_both h)
 
-    go : (a : Bool) → eqb k 11 ≡ a → (b : Bool) → eqb k 13 ≡ b → if a true (if b true false) ≡ true → among c (held_by k) ≡ true → c ≡ 12
-    go true e b f h q = let z = eqb-true k 11 e in one (eqb c 12) refl (rw z at q)
-    go false e true f h q = let z = eqb-true k 13 f in one (eqb c 12) refl (rw z at q)
+    go : (a : Bool) → eqb k kinds.struct ≡ a → (b : Bool) → eqb k kinds.mapping ≡ b → if a true (if b true false) ≡ true → among c (held_by k) ≡ true → c ≡ 12
+    go true e b f h q = let z = eqb-true k kinds.struct e in one (eqb c kinds.member) refl (rw z at q)
+    go false e true f h q = let z = eqb-true k kinds.mapping f in one (eqb c kinds.member) refl (rw z at q)
     go false e false f h q = absurd (not_both h)
 
 no_others : (d k : ℕ) (ks : List ℕ) (f : Forest Element) → among k held_kinds ≡ true → among kinds.member ks ≡ false → Goods d k f → Within ks f → f ≡ bare
@@ -237,7 +237,7 @@ roots_keyed document text ws (more t (more v (more u f))) = refl
 
 completed : (document text : List ℕ) (k : ℕ) (f : Forest Element) (ms : List RowWords) → (among k held_kinds ≡ true → (any_tree f ≡ any_member ms) × (keyed_in f ≡ keyed document text ms)) → counted document text k ms ≡ true → complete k f ≡ true
 unfolding counted
-completed document text k f ms = go (eqb k 11) (eqb k 13)
+completed document text k f ms = go (eqb k kinds.struct) (eqb k kinds.mapping)
   where
     go : (a b : Bool) → (if a true (if b true false) ≡ true → (any_tree f ≡ any_member ms) × (keyed_in f ≡ keyed document text ms)) → if a (any_member ms) (if b (keyed document text ms) true) ≡ true → if a (any_tree f) (if b (keyed_in f) true) ≡ true
     go true b h e = (h refl).0 ∙ e

@@ -1,4 +1,4 @@
--- A written tree is well_formed UTF-8.
+-- A written tree is well-formed UTF-8.
 use Prim.Native.Nat.{ℕ}
 use mathlib.Core.Path.{◌≡◌, refl, sym, subst}
 use mathlib.Core.List.{List, [], ◌∷◌, ◌++◌}

@@ -13,7 +13,7 @@ use Rattle.slices.specs.Bytes.{starts}
 use Rattle.slices.proofs.Runs.{starts_fits}
 use Rattle.tables.specs.Table.{Wiped}
 use Rattle.tables.proofs.Tables.{empty_stands, clear_all}
-use Rattle.answers.specs.Text.{Text, text, wrong, Says, Finishes}
+use Rattle.answers.specs.Text.{Text, text, wrong, Says, Makes, Finishes}
 use Rattle.answers.specs.Text as answers
 use Rattle.answers.proofs.Answers as laws
 use Rattle.std.proofs.Common.{Option, Some, None, Result, Ok, Err}
@@ -21,7 +21,7 @@ use Rattle.faults.specs.declared.Fault.{Fault}
 use Rattle.utf16.specs.Decode.{in_bytes}
 use Rattle.utf16.specs.Entry.{big_mark, little_mark, ordered, decoding, answer_of, answer, left, told}
 use Rattle.utf16.specs.Outcome.{PutsAll}
-use Rattle.utf16.specs.Promises.{Forms}
+use Rattle.utf16.specs.Promises.{DecodesWhole}
 use Rattle.utf16.proofs.Formed.{forms}
 
 -- ---- in a byte order
@@ -57,7 +57,7 @@ module _ (big : Bool) (raw : List ℕ) {out' : List ℕ} {room : ℕ} {r : Resul
             let a = s.says (in_bytes d.is.0) (d.is.2.stands [] (empty_stands 1 out₀)) in
             rw (le-ltb 1048576 (length raw) h, ne_eqb (length raw % 2) 1 e, d.is.1, le-ltb 1048576 (length (in_bytes d.is.0)) (omega (arith, d.is.2.counts))) (rw l at a)
 
-pub ruleset orders = (laws.told, laws.finished, ordered-long, ordered-odd, ordered-lone, ordered-above, ordered-done, rules)
+pub ruleset orders = (laws.makes, laws.told, laws.finished, ordered-long, ordered-odd, ordered-lone, ordered-above, ordered-done, rules)
 
 -- ---- by the mark
 
@@ -75,38 +75,38 @@ module _ (raw : List ℕ) {t : Bool} where
   pub little-fits : t ≡ starts little_mark raw → t ≡ true → 2 ≤ length raw
   little-fits e f = starts_fits little_mark raw (sym e ∙ f)
 
--- the entry's two promises
-pub record Answers (raw : List ℕ) (room : ℕ) (out' : List ℕ) (r : Result (Option ℕ) Fault) : Type 0 where
-  pub answers : r ≡ answer raw room
-  pub leaves : out' ≡ left raw room
-
 tells : (o : Text) (a : Result ℕ Fault) → a ≡ answers.answer_of o → told a ≡ answer_of o
 tells (text t) a e = rw e
 tells (wrong n p) a e = rw e
 
-module _ {raw out' : List ℕ} {room : ℕ} {t : Bool} (e : t ≡ starts big_mark raw) where
-  module _ {a : Result ℕ Fault} {r : Result (Option ℕ) Fault} where
-    pub says-big : t ≡ true → Says (ordered true raw room) room out' a → r ≡ told a → Answers raw room out' r
-    unfolding decoding answer left
-    says-big f s g =
-        let b : starts big_mark raw ≡ true = sym e ∙ f in
-        record { answers = rw b (g ∙ tells (ordered true raw room) a s.answer); leaves = rw b s.left }
+module _ {raw lent out' : List ℕ} (w : (i : ℕ) → Fits w8 (get_or raw i 0)) where
+  decodes : {r : Result (Option ℕ) Fault} → r ≡ answer raw (length lent) → out' ≡ left raw (length lent) → DecodesWhole raw lent out' r
+  decodes e l = record {
+    answers = e;
+    leaves = l;
+    formed = forms raw (length lent) w;
+  }
 
-    pub says-little : {u : Bool} → t ≡ false → u ≡ starts little_mark raw → u ≡ true → Says (ordered false raw room) room out' a → r ≡ told a → Answers raw room out' r
-    unfolding decoding answer left
-    says-little {u} f d h s g =
+  module _ {t : Bool} (e : t ≡ starts big_mark raw) where
+    module _ {a : Result ℕ Fault} {r : Result (Option ℕ) Fault} where
+      pub says-big : t ≡ true → Makes (ordered true raw) lent out' a → r ≡ told a → DecodesWhole raw lent out' r
+      unfolding decoding answer left
+      says-big f s g =
+          let b : starts big_mark raw ≡ true = sym e ∙ f in
+          decodes (rw b (g ∙ tells (ordered true raw (length lent)) a s.answer)) (rw b s.left)
+
+      pub says-little : {u : Bool} → t ≡ false → u ≡ starts little_mark raw → u ≡ true → Makes (ordered false raw) lent out' a → r ≡ told a → DecodesWhole raw lent out' r
+      unfolding decoding answer left
+      says-little {u} f d h s g =
+          let b : starts big_mark raw ≡ false = sym e ∙ f in
+          let m : starts little_mark raw ≡ true = sym d ∙ h in
+          decodes (rw (b, m) (g ∙ tells (ordered false raw (length lent)) a s.answer)) (rw (b, m) s.left)
+
+    pub says_none : {u : Bool} → t ≡ false → u ≡ starts little_mark raw → u ≡ false → Wiped 0 lent out' → DecodesWhole raw lent out' (Ok None)
+    unfolding answer left
+    says_none {u} f d h z =
         let b : starts big_mark raw ≡ false = sym e ∙ f in
-        let m : starts little_mark raw ≡ true = sym d ∙ h in
-        record { answers = rw (b, m) (g ∙ tells (ordered false raw room) a s.answer); leaves = rw (b, m) s.left }
-
-  pub says_none : {u : Bool} {out : List ℕ} → t ≡ false → u ≡ starts little_mark raw → u ≡ false → Wiped 0 out out' → length out ≡ room → Answers raw room out' (Ok None)
-  unfolding answer left
-  says_none {u} {out} f d h z l =
-      let b : starts big_mark raw ≡ false = sym e ∙ f in
-      let m : starts little_mark raw ≡ false = sym d ∙ h in
-      record { answers = rw (b, m); leaves = rw (b, m) (z.is ∙ rw l at (clear_all out)) }
-
-pub said : (raw : List ℕ) (room : ℕ) (out' : List ℕ) (r : Result (Option ℕ) Fault) → ((i : ℕ) → Fits w8 (get_or raw i 0)) → Answers raw room out' r → (r ≡ answer raw room) × ((out' ≡ left raw room) × Forms raw room)
-said raw room out' r h s = (s.answers, (s.leaves, forms raw room h))
+        let m : starts little_mark raw ≡ false = sym d ∙ h in
+        decodes (rw (b, m)) (rw (b, m) (z.is ∙ clear_all lent))
 
 pub ruleset marks = (big-fits, little-fits, tell-refused, tell-done, says-big, says-little, says_none, rules)

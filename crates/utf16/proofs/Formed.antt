@@ -1,4 +1,4 @@
--- What is decoded: it is what the units say, well_formed, at most 3/2 of the document's bytes, within the limit and the room, and stands in the buffer.
+-- What is decoded: it is what the units say, well-formed, at most 3/2 of the document's bytes, within the limit and the room, and stands in the buffer.
 use Prim.Native.Nat.{ℕ, zero, suc, ◌+◌, ◌-◌, ◌*◌, ◌/◌, ◌%◌, ◌≤◌, ◌<◌}
 use mathlib.Core.Path.{◌≡◌, refl}
 use mathlib.Core.List.{List, [], ◌∷◌, ◌++◌}
@@ -18,10 +18,11 @@ use Rattle.utf8.proofs.Texts.{Whole, none_whole, formed, whole_append, whole_cha
 use Rattle.utf8.proofs.Encodings.{Scalar, utf8_char, utf8_short, unit_short}
 use Rattle.answers.specs.Text.{Text, text, wrong, left_of}
 use Rattle.answers.proofs.Answers.{no_text}
+use Rattle.utf8.specs.WellFormed.{ill_formed}
 use Rattle.utf16.specs.Units.{unit, units, high, low, pair, scalar_value, utf16, in_units}
 use Rattle.utf16.specs.Decode.{Scalars, scalars, lone, before, Waiting, nothing, first, decode, rest, in_bytes, text_of}
 use Rattle.utf16.specs.Entry.{big_mark, marked, fitting, ordered, decoding, answer_of, answer, left}
-use Rattle.utf16.specs.Promises.{is_byte, Same, Complete, WellFormed, Short, Within, Stands, Forms}
+use Rattle.utf16.specs.Promises.{is_byte, Same, Complete, WellFormed, Short, Within, Stands}
 use Rattle.std.proofs.Common.{Some, None, Ok}
 
 -- ---- the classes of units
@@ -113,7 +114,7 @@ utf16_pair h u p q =
     let j = class_true 0xdc00 0xdfff u q in
     rw (le-ltb (pair h u) 0x10000 (omega arith)) (two_units (omega (arith, i.0, i.1, j.0, j.1)) (omega (arith, i.0, i.1, j.0, j.1)))
 
--- scalar values that are those of units: their UTF-8 is well_formed, and has at most three bytes for each unit
+-- scalar values that are those of units: their UTF-8 is well-formed, and has at most three bytes for each unit
 record Said (l cs : List ℕ) : Type 0 where
   values : all scalar_value cs ≡ true
   is : l ≡ in_units cs
@@ -274,5 +275,5 @@ complete big raw cs a e = rw (e, decode_all cs a 2)
 -- ---- a document that is lent
 
 -- its bytes are known by their places
-pub forms : (raw : List ℕ) (room : ℕ) → ((i : ℕ) → Fits w8 (get_or raw i 0)) → Forms raw room
-forms raw room h = record { formed = λ t. well_formed raw t room (all_bytes raw (λ i. omega (arith, h i))) }
+pub forms : (raw : List ℕ) (room : ℕ) → ((i : ℕ) → Fits w8 (get_or raw i 0)) → (t : List ℕ) → decoding raw room ≡ text t → ill_formed t ≡ length t
+forms raw room h t = well_formed raw t room (all_bytes raw (λ i. omega (arith, h i)))

@@ -1,8 +1,9 @@
 -- What is promised of every decoded text.
-use Rattle.std.specs.Prelude.{ℕ, ◌*◌, ◌≤◌, ◌≡◌, List, Bool, true, ltb, length, take, drop, Some, Ok}
+use Rattle.std.specs.Prelude.{ℕ, ◌*◌, ◌≤◌, ◌≡◌, List, Bool, true, ltb, length, take, drop, Option, Some, Result, Ok}
 use Rattle.slices.specs.Bytes.{all, starts}
 use Rattle.utf8.specs.WellFormed.{ill_formed}
 use Rattle.answers.specs.Text.{text}
+use Rattle.faults.specs.declared.Fault.{Fault}
 use Rattle.utf16.specs.Units.{units, scalar_value, in_units}
 use Rattle.utf16.specs.Decode.{rest, in_bytes, text_of}
 use Rattle.utf16.specs.Entry.{big_mark, decoding, answer, left}
@@ -27,7 +28,7 @@ Complete =
     → units big (drop 2 raw) ≡ in_units cs
     → text_of (rest big raw 2) ≡ text (in_bytes cs)
 
--- a document decodes to well_formed UTF-8
+-- a document decodes to well-formed UTF-8
 abbrev pub WellFormed : Type 0
 WellFormed = (raw t : List ℕ) (room : ℕ) → all is_byte raw ≡ true → decoding raw room ≡ text t → ill_formed t ≡ length t
 
@@ -46,6 +47,8 @@ Stands =
     → answer raw room ≡ Ok (Some n)
     → (t : List ℕ) × (decoding raw room ≡ text t) × (n ≡ length t) × (take n (left raw room) ≡ t)
 
--- the entry's own promise, of a document that is lent: what it decodes to is well_formed
-pub record Forms (raw : List ℕ) (room : ℕ) : Type 0 where
-  pub formed : (t : List ℕ) → decoding raw room ≡ text t → ill_formed t ≡ length t
+-- what `decode` says of a document, in the room of the buffer lent: what it answers and leaves, and that a decoded text is well-formed
+pub record DecodesWhole (raw lent out : List ℕ) (r : Result (Option ℕ) Fault) : Type 0 where
+  pub answers : r ≡ answer raw (length lent)
+  pub leaves : out ≡ left raw (length lent)
+  pub formed : (t : List ℕ) → decoding raw (length lent) ≡ text t → ill_formed t ≡ length t

@@ -3,10 +3,10 @@
 #![tactic(auto)]
 
 ghost use Rattle.std.specs.Prelude.{◌≡◌, ◌+◌, ◌*◌, ◌<◌, ◌≤◌, length};
-ghost use Rattle.answers.specs.Text.{Says};
-ghost use Rattle.utf16.specs.Entry.{ordered, told, answer, left};
+ghost use Rattle.answers.specs.Text.{Makes};
+ghost use Rattle.utf16.specs.Entry.{ordered, told};
 ghost use Rattle.utf16.specs.Outcome.{IsUnit, Characters, Decodes, Exceeds, Limited, low_byte, Block, IsAscii, Steps, PutsAll};
-ghost use Rattle.utf16.specs.Promises.{Forms};
+ghost use Rattle.utf16.specs.Promises.{DecodesWhole};
 
 use answers::TextAnswer;
 use faults::Fault;
@@ -207,8 +207,7 @@ fn put_all(raw: &[u8], big: bool, out: &mut [u8]) -> Result<usize, usize>
 // Decodes what follows the mark, in a byte order.
 fn decode_ordered(raw: &[u8], big: bool, out: &mut [u8]) -> TextAnswer
     requires { 2 ≤ length raw.now }
-    ensures { Says (ordered big raw.now (length out.old)) (length out.old)
-        out.new result }
+    ensures { Makes (ordered big raw.now) out.old out.new result }
 {
     if 1048576 < raw.len() {
         return answers::refuse(out, Fault::new(2, 1048576));
@@ -239,9 +238,7 @@ fn told(a: TextAnswer) -> Result<Option<usize>, Fault>
 // one that has no room with 18 at its length. Every byte of the buffer past the decoded text is zero, and all are where there is none.
 // None where the document begins with neither mark.
 pub fn decode(raw: &[u8], out: &mut [u8]) -> Result<Option<usize>, Fault>
-    ensures answer { result ≡ answer raw.now (length out.old) }
-    ensures left { out.new ≡ left raw.now (length out.old) }
-    ensures formed { Forms raw.now (length out.old) }
+    ensures { DecodesWhole raw.now out.old out.new result }
 {
     if slices::starts_at(raw, 0, b"\xfe\xff") {
         return told(decode_ordered(raw, true, out));

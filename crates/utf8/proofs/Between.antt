@@ -1,4 +1,4 @@
--- What is left of a well_formed text once it is trimmed: its ends are in order, and it is well_formed.
+-- What is left of a well-formed text once it is trimmed: its ends are in order, and it is well-formed.
 use Prim.Native.Nat.{ℕ, ◌+◌, ◌-◌, ◌≤◌}
 use mathlib.Core.Path.{◌≡◌, refl}
 use mathlib.Core.List.{List, [], ◌∷◌, ◌++◌, append-nil, reverse, reverse-cons, reverse-reverse}

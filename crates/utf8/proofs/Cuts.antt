@@ -1,4 +1,4 @@
--- Where a well_formed text may be cut: at both ends, before a byte that continues no character, after a byte below 128.
+-- Where a well-formed text may be cut: at both ends, before a byte that continues no character, after a byte below 128.
 use Prim.Native.Nat.{ℕ, zero, suc, ◌+◌, ◌-◌, ◌≤◌, ◌<◌}
 use mathlib.Core.Path.{◌≡◌, refl, ap, sym, ◌∙◌}
 use mathlib.Core.List.{List, [], ◌∷◌, ◌++◌}
@@ -45,7 +45,7 @@ split (c ∷ cs) (suc k) h l g =
     let r = split cs (suc k - length c) h.1 (omega (arith, length-append c (joined cs))) (rw (e, get_or-append-add c (joined cs) (suc k - length c) 0) at g) in
     rw (e, take-append-add c (joined cs) (suc k - length c), drop-append-add c (joined cs) (suc k - length c)) (whole_append (whole_char h.0) r.0, r.1))
 
--- a well_formed text may be cut before a byte that continues no character
+-- a well-formed text may be cut before a byte that continues no character
 pub cut_lead : (s : List ℕ) (k : ℕ) → ill_formed s ≡ length s → k < length s → Lead (get_or s k 0) → Boundary s k
 cut_lead s k h l g =
     let w = whole s h in
@@ -66,7 +66,7 @@ module _ (s : List ℕ) (h : ill_formed s ≡ length s) where
   pub cut_ascii : (k : ℕ) → k < length s → get_or s k 0 < 128 → Boundary s k
   cut_ascii k l g = cut_lead s k h l (omega arith)
 
--- what follows characters in a well_formed text is well_formed
+-- what follows characters in a well-formed text is well-formed
 rest_formed : (p x : List ℕ) → ill_formed p ≡ length p → ill_formed (p ++ x) ≡ length (p ++ x) → ill_formed x ≡ length x
 rest_formed p x h k = omega (arith, after_whole x (whole p h), k, length-append p x)
 
@@ -102,7 +102,7 @@ cut_is_lead s k b l = let w = whole (drop k s) b.after in go w.parts w.all w.is
         let q : get_or c 0 0 ≡ get_or s k 0 = sym (get_or-append c (joined cs) 0 0 h.0.some) ∙ ap (λ (x : List ℕ). get_or x 0 0) (e ∙ drop-cons s k 0 l) in
         rw q at (char_lead c h.0)
 
--- the part between two such places is well_formed
+-- the part between two such places is well-formed
 pub part_formed : (s : List ℕ) (a n : ℕ) → Boundary s a → Boundary s (a + n) → ill_formed (take n (drop a s)) ≡ length (take n (drop a s))
 part_formed s a n b c =
     below n (length (drop a s))

@@ -7,7 +7,8 @@ use native.Mathlib.Omega.{arith}
 use mir.Syntax.{w64}
 use mir.Val.{Fits}
 use lib.ListN.{length, take, drop, get_or, length-append, length-drop, take-append-drop}
-use lib.Seq.{take-length, take-add, take-append_seam, drop-append_seam, length-take-le, get_or-take, get_or-drop, take_all}
+use lib.Seq.{take-length, take-add, take-append_seam, drop-append_seam, length-take-le, get_or-take, get_or-drop}
+use Rattle.std.proofs.lemmas.List.{take_rest}
 use Rattle.std.specs.Prelude.{Option, None, Some}
 use Rattle.std.specs.Option.{unwrap_or}
 use Rattle.slices.specs.Bytes.{if}
@@ -150,16 +151,13 @@ module _ {s : List ℕ} {end : ℕ} (t : Ending s end) where
 pub ruleset ends = (end_begins, end_none, end_stops, end_more, rules)
 
 -- the rest of a text, as the code lends it
-rest-is : (s : List ℕ) (a : ℕ) → take (length s - a) (drop a s) ≡ drop a s
-rest-is s a = take_all (length s - a) (drop a s) (omega (arith, length-drop a s))
-
 module _ {s : List ℕ} {a : ℕ} (t : Starts s a) where
   pub lent_formed : ill_formed (take (length s - a) (drop a s)) ≡ length (take (length s - a) (drop a s))
-  lent_formed = rw (rest-is s a) t.cut.after
+  lent_formed = rw (take_rest s a) t.cut.after
 
   module _ {n : ℕ} (e : Ends (take (length s - a) (drop a s)) n) where
     both : n + trailing (drop a s) ≡ length s - a
-    both = rw (rest-is s a, length-drop a s) at e.is
+    both = rw (take_rest s a, length-drop a s) at e.is
 
     pub both_ends : Trims s record { start = a; end = a + n }
     unfolding trim_end trailing

@@ -10,9 +10,10 @@ use mir.Val.{Fits}
 use lib.ListN.{length, take, drop, length-drop, take-append-drop, drop_of_length-le}
 use lib.Seq.{drop-drop, length-take-le, get_or-take, get_or-drop}
 use Rattle.utf8.specs.WellFormed.{sequence, ill_formed}
-use Rattle.utf8.specs.Ascii.{Ascii}
+use Rattle.slices.specs.Run.{Run}
+use Rattle.utf8.specs.Ascii.{Ascii, ascii}
 use Rattle.utf8.specs.Trim.{Start}
-use Rattle.utf8.proofs.Ascii.{ascii_join}
+use Rattle.utf8.proofs.Ascii.{ascii_run, run_low}
 use Rattle.utf8.proofs.Texts.{Whole, whole, formed, whole_char, after_whole, sequence_char, sequence_none, ascii_whole}
 
 -- the search has come to a place: what it asks is what is left from there
@@ -41,11 +42,12 @@ found_first {s} {r} b =
     let z : 0 + r ≡ r = omega arith in
     record { left = rw z at (passes s 0 r (omega (arith, b.inside)) (whole (take r s) (b.is ∙ sym k))); inside = b.inside }
 
--- bytes below 128 are well_formed
-pub start_ascii : {s : List ℕ} {at r : ℕ} → Ascii s 0 at → Ascii s at r → Start s r
-start_ascii {s} {at} {r} b a =
+-- bytes below 128 are well-formed
+pub start_ascii : {s : List ℕ} {r : ℕ} → Run ascii s 0 r → Start s r
+start_ascii {s} {r} g =
+    let a = run_low g in
     let k : length (take r s) ≡ r = length-take-le r s a.inside in
-    let w : Whole (take r s) = ascii_whole (take r s) (λ i h. let g : i < r = rw k at h in rw (get_or-take r s i 0 g) ((ascii_join b a).low i (omega arith) g)) in
+    let w : Whole (take r s) = ascii_whole (take r s) (λ i h. let g : i < r = rw k at h in rw (get_or-take r s i 0 g) (a.low i (omega arith) g)) in
     record { inside = a.inside; is = formed w ∙ k }
 
 module _ {s : List ℕ} {at : ℕ} (f : Found s at) where
@@ -64,8 +66,8 @@ module _ {s : List ℕ} {at : ℕ} (f : Found s at) where
       pub sum_fits : length s < 2 ^ 64 → Fits w64 (at + n)
       sum_fits h = let r = room in omega arith
 
-      pub found_more : {r : ℕ} → Ascii s (at + n) r → Found s r
-      found_more {r} a = record {
+      pub found_more : {r : ℕ} → Run ascii s (at + n) r → Found s r
+      found_more {r} g = let a = run_low g in record {
         left =
             let c = sequence_char (drop at s) n e z in
             let p = passes s at n (rw (length-drop at s) at c.1) (whole_char c.0) in
@@ -74,4 +76,6 @@ module _ {s : List ℕ} {at : ℕ} (f : Found s at) where
         inside = a.inside;
       }
 
-pub ruleset finds = (found_first, start_ascii, found_end, found_stop, room, sum_fits, found_more, rules)
+pub ruleset starts = (ascii_run, start_ascii, rules)
+
+pub ruleset finds = (found_first, found_end, found_stop, room, sum_fits, found_more, rules)

@@ -1,4 +1,4 @@
--- The laws on UTF-8: sequences, well_formed texts, the UTF-8 of a scalar value, White_Space.
+-- The laws on UTF-8: sequences, well-formed texts, the UTF-8 of a scalar value, White_Space.
 pub mod Sequences
 pub mod Texts
 pub mod Encodings

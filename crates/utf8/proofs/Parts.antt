@@ -1,4 +1,4 @@
--- A part of a text whose beginning is well_formed, by the bytes at its two ends.
+-- A part of a text whose beginning is well-formed, by the bytes at its two ends.
 use Prim.Native.Nat.{ℕ, ◌+◌, ◌≤◌, ◌<◌}
 use mathlib.Core.Path.{◌≡◌, sym, ap, ◌∙◌}
 use mathlib.Core.List.{List}
@@ -48,12 +48,12 @@ module _ (s : List ℕ) (u : ℕ) (g : Start s u) where
         (rw (take-append-drop u s) at
         (ap (take n) (drop-append-le a (take u s) (drop u s) i) ∙ take-append-le n (drop a (take u s)) (drop u s) j))
 
-    -- the part between two such places is well_formed
+    -- the part between two such places is well-formed
     pub edges_formed : Edge s u a → Edge s u (a + n) → ill_formed (take n (drop a s)) ≡ length (take n (drop a s))
     edges_formed e f =
         rw same at (part_formed (take u s) a n (edge_cut a (omega arith) e) (edge_cut (a + n) l f))
 
-    -- a part that is well_formed, and not empty, lies between two such places
+    -- a part that is well-formed, and not empty, lies between two such places
     module _ (m : 0 < n) (h : ill_formed (take n (drop a s)) ≡ length (take n (drop a s))) where
       pub first_edge : Edge s u a
       first_edge k =

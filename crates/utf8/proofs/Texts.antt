@@ -176,7 +176,7 @@ whole_append v w = record {
 pub whole_char : {c : List ℕ} → Char c → Whole c
 whole_char {c} h = record { parts = c ∷ []; all = (h, tt); is = append-nil c }
 
--- two well_formed texts, one after the other
+-- two well-formed texts, one after the other
 pub append_formed : (a b : List ℕ) → ill_formed a ≡ length a → ill_formed b ≡ length b → ill_formed (a ++ b) ≡ length (a ++ b)
 append_formed a b h k = formed (whole_append (whole a h) (whole b k))
 

@@ -18,7 +18,7 @@ use Rattle.utf8.proofs.Sequences.{Char}
 use Rattle.utf8.proofs.Texts.{whole_char, sequence_char, sequence_none, characters_first}
 use Rattle.utf8.proofs.Cuts.{cut_start, cut_past}
 
--- some sequence stands first in a well_formed text that is not empty
+-- some sequence stands first in a well-formed text that is not empty
 some_first : (l : List ℕ) → ill_formed l ≡ length l → 0 < length l → sequence l ≡ 0 → ⊥
 some_first l h n z = omega (arith, sequence_none l z)
 
@@ -27,7 +27,7 @@ trim_first : (c x : List ℕ) → Char c → trim_start (c ++ x) ≡ if (white_s
 unfolding trim_start
 trim_first c x h = rw (characters_first c x h)
 
--- what stands first in a well_formed text: it is White_Space, or it is not
+-- what stands first in a well-formed text: it is White_Space, or it is not
 module _ (l : List ℕ) (h : ill_formed l ≡ length l) (k : 0 < length l) (n : ℕ) (e : n ≡ white l) where
   pub first_char : Char (take (sequence l) l) × (sequence l ≤ length l)
   first_char = sequence_char l (sequence l) refl (some_first l h k)

@@ -1,5 +1,9 @@
 -- Runs of bytes below 128.
-use Rattle.std.specs.Prelude.{ℕ, ◌+◌, ◌≤◌, ◌<◌, List, length, get_or}
+use Rattle.std.specs.Prelude.{ℕ, ◌+◌, ◌≤◌, ◌<◌, Bool, ltb, List, length, get_or}
+
+-- a byte below 128
+abbrev pub ascii : ℕ → Bool
+ascii b = ltb b 128
 
 -- none of the n bytes from a place is larger than m
 pub record AtMost (s : List ℕ) (from n m : ℕ) : Type 0 where

@@ -1,16 +1,16 @@
--- Where a well_formed text may be cut, and what the steps of trimming say.
+-- Where a well-formed text may be cut, and what the steps of trimming say.
 use Rattle.std.specs.Prelude.{ℕ, ◌+◌, ◌-◌, ◌≤◌, ◌<◌, ◌≡◌, List, reverse, length, take, drop}
 use Rattle.slices.specs.Bytes.{if}
 use Rattle.utf8.specs.WellFormed.{sequence, ill_formed}
 use Rattle.utf8.specs.WhiteSpace.{characters, code_point, white_space, leading, trim_start, trim_end}
 
--- what stands before a place is well_formed, and what follows it is
+-- what stands before a place is well-formed, and what follows it is
 pub record Boundary (s : List ℕ) (at : ℕ) : Type 0 where
   pub inside : at ≤ length s
   pub before : ill_formed (take at s) ≡ length (take at s)
   pub after : ill_formed (drop at s) ≡ length (drop at s)
 
--- the first u bytes are well_formed
+-- the first u bytes are well-formed
 pub record Start (s : List ℕ) (u : ℕ) : Type 0 where
   pub inside : u ≤ length s
   pub is : ill_formed (take u s) ≡ u
@@ -38,11 +38,11 @@ pub record Starts (s : List ℕ) (r : ℕ) : Type 0 where
 pub record Ends (s : List ℕ) (r : ℕ) : Type 0 where
   pub is : r + trailing s ≡ length s
 
--- what trimming leaves of a well_formed text lies inside it
+-- what trimming leaves of a well-formed text lies inside it
 abbrev pub TrimmedInside : Type 0
 TrimmedInside = (s : List ℕ) → ill_formed s ≡ length s → (trim_start s ≤ trim_end s) × (trim_end s ≤ length s)
 
--- what trimming leaves of a well_formed text is well_formed
+-- what trimming leaves of a well-formed text is well-formed
 abbrev pub TrimmedFormed : Type 0
 TrimmedFormed =
     (s : List ℕ) →

@@ -38,7 +38,7 @@ abbrev pub first_row : List (List Range) → List ℕ → ℕ
 first_row [] l = 0
 first_row (r ∷ rs) l = let t = first_row rs l in if (begins r l) (length r) t
 
--- how many bytes the well_formed sequence takes with which the bytes begin, or 0
+-- how many bytes the well-formed sequence takes with which the bytes begin, or 0
 unfoldable pub sequence : List ℕ → ℕ
 sequence l = first_row table l
 

@@ -2,10 +2,11 @@
 #![tactic(auto)]
 
 ghost use Rattle.std.specs.Prelude.{◌≡◌, [], ◌∷◌, ◌+◌, ◌≤◌, ◌<◌, length, drop};
+ghost use Rattle.slices.specs.Run.{Run};
 ghost use Rattle.utf8.specs.WellFormed.{to, begins, sequence, ill_formed};
 ghost use Rattle.utf8.specs.WhiteSpace.{code_point, white_space, Trims};
 ghost use Rattle.utf8.specs.Sequence.{continuation, taken};
-ghost use Rattle.utf8.specs.Ascii.{AtMost, Ascii};
+ghost use Rattle.utf8.specs.Ascii.{AtMost, Ascii, ascii};
 ghost use Rattle.utf8.specs.Trim.{Boundary, Start, Last, Starts, Ends, white};
 
 // Where a text begins and ends once it is trimmed.
@@ -37,12 +38,12 @@ fn blocks(s: &[u8], from: usize, n: usize) -> usize
     slices::blocks(s, from, n, |at| largest(s, at, n) <= 127)
 }
 
-// Past a run of bytes below 128.
+// The end of the run of bytes below 128 from a place on.
 fn ascii_run(s: &[u8], from: usize) -> usize
     requires { from ≤ length s.now }
-    ensures { Ascii s.now from result }
+    ensures { Run ascii s.now from result }
 {
-    slices::run_end(s, blocks(s, from, 32), |b| b <= 127)
+    slices::run_end(s, blocks(s, from, 32), |b| b < 128)
 }
 
 // Whether a byte of a range stands at a place.
@@ -101,9 +102,10 @@ fn sequence(s: &[u8], at: usize) -> usize
     }
 }
 
-// How many bytes from the beginning on are below 128.
+// How many bytes from the beginning on are below 128: they are UTF-8.
 pub fn ascii_start(s: &[u8]) -> usize
-    ensures { Start s.now result }
+    ensures run { Run ascii s.now 0 result }
+    ensures start { Start s.now result }
 {
     ascii_run(s, blocks(s, 0, 128))
 }

@@ -1,2 +1,3 @@
--- What a writer is once bytes are put.
+-- What a writer is once bytes are put, and what counting them needs.
 pub mod Added
+pub mod Counts

@@ -3,7 +3,7 @@ use Prim.Native.Nat.{ℕ, ◌+◌, ◌*◌, ◌≤◌, ◌<◌, ◌^◌}
 use native.Mathlib.Omega.{arith}
 use mathlib.Core.Path.{◌≡◌, refl, ap, sym, subst, ◌∙◌}
 use mathlib.Core.List.{List, [], map}
-use mathlib.Core.Option.{none, some}
+use mathlib.Core.Option.{Option, none, some}
 use mathlib.Core.Bool.{Bool, true, false}
 use borrow.Author.Rules.{rules}
 use borrow.Author.Tests.{eq-eqb, ne_eqb, eqb-true}
@@ -22,19 +22,20 @@ use Rattle.document.specs.Elements.{among}
 use Rattle.soundness.specs.Outcome.{Admits}
 use Rattle.soundness.proofs.Rows.{admitted, refused_as, admitted_as}
 use Rattle.document.specs.Kinds as kinds
-use Rattle.items.specs.Words.{Word, rows_of, viewed, rows_shown}
-use Rattle.items.specs.Written.{annotated, argument, method, signal, written, written_member}
+use Rattle.items.specs.Words.{Word, rows_of, viewed, rows_shown, shown_row}
+use Rattle.items.specs.Written.{Item, annotated, argument, method, signal, written, written_member}
 use Rattle.items.specs.Content.{Row, annotation_of, arg_of, member_of, item_of, first_item, content, content_at}
+use Rattle.items.specs.Several.{there}
 use Rattle.items.specs.Writing.{checked, item_written, writing, Writes}
 use Rattle.items.proofs.Rows.{row-at, length_rows_of, sound_claimed, sound_held, sound_parent}
-use Rattle.writers.specs.Rows.{row_at, Held}
+use Rattle.writers.specs.Rows.{Held}
 use Rattle.writers.specs.Writes.{annotation_at, AnnotationPut, Scannable, ArgPut, MemberScannable, MemberPut, Writable, ItemPut}
 use Rattle.writers.specs.Entry.{Admitted, WritesSound}
 use Rattle.writers.proofs.Scans.{last_all}
 use Rattle.writers.proofs.Members.{member_row, member_within}
 
 -- the content of row i
-pub content_is : (d x ws : List ℕ) (m i : ℕ) → i < m → content_at d x ws m i ≡ item_of (rows_shown d x ws m) i (row_at d x ws i)
+pub content_is : (d x ws : List ℕ) (m i : ℕ) → i < m → content_at d x ws m i ≡ item_of (rows_shown d x ws m) i (shown_row d x ws i)
 unfolding content
 content_is d x ws m i h = ap (first_item (rows_shown d x ws m) i) (drop-map (viewed d x) i (rows_of m ws) ∙ ap (map (viewed d x)) (row-at m i ws h))
 
@@ -46,68 +47,75 @@ content_past d x ws m i h =
     (drop-map (viewed d x) i (rows_of m ws) ∙ ap (map (viewed d x)) (drop_of_length-le (rows_of m ws) l))
 
 module _ (t : List Row) (i : ℕ) (r : Row) where
-  item_three : r.kind ≡ 3 → item_of t i r ≡ some (method (member_of t i r))
-  item_three e = rw (eq-eqb r.kind 3 e)
+  item_three : r.kind ≡ kinds.method → item_of t i r ≡ some (method (member_of t i r))
+  item_three e = rw (eq-eqb r.kind kinds.method e)
 
-  item_five : r.kind ≡ 5 → item_of t i r ≡ some (signal (member_of t i r))
-  item_five e = rw (ne_eqb r.kind 3 (λ f. omega (arith, e, f)), eq-eqb r.kind 5 e)
+  item_five : r.kind ≡ kinds.signal → item_of t i r ≡ some (signal (member_of t i r))
+  item_five e = rw (ne_eqb r.kind kinds.method (λ f. omega (arith, e, f)), eq-eqb r.kind kinds.signal e)
 
-  item_six : r.kind ≡ 6 → item_of t i r ≡ some (annotated (annotation_of r))
-  item_six e = rw (ne_eqb r.kind 3 (λ f. omega (arith, e, f)), ne_eqb r.kind 5 (λ f. omega (arith, e, f)), eq-eqb r.kind 6 e)
+  item_six : r.kind ≡ kinds.annotation → item_of t i r ≡ some (annotated (annotation_of r))
+  item_six e = rw (ne_eqb r.kind kinds.method (λ f. omega (arith, e, f)), ne_eqb r.kind kinds.signal (λ f. omega (arith, e, f)), eq-eqb r.kind kinds.annotation e)
 
-  item_seven : r.kind ≡ 7 → item_of t i r ≡ some (argument (arg_of t i r))
-  item_seven e = rw (ne_eqb r.kind 3 (λ f. omega (arith, e, f)), ne_eqb r.kind 5 (λ f. omega (arith, e, f)), ne_eqb r.kind 6 (λ f. omega (arith, e, f)), eq-eqb r.kind 7 e)
+  item_seven : r.kind ≡ kinds.arg → item_of t i r ≡ some (argument (arg_of t i r))
+  item_seven e = rw (ne_eqb r.kind kinds.method (λ f. omega (arith, e, f)), ne_eqb r.kind kinds.signal (λ f. omega (arith, e, f)), ne_eqb r.kind kinds.annotation (λ f. omega (arith, e, f)), eq-eqb r.kind kinds.arg e)
+
+  pub there_item : there (item_of t i r) ≡ among r.kind kinds.written
+  there_item = go (eqb r.kind kinds.method) (eqb r.kind kinds.signal) (eqb r.kind kinds.annotation) (eqb r.kind kinds.arg)
+    where
+      go : (a b c d : Bool) → there (if a (some (method (member_of t i r))) (if b (some (signal (member_of t i r))) (if c (some (annotated (annotation_of r))) (if d (some (argument (arg_of t i r))) none)))) ≡ if a true (if b true (if c true (if d true false)))
+      go true b c d = refl
+      go false true c d = refl
+      go false false true d = refl
+      go false false false true = refl
+      go false false false false = refl
 
   item_none : among r.kind kinds.written ≡ false → item_of t i r ≡ none
-  item_none h = go (eqb r.kind 3) (eqb r.kind 5) (eqb r.kind 6) (eqb r.kind 7) h
+  item_none h = nothing (item_of t i r) (there_item ∙ h)
     where
-      go : (a b c d : Bool) → if a true (if b true (if c true (if d true false))) ≡ false → if a (some (method (member_of t i r))) (if b (some (signal (member_of t i r))) (if c (some (annotated (annotation_of r))) (if d (some (argument (arg_of t i r))) none))) ≡ none
-      go true b c d e = absurd (subst T e tt)
-      go false true c d e = absurd (subst T e tt)
-      go false false true d e = absurd (subst T e tt)
-      go false false false true e = absurd (subst T e tt)
-      go false false false false e = refl
+      nothing : (o : Option Item) → there o ≡ false → o ≡ none
+      nothing none e = refl
+      nothing (some c) e = absurd (subst T e tt)
 
 module _ {ws : List ℕ} {m i k : ℕ} (h : MemberScannable ws m i) (w : Word ws i 0 k) where
-  kind_is : (d x : List ℕ) {n : ℕ} → k ≡ n → (row_at d x ws i).kind ≡ n
+  kind_is : (d x : List ℕ) {n : ℕ} → k ≡ n → (shown_row d x ws i).kind ≡ n
   kind_is d x e = get_or-drop (i * 16) ws 0 0 ∙ sym w.is ∙ e
 
   module _ {d x t t' : List ℕ} {n r : ℕ} where
-    pub item_annotation : k ≡ 6 → AnnotationPut d x ws i n t t' r → ItemPut d x ws m i n t t' r
+    pub item_annotation : k ≡ kinds.annotation → AnnotationPut d x ws i n t t' r → ItemPut d x ws m i n t t' r
     unfolding annotation_at
     item_annotation e q = record {
-      item = annotated (annotation_of (row_at d x ws i));
-      is = content_is d x ws m i h.within ∙ item_six (rows_shown d x ws m) i (row_at d x ws i) (kind_is d x e);
+      item = annotated (annotation_of (shown_row d x ws i));
+      is = content_is d x ws m i h.within ∙ item_six (rows_shown d x ws m) i (shown_row d x ws i) (kind_is d x e);
       puts = q.puts;
     }
 
-    pub item_arg : k ≡ 7 → ArgPut d x ws i m n t t' r → ItemPut d x ws m i n t t' r
+    pub item_arg : k ≡ kinds.arg → ArgPut d x ws i m n t t' r → ItemPut d x ws m i n t t' r
     item_arg e q = record {
-      item = argument (arg_of (rows_shown d x ws m) i (row_at d x ws i));
-      is = content_is d x ws m i h.within ∙ item_seven (rows_shown d x ws m) i (row_at d x ws i) (kind_is d x e);
+      item = argument (arg_of (rows_shown d x ws m) i (shown_row d x ws i));
+      is = content_is d x ws m i h.within ∙ item_seven (rows_shown d x ws m) i (shown_row d x ws i) (kind_is d x e);
       puts = q.puts m h.held (last_all h.within);
     }
 
-    pub item_member : Writable k true → (k ≡ 6 → ⊥) → (k ≡ 7 → ⊥) → MemberPut d x ws m i k n t t' r → ItemPut d x ws m i n t t' r
-    item_member y a b q = go (eqb k 3) refl
+    pub item_member : Writable k true → (k ≡ kinds.annotation → ⊥) → (k ≡ kinds.arg → ⊥) → MemberPut d x ws m i k n t t' r → ItemPut d x ws m i n t t' r
+    item_member y a b q = go (eqb k kinds.method) refl
       where
-        five : eqb k 3 ≡ false → k ≡ 5
-        five c = eqb-true k 5 (only (eqb k 5) (y.is ∙ rw (c, ne_eqb k 6 a, ne_eqb k 7 b)))
+        five : eqb k kinds.method ≡ false → k ≡ kinds.signal
+        five c = eqb-true k kinds.signal (only (eqb k kinds.signal) (y.is ∙ rw (c, ne_eqb k kinds.annotation a, ne_eqb k kinds.arg b)))
           where
             only : (z : Bool) → true ≡ if z true false → z ≡ true
             only true e = refl
             only false e = sym e
 
-        go : (z : Bool) → eqb k 3 ≡ z → ItemPut d x ws m i n t t' r
+        go : (z : Bool) → eqb k kinds.method ≡ z → ItemPut d x ws m i n t t' r
         go true e = record {
-          item = method (member_of (rows_shown d x ws m) i (row_at d x ws i));
-          is = content_is d x ws m i h.within ∙ item_three (rows_shown d x ws m) i (row_at d x ws i) (kind_is d x (eqb-true k 3 e));
-          puts = puts_as (ap (λ n. written_member n (member_of (rows_shown d x ws m) i (row_at d x ws i))) (ap (λ z. if z (bytes "method") (bytes "signal")) e)) q.puts;
+          item = method (member_of (rows_shown d x ws m) i (shown_row d x ws i));
+          is = content_is d x ws m i h.within ∙ item_three (rows_shown d x ws m) i (shown_row d x ws i) (kind_is d x (eqb-true k kinds.method e));
+          puts = puts_as (ap (λ n. written_member n (member_of (rows_shown d x ws m) i (shown_row d x ws i))) (ap (λ z. if z (bytes "method") (bytes "signal")) e)) q.puts;
         }
         go false e = record {
-          item = signal (member_of (rows_shown d x ws m) i (row_at d x ws i));
-          is = content_is d x ws m i h.within ∙ item_five (rows_shown d x ws m) i (row_at d x ws i) (kind_is d x (five e));
-          puts = puts_as (ap (λ n. written_member n (member_of (rows_shown d x ws m) i (row_at d x ws i))) (ap (λ z. if z (bytes "method") (bytes "signal")) e)) q.puts;
+          item = signal (member_of (rows_shown d x ws m) i (shown_row d x ws i));
+          is = content_is d x ws m i h.within ∙ item_five (rows_shown d x ws m) i (shown_row d x ws i) (kind_is d x (five e));
+          puts = puts_as (ap (λ n. written_member n (member_of (rows_shown d x ws m) i (shown_row d x ws i))) (ap (λ z. if z (bytes "method") (bytes "signal")) e)) q.puts;
         }
 
 pub item_scans : {ws : List ℕ} {m i n : ℕ} → n < 4294967296 → MemberScannable ws m i → Scannable ws i m n
@@ -156,10 +164,10 @@ module _ {d x ws t t' : List ℕ} {n i : ℕ} {r : Result ℕ Fault} where
 
   pub no_kind : {k : ℕ} {b : Bool} → i < n → Word ws i 0 k → Writable k b → b ≡ false → Says (wrong 20 i) (length t) t' r → WritesSound d x ws n i t t' r
   no_kind {k} h w y e s =
-      let f : (row_at d x ws i).kind ≡ k = get_or-drop (i * 16) ws 0 0 ∙ sym w.is in
-      let g : among (row_at d x ws i).kind kinds.written ≡ false = ap (λ z. among z kinds.written) f ∙ sym y.is ∙ e in
+      let f : (shown_row d x ws i).kind ≡ k = get_or-drop (i * 16) ws 0 0 ∙ sym w.is in
+      let g : among (shown_row d x ws i).kind kinds.written ≡ false = ap (λ z. among z kinds.written) f ∙ sym y.is ∙ e in
       record {
-        says = subst (λ o. Says (item_written i (length t) o) (length t) t' r) (sym (content_is d x ws n i h ∙ item_none (rows_shown d x ws n) i (row_at d x ws i) g)) s;
+        says = subst (λ o. Says (item_written i (length t) o) (length t) t' r) (sym (content_is d x ws n i h ∙ item_none (rows_shown d x ws n) i (shown_row d x ws i) g)) s;
       }
 
   pub row_written : {t₁ : List ℕ} {m : ℕ} → ItemPut d x ws n i 0 t t₁ m → length t₁ ≡ length t → Finishes m 21 m t₁ t' r → WritesSound d x ws n i t t' r

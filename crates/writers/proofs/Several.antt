@@ -18,34 +18,32 @@ use Rattle.tables.proofs.Tables.{empty_stands, one_room, clear_all, clear_rest}
 use Rattle.answers.specs.Text.{wrong, Says}
 use Rattle.document.specs.Kinds as kinds
 use Rattle.document.specs.Elements.{among}
-use Rattle.items.specs.Words.{word_at, Word, rows_shown, is_child}
+use Rattle.items.specs.Words.{word_at, Word, rows_shown, is_child, shown_row}
 use Rattle.items.specs.Order.{parent_at}
 use Rattle.items.specs.Written.{Item, annotated, argument, method, signal, written, concat}
 use Rattle.items.specs.Content.{Row, annotations, annotation_of, arg_of, args, member_of, item_of, content_at}
 use Rattle.items.specs.Several.{there, first_missing, bytes_of, texts_of, ends_from, capped, fitted, items_written, several_writing, several_ends, WritesSeveral}
 use Rattle.items.specs.Writing.{checked}
-use Rattle.items.proofs.Children.{args_append}
 use Rattle.items.proofs.Order.{run_ends}
 use Rattle.items.proofs.Written.{concat-append}
 use Rattle.soundness.specs.Outcome as outcome
 use Rattle.soundness.specs.Outcome.{Admits}
 use Rattle.soundness.proofs.Rows.{refused_as, admitted_as}
-use Rattle.writers.specs.Rows.{row_at, rows_in, Held, Last, RunEnd, Reach}
+use Rattle.writers.specs.Rows.{rows_in, Held, Last, RunEnd, Reach}
 use Rattle.writers.specs.Writes.{MemberScannable, Writable, ItemPut}
 use Rattle.writers.specs.Entry.{Admitted}
 use Rattle.writers.specs.Several.{is_item, IsItem, At, Asks, RowPut, Missing, Fit, VetsItems, Vets, Stand, SeveralPut, Fits, FinishesItems, WritesFit, Clears}
 use Rattle.std.specs.Prelude as prelude
-use Rattle.std.specs.Prelude.{Option as Maybe, None, Some, Result, Ok, Err, MatchOption, ⊤}
+use Rattle.std.specs.Prelude.{Option as Maybe, None, Some, Result, Ok, Err, MatchOption}
 use Rattle.std.specs.Option.{unwrap_or}
 use Rattle.std.specs.List.{AllWithin, HoldsAt}
+use Rattle.std.proofs.lemmas.Bool.{or_parts}
 use Rattle.slices.proofs.Runs.{and_both}
 use Rattle.faults.specs.Fault.{fault}
 use Rattle.faults.specs.declared.Fault.{Fault}
 use Rattle.writers.proofs.Scans.{last_all}
-use Rattle.writers.proofs.Texts.{shown_one}
-use Rattle.writers.proofs.Args.{shown_parts, own_annotations}
-use Rattle.writers.proofs.Members.{clear_args, length-rows, own_args}
-use Rattle.writers.proofs.Entry.{content_is, content_past, admitted_document, admitted_text, admitted_rows, admits}
+use Rattle.writers.proofs.Rows.{shown_one, give_annotations, give_args, own_given}
+use Rattle.writers.proofs.Entry.{content_is, content_past, there_item, admitted_document, admitted_text, admitted_rows, admits}
 
 -- ---- the run of a row
 
@@ -77,7 +75,9 @@ module _ (d x ws : List ℕ) (n i e : ℕ) (h : Held ws n) (g : Reach ws n i e) 
   reach_last j a b = record { onward = b; within = g.within; none = λ k c l z. g.none j k a b c l z }
 
   notes_same : (j : ℕ) → i ≤ j → j < e → annotations (suc j) (rows_shown d x ws n) ≡ annotations (suc j) (rows_shown d x ws e)
-  notes_same j a b = own_annotations d x ws n j e h (reach_last j a b) ∙ sym (own_annotations d x ws e j e fewer (last_all b))
+  notes_same j a b =
+      let notes = give_annotations (suc j) in
+      own_given notes d x ws n e h (reach_last j a b) ∙ sym (own_given notes d x ws e e fewer (last_all b))
 
   arg_same : (j : ℕ) (r : Row) → i ≤ j → j < e → arg_of (rows_shown d x ws n) j r ≡ arg_of (rows_shown d x ws e) j r
   arg_same j r a b = let s = notes_same j a b in λ q. record { name = (arg_of (rows_shown d x ws n) j r).name; type = (arg_of (rows_shown d x ws n) j r).type; direction = (arg_of (rows_shown d x ws n) j r).direction; annotations = s q }
@@ -85,27 +85,18 @@ module _ (d x ws : List ℕ) (n i e : ℕ) (h : Held ws n) (g : Reach ws n i e) 
   args_same : (p j a : ℕ) → i ≤ j → j + a ≤ e → args (rows_shown d x ws n) p j (rows_in d x ws j a) ≡ args (rows_shown d x ws e) p j (rows_in d x ws j a)
   args_same p j zero l m = refl
   args_same p j (suc a) l m =
-      let z = arg_same j (row_at d x ws j) l (omega (arith, m)) in
+      let z = arg_same j (shown_row d x ws j) l (omega (arith, m)) in
       let y = args_same p (suc j) a (omega (arith, l)) (omega (arith, m)) in
       ap (args (rows_shown d x ws n) p j) (shown_one d x ws j a)
-      ∙ ap (λ u. if (is_child kinds.arg p (row_at d x ws j).kind (row_at d x ws j).parent) (u ∷ args (rows_shown d x ws n) p (suc j) (rows_in d x ws (suc j) a)) (args (rows_shown d x ws n) p (suc j) (rows_in d x ws (suc j) a))) z
-      ∙ ap (λ u. if (is_child kinds.arg p (row_at d x ws j).kind (row_at d x ws j).parent) (arg_of (rows_shown d x ws e) j (row_at d x ws j) ∷ u) u) y
+      ∙ ap (λ u. if (is_child kinds.arg p (shown_row d x ws j).kind (shown_row d x ws j).parent) (u ∷ args (rows_shown d x ws n) p (suc j) (rows_in d x ws (suc j) a)) (args (rows_shown d x ws n) p (suc j) (rows_in d x ws (suc j) a))) z
+      ∙ ap (λ u. if (is_child kinds.arg p (shown_row d x ws j).kind (shown_row d x ws j).parent) (arg_of (rows_shown d x ws e) j (shown_row d x ws j) ∷ u) u) y
       ∙ ap (args (rows_shown d x ws e) p j) (sym (shown_one d x ws j a))
 
   all_args : args (rows_shown d x ws n) (suc i) 0 (rows_shown d x ws n) ≡ args (rows_shown d x ws e) (suc i) 0 (rows_shown d x ws e)
   all_args =
-      let t = rows_shown d x ws n in
-      let a = e - suc i in
-      let b = n - e in
-      let k : suc i + length (rows_in d x ws (suc i) a) ≡ e = omega (arith, length-rows d x ws (suc i) a, g.onward) in
-      own_args d x ws n i h (omega (arith, g.onward, g.within))
-      ∙ ap (args t (suc i) (suc i)) (shown_parts d x ws (suc i) a b e (n - suc i) (omega (arith, g.onward)) (omega (arith, g.onward, g.within)))
-      ∙ args_append t (suc i) (suc i) (rows_in d x ws (suc i) a) (rows_in d x ws e b)
-      ∙ ap (λ m. args t (suc i) (suc i) (rows_in d x ws (suc i) a) ++ args t (suc i) m (rows_in d x ws e b)) k
-      ∙ ap (◌++◌ (args t (suc i) (suc i) (rows_in d x ws (suc i) a))) (clear_args d x ws t (suc i) e b (record { none = λ m u v. g.none i m (omega arith) g.onward u (omega (arith, v, g.within)) }))
-      ∙ append-nil (args t (suc i) (suc i) (rows_in d x ws (suc i) a))
-      ∙ args_same (suc i) (suc i) a (omega arith) (omega (arith, g.onward))
-      ∙ sym (own_args d x ws e i fewer g.onward)
+      own_given (give_args (rows_shown d x ws n) (suc i)) d x ws n e h (reach_last i (omega arith) g.onward)
+      ∙ args_same (suc i) (suc i) (e - suc i) (omega arith) (omega (arith, g.onward))
+      ∙ sym (own_given (give_args (rows_shown d x ws e) (suc i)) d x ws e e fewer (last_all g.onward))
 
   item_same : (r : Row) → item_of (rows_shown d x ws n) i r ≡ item_of (rows_shown d x ws e) i r
   item_same r =
@@ -120,7 +111,7 @@ module _ (d x ws : List ℕ) (n i e : ℕ) (h : Held ws n) (g : Reach ws n i e) 
   pub content_within : content_at d x ws n i ≡ content_at d x ws e i
   content_within =
       content_is d x ws n i (omega (arith, g.onward, g.within))
-      ∙ item_same (row_at d x ws i)
+      ∙ item_same (shown_row d x ws i)
       ∙ sym (content_is d x ws e i g.onward)
 
 -- ---- items among the rows asked for
@@ -147,16 +138,6 @@ pub ruleset kinds_of = (item_past, item_kind, rules)
 
 -- a row has content exactly if it is an item
 module _ (d x ws : List ℕ) (n : ℕ) where
-  there_item : (t : List Row) (i : ℕ) (r : Row) → there (item_of t i r) ≡ among r.kind kinds.written
-  there_item t i r = go (eqb r.kind 3) (eqb r.kind 5) (eqb r.kind 6) (eqb r.kind 7)
-    where
-      go : (a b c d : Bool) → there (if a (some (method (member_of t i r))) (if b (some (signal (member_of t i r))) (if c (some (annotated (annotation_of r))) (if d (some (argument (arg_of t i r))) none)))) ≡ if a true (if b true (if c true (if d true false)))
-      go true b c d = refl
-      go false true c d = refl
-      go false false true d = refl
-      go false false false true = refl
-      go false false false false = refl
-
   pub there_is : (i : ℕ) → there (content_at d x ws n i) ≡ is_item ws n i
   unfolding is_item
   there_is i =
@@ -164,7 +145,7 @@ module _ (d x ws : List ℕ) (n : ℕ) where
       (λ h.
       rw (lt-ltb i n h)
       (ap there (content_is d x ws n i h)
-      ∙ there_item (rows_shown d x ws n) i (row_at d x ws i)
+      ∙ there_item (rows_shown d x ws n) i (shown_row d x ws i)
       ∙ ap (λ z. among z kinds.written) (get_or-drop (i * 16) ws 0 0)))
       (λ h. rw (le-ltb i n h) (ap there (content_past d x ws n i h)))
 
@@ -402,10 +383,6 @@ refuses {ends = ends} z s = record { says = s; of_ends = z.is ∙ clear_all ends
 
 pub ruleset refusing = (refuses, rules)
 
-either_false : (a b : Bool) → a || b ≡ false → (a ≡ false) × (b ≡ false)
-either_false true b e = let z : ◌≡◌ {A = ℕ} 0 1 = cc in absurd (omega arith)
-either_false false b e = (refl, e)
-
 over_capped : (room l : ℕ) → ltb room (capped l) || ltb 4294967295 (capped l) ≡ ltb room l || ltb 4294967295 l
 over_capped room l =
     below 4294967295 l
@@ -437,7 +414,7 @@ module _ {n count : ℕ} {out ends out' ends' : List ℕ} {b : Bool} (f : Fits n
   pub finish_within : not b ≡ false → Wiped count ends ends' → Wiped n out out' → FinishesItems count n out ends out' ends' (Ok n)
   finish_within e w z = record {
     left = λ ts s l.
-        let o = either_false (ltb (length out) (length (concat ts))) (ltb 4294967295 (length (concat ts))) (over_is f e ts s) in
+        let o = or_parts (ltb (length out) (length (concat ts))) (ltb 4294967295 (length (concat ts))) (over_is f e ts s) in
         let m : n ≡ length (concat ts) = s.counts ∙ rw o.1 in
         let small : n < 4294967296 = omega (arith, m, ltb-false 4294967295 (length (concat ts)) o.1) in
         let room : n ≤ length out = omega (arith, m, ltb-false (length out) (length (concat ts)) o.0) in

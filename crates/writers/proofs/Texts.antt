@@ -1,13 +1,12 @@
 -- Laws of putting what rows show.
 use Prim.Native.Nat.{ℕ, suc, ◌+◌, ◌-◌, ◌*◌, ◌≤◌, ◌<◌, ◌^◌}
 use native.Mathlib.Omega.{arith}
-use mathlib.Core.Path.{◌≡◌, refl, ap, sym, ◌∙◌}
-use mathlib.Core.List.{List, [], ◌∷◌, ◌++◌, map, append_assoc, append-nil}
-use mathlib.Core.Option.{some}
+use mathlib.Core.Path.{◌≡◌, ap, sym, ◌∙◌}
+use mathlib.Core.List.{List, [], ◌∷◌, ◌++◌, append_assoc, append-nil}
 use mathlib.Core.Bool.{Bool, true, false}
 use borrow.Author.Rules.{rules}
 use lib.ListN.{length, drop, length-append}
-use Rattle.slices.specs.Bytes.{if, bytes}
+use Rattle.slices.specs.Bytes.{bytes}
 use Rattle.tables.specs.Triple.{shown}
 use Rattle.tables.specs.declared.Triple.{Triple}
 use Rattle.tables.proofs.Triples.{short_shown}
@@ -16,13 +15,13 @@ use Rattle.answers.proofs.Putting.{puts_none, puts_then, puts_as}
 use Rattle.references.specs.Escape.{escape}
 use Rattle.references.proofs.Escapes.{escape_most}
 use Rattle.document.specs.Kinds as kinds
-use Rattle.items.specs.Words.{triple_at, absent, viewed, word_at, Word, TripleIs, is_child}
-use Rattle.items.specs.Written.{Annotation, Pair, pairs, optional, tag, concat, written_annotation}
-use Rattle.items.specs.Content.{annotation_of, annotations}
+use Rattle.items.specs.Words.{triple_at, absent, word_at, Word, TripleIs}
+use Rattle.items.specs.Written.{Pair, pairs, optional, tag, written_annotation}
 use Rattle.items.proofs.Written.{pairs-append}
 use Rattle.items.proofs.Words.{present_shown}
-use Rattle.writers.specs.Rows.{Child, row_at, rows_in, RowHeld}
-use Rattle.writers.proofs.Scans.{rows_one}
+use Rattle.writers.specs.Rows.{Child, RowHeld}
+use Rattle.writers.proofs.Rows.{give_annotations, write_one, write_none}
+use Rattle.writers.proofs.Appending.{Appending, append_begins, append_ends, append_more}
 use Rattle.writers.specs.Writes.{ShownAt, ShownPut, annotation_at, AnnotationPut, if_annotation, IfAnnotationPut, Scannable, annotations_in, AnnotationsPut, name_at, type_at, direction_at, PairsPut, DirectionPut, ArgTagPut}
 
 module _ {d x ws : List ℕ} {i k : ℕ} where
@@ -56,87 +55,40 @@ annotation_put {d} {x} {ws} {i = i} p q s =
       most = omega (arith, p.most, q.most, s.counts);
     }
 
--- one row shown, and those after it
-pub shown_one : (d x ws : List ℕ) (k n : ℕ) → rows_in d x ws k (suc n) ≡ row_at d x ws k ∷ rows_in d x ws (suc k) n
-shown_one d x ws k n = ap (map (viewed d x)) (rows_one ws k n)
-
-module _ {d x ws t t' : List ℕ} {p i n r : ℕ} {b : Bool} (c : Child ws 6 p i b) where
+module _ {d x ws t t' : List ℕ} {p i n r : ℕ} {b : Bool} (c : Child ws kinds.annotation p i b) where
   pub annotation_is : b ≡ true → AnnotationPut d x ws i n t t' r → IfAnnotationPut d x ws p i n t t' r
   unfolding if_annotation
   annotation_is f q = record { puts = rw (sym c.is ∙ f) q.puts; most = q.most }
 
-pub annotation_not : {d x ws t : List ℕ} {p i n : ℕ} {b : Bool} → Child ws 6 p i b → b ≡ false → IfAnnotationPut d x ws p i n t t n
+pub annotation_not : {d x ws t : List ℕ} {p i n : ℕ} {b : Bool} → Child ws kinds.annotation p i b → b ≡ false → IfAnnotationPut d x ws p i n t t n
 unfolding if_annotation
 annotation_not c f = record { puts = rw (sym c.is ∙ f) puts_none; most = omega arith }
 
-noted_or : (b : Bool) (a : Annotation) (l : List Annotation) → concat (map written_annotation (if b (a ∷ l) l)) ≡ if b (written_annotation a) [] ++ concat (map written_annotation l)
-noted_or true a l = refl
-noted_or false a l = refl
+-- a loop over the rows from one on up to another, that puts annotations
+module _ {ws : List ℕ} {from to n : ℕ} (w : Scannable ws from to n) where
+  module _ {k : ℕ} (h : k < to) where
+    pub note_held : RowHeld ws k
+    note_held = record { few = omega (arith, h, w.few); held = omega (arith, h, w.held) }
 
--- the annotations of a row among the rows from row k on
-one_annotation : (d x ws : List ℕ) (p k to : ℕ) → k < to → annotations_in d x ws p k to ≡ if_annotation d x ws p k ++ annotations_in d x ws p (suc k) to
-unfolding if_annotation annotation_at annotations_in
-one_annotation d x ws p k to h =
-    let e : to - k ≡ suc (to - suc k) = omega (arith, h) in
-    ap (λ m. concat (map written_annotation (annotations p (rows_in d x ws k m)))) e
-    ∙ ap (λ l. concat (map written_annotation (annotations p l))) (shown_one d x ws k (to - suc k))
-    ∙ noted_or (is_child kinds.annotation p (row_at d x ws k).kind (row_at d x ws k).parent) (annotation_of (row_at d x ws k)) (annotations p (rows_in d x ws (suc k) (to - suc k)))
+    pub note_room : {rest : ℕ → List ℕ} {t₀ t : List ℕ} {m : ℕ} → Appending rest 16777216 from to n t₀ t k m → m + 16777216 < 2 ^ 62
+    note_room g = omega (arith, h, g.most, g.onward, w.room)
 
-no_annotation : (d x ws : List ℕ) (p k to : ℕ) → to - k ≡ 0 → annotations_in d x ws p k to ≡ []
-unfolding annotations_in
-no_annotation d x ws p k to e = ap (λ j. concat (map written_annotation (annotations p (rows_in d x ws k j)))) e
-
--- a loop over the rows: what is put and what is left are the annotations asked for
-pub record Annotating (d x ws : List ℕ) (p from to n : ℕ) (t₀ t : List ℕ) (k m : ℕ) : Type 0 where
-  pub done : List ℕ
-  pub left : done ++ annotations_in d x ws p k to ≡ annotations_in d x ws p from to
-  pub puts : Puts done n t₀ t m
-  pub most : m ≤ n + (k - from) * 16777216
-  pub onward : from ≤ k
-  pub within : k ≤ to
-  pub same : length t ≡ length t₀
-
-pub note_begins : {d x ws t : List ℕ} {p from to n : ℕ} → Scannable ws from to n → Annotating d x ws p from to n t t from n
-note_begins g = record { done = []; left = refl; puts = puts_none; most = omega arith; onward = omega arith; within = g.onward; same = refl }
-
-module _ {d x ws t₀ t : List ℕ} {p from to n k m : ℕ} (g : Annotating d x ws p from to n t₀ t k m) where
+module _ {d x ws t₀ t : List ℕ} {p from to n k m : ℕ} (g : Appending (λ j. annotations_in d x ws p j to) 16777216 from to n t₀ t k m) where
   pub note_ends : to ≤ k → AnnotationsPut d x ws p from to n t₀ t m
-  note_ends h =
-      let e : to - k ≡ 0 = omega (arith, h) in
-      let z : annotations_in d x ws p k to ≡ [] = no_annotation d x ws p k to e in
-      let f : k ≡ to = omega (arith, h, g.within) in
-      record {
-        puts = puts_as (sym (append-nil g.done) ∙ ap (◌++◌ g.done) (sym z) ∙ g.left) g.puts;
-        most = rw (sym f) g.most;
-      }
+  unfolding annotations_in
+  note_ends h = record {
+    puts = append_ends g (write_none (give_annotations p) written_annotation d x ws k to h);
+    most = omega (arith, h, g.most, g.within);
+  }
 
-  module _ (h : k < to) where
-    pub note_more : {t' : List ℕ} {r : ℕ} → length t' ≡ length t → IfAnnotationPut d x ws p k m t t' r → Annotating d x ws p from to n t₀ t' (k + 1) r
-    note_more s q =
-        let e : suc k ≡ k + 1 = omega arith in
-        let one = if_annotation d x ws p k in
-        record {
-          done = g.done ++ one;
-          left =
-              ap (λ j. (g.done ++ one) ++ annotations_in d x ws p j to) (sym e)
-              ∙ append_assoc g.done one (annotations_in d x ws p (suc k) to)
-              ∙ ap (◌++◌ g.done) (sym (one_annotation d x ws p k to h))
-              ∙ g.left;
-          puts = puts_then g.puts q.puts;
-          most = omega (arith, g.most, g.onward, q.most);
-          onward = omega (arith, g.onward);
-          within = omega (arith, h);
-          same = s ∙ g.same;
-        }
-
-    module _ (w : Scannable ws from to n) where
-      pub note_held : RowHeld ws k
-      note_held = record { few = omega (arith, h, w.few); held = omega (arith, h, w.held) }
-
-      pub note_room : m + 16777216 < 2 ^ 62
-      note_room = omega (arith, h, g.most, g.onward, w.room)
+  pub note_more : {t' : List ℕ} {r : ℕ} → k < to → length t' ≡ length t → IfAnnotationPut d x ws p k m t t' r → Appending (λ j. annotations_in d x ws p j to) 16777216 from to n t₀ t' (k + 1) r
+  unfolding if_annotation annotation_at annotations_in
+  note_more h s q = append_more g h (write_one (give_annotations p) written_annotation d x ws k to h) s q.puts q.most
 
 -- the attributes of an arg
+attribute_ends : (before s : List ℕ) → (before ++ s) ++ bytes "\"" ≡ before ++ ((s ++ 34 ∷ []) ++ [])
+attribute_ends before s = simp (append_assoc, append-nil)
+
 pub arg_unnamed : (d x : List ℕ) {ws t : List ℕ} {i n : ℕ} {y : Triple} {b : Bool} → TripleIs ws i 2 y → b ≡ absent y → b ≡ true → PairsPut (optional (name_at d x ws i)) n t t n
 unfolding name_at
 arg_unnamed d x e a f = record { puts = rw (ap absent (sym e.is) ∙ sym a ∙ f) puts_none; most = omega arith }
@@ -145,22 +97,16 @@ module _ {d x ws : List ℕ} {i n : ℕ} where
   pub arg_named : {t t₁ t₂ : List ℕ} {m r : ℕ} {y : Triple} {b : Bool} → TripleIs ws i 2 y → b ≡ absent y → b ≡ false → ShownPut d x ws i 2 (bytes " name=\"") n t t₁ m → Puts (bytes "\"") m t₁ t₂ r → PairsPut (optional (name_at d x ws i)) n t t₂ r
   unfolding name_at
   arg_named e a f p q = record {
-    puts = rw (ap absent (sym e.is) ∙ sym a ∙ f) (puts_as (name_bytes (shown d x (triple_at 2 (drop (i * 16) ws)))) (puts_then p.puts q));
+    puts = rw (ap absent (sym e.is) ∙ sym a ∙ f) (puts_as (attribute_ends (bytes " name=\"") (escape (shown d x (triple_at 2 (drop (i * 16) ws))))) (puts_then p.puts q));
     most = omega (arith, p.most, q.counts);
   }
-    where
-      name_bytes : (s : List ℕ) → (bytes " name=\"" ++ escape s) ++ bytes "\"" ≡ pairs (optional (some s))
-      name_bytes s = ap (λ l. bytes " name=\"" ++ l) (sym (append-nil (escape s ++ 34 ∷ [])))
 
   pub arg_typed : {t t₁ t₂ : List ℕ} {m r : ℕ} → ShownPut d x ws i 5 (bytes " type=\"") n t t₁ m → Puts (bytes "\"") m t₁ t₂ r → PairsPut (type_at d x ws i) n t t₂ r
   unfolding type_at
   arg_typed p q = record {
-    puts = puts_as (type_bytes (shown d x (triple_at 5 (drop (i * 16) ws)))) (puts_then p.puts q);
+    puts = puts_as (attribute_ends (bytes " type=\"") (escape (shown d x (triple_at 5 (drop (i * 16) ws))))) (puts_then p.puts q);
     most = omega (arith, p.most, q.counts);
   }
-    where
-      type_bytes : (s : List ℕ) → (bytes " type=\"" ++ escape s) ++ bytes "\"" ≡ pairs (record { key = bytes "type"; value = s } ∷ [])
-      type_bytes s = ap (λ l. bytes " type=\"" ++ l) (sym (append-nil (escape s ++ 34 ∷ [])))
 
 module _ {ws : List ℕ} {i n w : ℕ} (e : Word ws i 14 w) where
   pub direction_none : {t : List ℕ} → w ≡ 0 → DirectionPut ws i n t t n
@@ -189,6 +135,6 @@ arg_tag {d} {x} {ws} {i = i} p q s w = record {
 
 pub ruleset texts = (shown_is, shown_put, annotation_put, annotation_is, annotation_not, rules)
 
-pub ruleset notes = (note_begins, note_ends, note_more, note_held, note_room, rules)
+pub ruleset notes = (append_begins, note_ends, note_held, note_room, rules)
 
 pub ruleset tags = (arg_unnamed, arg_named, arg_typed, direction_none, direction_inward, direction_outward, arg_tag, rules)

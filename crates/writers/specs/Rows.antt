@@ -2,13 +2,9 @@
 use Rattle.std.specs.Prelude.{ℕ, suc, ◌+◌, ◌-◌, ◌*◌, ◌≤◌, ◌<◌, ◌≡◌, List, [], ◌∷◌, Bool, true, false, not, ◌&&◌, ◌||◌, eqb, ltb, length, drop}
 use Rattle.slices.specs.Bytes.{if}
 use Rattle.document.specs.Kinds as kinds
-use Rattle.items.specs.Words.{RowWords, word_at, row_of, rows_of, is_child, viewed, rows_shown}
+use Rattle.items.specs.Words.{RowWords, word_at, row_of, rows_of, is_child, rows_shown}
 use Rattle.items.specs.Content.{Row}
 use Rattle.items.specs.Order.{InOrder}
-
--- row i, with the bytes that it shows
-abbrev pub row_at : List ℕ → List ℕ → List ℕ → ℕ → Row
-row_at d x ws i = viewed d x (row_of (drop (i * 16) ws))
 
 -- the k rows from row i on
 abbrev pub words_in : List ℕ → ℕ → ℕ → List RowWords

@@ -8,10 +8,10 @@ use Rattle.answers.specs.Puts.{Puts}
 use Rattle.references.specs.Escape.{escape}
 use Rattle.document.specs.Kinds as kinds
 use Rattle.document.specs.Elements.{among}
-use Rattle.items.specs.Words.{triple_at, shown_by, rows_shown, word_at, is_child}
+use Rattle.items.specs.Words.{triple_at, shown_by, rows_shown, word_at, is_child, shown_row}
 use Rattle.items.specs.Written.{Pair, pairs, optional, directions, closing_tag, concat, written_annotation, written_arg, written_member, Item, written}
 use Rattle.items.specs.Content.{direction, annotation_of, annotations, arg_of, args, member_of, content_at}
-use Rattle.writers.specs.Rows.{row_at, rows_in, Held, RowHeld, Last, Orders}
+use Rattle.writers.specs.Rows.{rows_in, Held, RowHeld, Last, Orders}
 
 -- what the triple from word k on of row i shows
 pub record ShownAt (d x ws : List ℕ) (i k : ℕ) (s : List ℕ) : Type 0 where
@@ -31,7 +31,7 @@ pub record ShownPut (d x ws : List ℕ) (i k : ℕ) (before : List ℕ) (n : ℕ
 
 -- row i as an annotation
 unfoldable pub annotation_at : List ℕ → List ℕ → List ℕ → ℕ → List ℕ
-annotation_at d x ws i = written_annotation (annotation_of (row_at d x ws i))
+annotation_at d x ws i = written_annotation (annotation_of (shown_row d x ws i))
 
 pub record AnnotationPut (d x ws : List ℕ) (i n : ℕ) (t t' : List ℕ) (r : ℕ) : Type 0 where
   pub puts : Puts (annotation_at d x ws i) n t t' r
@@ -39,7 +39,7 @@ pub record AnnotationPut (d x ws : List ℕ) (i n : ℕ) (t t' : List ℕ) (r : 
 
 -- the same, if it is one of row p less one
 unfoldable pub if_annotation : List ℕ → List ℕ → List ℕ → ℕ → ℕ → List ℕ
-if_annotation d x ws p i = if (is_child kinds.annotation p (row_at d x ws i).kind (row_at d x ws i).parent) (annotation_at d x ws i) []
+if_annotation d x ws p i = if (is_child kinds.annotation p (shown_row d x ws i).kind (shown_row d x ws i).parent) (annotation_at d x ws i) []
 
 pub record IfAnnotationPut (d x ws : List ℕ) (p i n : ℕ) (t t' : List ℕ) (r : ℕ) : Type 0 where
   pub puts : Puts (if_annotation d x ws p i) n t t' r
@@ -72,10 +72,6 @@ type_at d x ws i = record { key = bytes "type"; value = shown d x (triple_at 5 (
 unfoldable pub direction_at : List ℕ → ℕ → List Pair
 direction_at ws i = directions (direction (word_at ws i 14))
 
--- there is room to count so many more
-pub record CountFits (n more : ℕ) : Type 0 where
-  pub fits : n + more < 2 ^ 62
-
 -- attributes put
 pub record PairsPut (ps : List Pair) (n : ℕ) (t t' : List ℕ) (r : ℕ) : Type 0 where
   pub puts : Puts (pairs ps) n t t' r
@@ -92,12 +88,12 @@ pub record ArgTagPut (d x ws : List ℕ) (i n : ℕ) (t t' : List ℕ) (r : ℕ)
 
 -- row i as an arg of the first m rows, if none from row `to` on is a child of it
 pub record ArgPut (d x ws : List ℕ) (i to n : ℕ) (t t' : List ℕ) (r : ℕ) : Type 0 where
-  pub puts : (m : ℕ) → Held ws m → Last ws m i to → Puts (written_arg (arg_of (rows_shown d x ws m) i (row_at d x ws i))) n t t' r
+  pub puts : (m : ℕ) → Held ws m → Last ws m i to → Puts (written_arg (arg_of (rows_shown d x ws m) i (shown_row d x ws i))) n t t' r
   pub most : r ≤ n + (to - i) * 16777216
 
 -- row i of the first m rows as an arg, if it is one of row p less one
 unfoldable pub if_arg : List ℕ → List ℕ → List ℕ → ℕ → ℕ → ℕ → List ℕ
-if_arg d x ws m p i = if (is_child kinds.arg p (row_at d x ws i).kind (row_at d x ws i).parent) (written_arg (arg_of (rows_shown d x ws m) i (row_at d x ws i))) []
+if_arg d x ws m p i = if (is_child kinds.arg p (shown_row d x ws i).kind (shown_row d x ws i).parent) (written_arg (arg_of (rows_shown d x ws m) i (shown_row d x ws i))) []
 
 pub record IfArgPut (d x ws : List ℕ) (m p i n : ℕ) (t t' : List ℕ) (r : ℕ) : Type 0 where
   pub puts : Puts (if_arg d x ws m p i) n t t' r
@@ -151,7 +147,7 @@ pub record ChildrenPut (d x ws : List ℕ) (m i n : ℕ) (t t' : List ℕ) (r : 
   pub most : r ≤ n + 2305843009213693952
 
 pub record MemberPut (d x ws : List ℕ) (m i kind n : ℕ) (t t' : List ℕ) (r : ℕ) : Type 0 where
-  pub puts : Puts (written_member (tag_of kind) (member_of (rows_shown d x ws m) i (row_at d x ws i))) n t t' r
+  pub puts : Puts (written_member (tag_of kind) (member_of (rows_shown d x ws m) i (shown_row d x ws i))) n t t' r
 
 -- whether rows of a kind are written
 pub record Writable (kind : ℕ) (r : Bool) : Type 0 where

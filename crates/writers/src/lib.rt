@@ -6,8 +6,9 @@ ghost use Rattle.std.specs.Prelude.{◌+◌, ◌*◌, ◌≤◌, ◌<◌, ◌^�
 ghost use Rattle.items.specs.Words.{Word};
 ghost use Rattle.items.specs.Written.{optional};
 ghost use Rattle.items.specs.Writing.{Writes};
+ghost use Rattle.writer.specs.Counts.{CountFits};
 ghost use Rattle.writers.specs.Rows.{RowHeld};
-ghost use Rattle.writers.specs.Writes.{ShownAt, Puttable, ShownPut, AnnotationPut, IfAnnotationPut, Scannable, AnnotationsPut, PairsPut, name_at, type_at, DirectionPut, ArgTagPut, ArgPut, ArgsScannable, Turn, IfArgPut, args_in, NotesScannable, annotations_in, MemberTagPut, MemberEndPut, MemberScannable, ChildrenPut, MemberPut, Writable, ItemPut, CountFits, KindPut};
+ghost use Rattle.writers.specs.Writes.{ShownAt, Puttable, ShownPut, AnnotationPut, IfAnnotationPut, Scannable, AnnotationsPut, PairsPut, name_at, type_at, DirectionPut, ArgTagPut, ArgPut, ArgsScannable, Turn, IfArgPut, args_in, NotesScannable, annotations_in, MemberTagPut, MemberEndPut, MemberScannable, ChildrenPut, MemberPut, Writable, ItemPut, KindPut};
 ghost use Rattle.items.specs.Several.{WritesSeveral};
 ghost use Rattle.soundness.specs.Outcome as outcome;
 ghost use Rattle.writers.specs.Rows.{Held};
@@ -108,8 +109,9 @@ fn put_annotations(
 fn put_arg_name(source: &Source, i: usize, out: &mut [u8], n: usize) -> usize
     requires row { RowHeld source.now.rows.now i }
     requires room { CountFits n 8388608 }
-    ensures { PairsPut (optional (name_at source.now.document.now source.now.text.now source.now.rows.now i)) n
-        out.old out.new result }
+    ensures { PairsPut
+        (optional (name_at source.now.document.now source.now.text.now source.now.rows.now i))
+        n out.old out.new result }
 {
     if items::is_absent(items::triple(source.rows, i, 2)) {
         return n;
@@ -222,7 +224,8 @@ fn put_args(
 fn put_notes(source: &Source, count: usize, p: usize, out: &mut [u8], n: usize) -> usize
     requires scan { NotesScannable source.now.rows.now count p }
     requires room { CountFits n 2305843009213693952 }
-    ensures { KindPut (annotations_in source.now.document.now source.now.text.now source.now.rows.now p p count)
+    ensures { KindPut
+        (annotations_in source.now.document.now source.now.text.now source.now.rows.now p p count)
         n out.old out.new result }
 {
     put_annotations(source, p, p, count, out, n)

@@ -4,4 +4,4 @@ use Rattle.profile.proofs.NoChars.{free_blocks, clear_not}
 use Rattle.profile.proofs.blocks.Goals as goal
 
 pub returns : goal.returns
-returns c = free_blocks c.blocks-2.ensures (λ at h p. search (clear_not, rules))
+returns c = free_blocks c.blocks-2.ensures.passed (λ at h p. search (clear_not, rules))

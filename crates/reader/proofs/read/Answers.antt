@@ -3,10 +3,10 @@ use Rattle.reader.proofs.Files.{files, reads_unmarked, reads_decoded}
 use Rattle.reader.proofs.read.Goals as goal
 
 pub returns-in-Ok-None : goal.returns-in-Ok-None
-returns-in-Ok-None c = reads_unmarked c.parse_with_warnings-verdict.ensures c.decode.ensures.left c.decode.ensures.answer (rw c.in-Ok-None.field-0-is at c.in-Ok-None.is)
+returns-in-Ok-None c = reads_unmarked c.decode.ensures c.parse_with_warnings-verdict.ensures (rw c.in-Ok-None.field-0-is at c.in-Ok-None.is)
 
 pub returns-in-Ok-Some : goal.returns-in-Ok-Some
-returns-in-Ok-Some c = reads_decoded c.parse_with_warnings-verdict-in-Ok-Some.ensures c.decode.ensures.left c.decode.ensures.answer (rw c.in-Ok-Some.field-0-is at c.in-Ok-Some.is)
+returns-in-Ok-Some c = reads_decoded c.decode.ensures c.parse_with_warnings-verdict-in-Ok-Some.ensures (rw c.in-Ok-Some.field-0-is at c.in-Ok-Some.is)
 
 pub returns-in-Err : goal.returns-in-Err
 returns-in-Err c = search files

@@ -4,4 +4,4 @@ use Rattle.slices.proofs.Words.{agrees_blocks, twin}
 use Rattle.slices.proofs.agreed.Goals as goal
 
 pub returns : goal.returns
-returns c = agrees_blocks c.blocks-2.ensures (λ at h p. search (twin, rules))
+returns c = agrees_blocks c.blocks-2.ensures.passed (λ at h p. search (twin, rules))

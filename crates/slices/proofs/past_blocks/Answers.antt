@@ -4,4 +4,4 @@ use Rattle.slices.proofs.Skips.{without_blocks}
 use Rattle.slices.proofs.past_blocks.Goals as goal
 
 pub returns : goal.returns
-returns c = without_blocks c.blocks-2.ensures (λ at h p. search rules)
+returns c = without_blocks c.blocks-2.ensures.passed (λ at h p. search rules)
