@@ -1085,7 +1085,7 @@ static void not_ordered(const struct reading *r, uint64_t claimed, size_t work, 
 
 static void ordered(void)
 {
-    /* rows 1, 3 and 4 are the definitions; a member bears a name of no row */
+    /* rows 1, 3 and 4 are the definitions; the tp type of one member is defined by no row */
     struct reading r = read_all("<node>" STRUCT("A", "B[]") SIMPLE("B") STRUCT("C", "X") "</node>");
     size_t work;
     CHECK(answers(&r, INTROSPECTION_ACCEPTED, 0) && r.answer[INTROSPECTION_ANSWER_ROWS] == 6);

@@ -21,20 +21,20 @@ module _ (q : ℕ → ℕ → Bool) where
   abbrev All : ℕ → Type 0
   All p = all (q p) (held_by p) ≡ true
 
-  held_all : All 1 → All 2 → All 3 → All 4 → All 5 → All 7 → All 9 → All 11 → All 13 → (p c : ℕ) → may_hold p c ≡ true → q p c ≡ true
+  held_all : All kinds.node → All kinds.interface → All kinds.method → All kinds.property → All kinds.signal → All kinds.arg → All kinds.enum → All kinds.struct → All kinds.mapping → (p c : ℕ) → may_hold p c ≡ true → q p c ≡ true
   unfolding may_hold
   held_all h i j k l m n o x p c e = among_all (q p) c (held_by p) every e
     where
       every : All p
       every =
-          by_byte All p 1 h
-          (λ a. by_byte All p 2 i
-          (λ b. by_byte All p 3 j
-          (λ c. by_byte All p 4 k
-          (λ d. by_byte All p 5 l
-          (λ e. by_byte All p 7 m
-          (λ f. by_byte All p 9 n
-          (λ g. by_byte All p 11 o (λ h. by_byte All p 13 x (λ i. rw (a, b, c, d, e, f, g, h, i))))))))))
+          by_byte All p kinds.node h
+          (λ a. by_byte All p kinds.interface i
+          (λ b. by_byte All p kinds.method j
+          (λ c. by_byte All p kinds.property k
+          (λ d. by_byte All p kinds.signal l
+          (λ e. by_byte All p kinds.arg m
+          (λ f. by_byte All p kinds.enum n
+          (λ g. by_byte All p kinds.struct o (λ h. by_byte All p kinds.mapping x (λ i. rw (a, b, c, d, e, f, g, h, i))))))))))
 
 pub held_kind : (p c : ℕ) → may_hold p c ≡ true → among c every_kind ≡ true
 held_kind = held_all (λ p c. among c every_kind) refl refl refl refl refl refl refl refl refl

@@ -11,7 +11,7 @@ use lib.Dec.{eqb}
 use lib.ListN.{length, take, length-append}
 use lib.Seq.{length-take-le, take-append_seam}
 use Rattle.slices.specs.Bytes.{if, bytes}
-use Rattle.slices.proofs.Runs.{by_byte}
+use Rattle.slices.proofs.Runs.{if_same, by_byte}
 use Rattle.utf8.proofs.Sequences.{below}
 use Rattle.names.specs.Signature.{basic_signature}
 use Rattle.document.specs.Kinds as kinds
@@ -277,10 +277,13 @@ alike_more b rs r l f = record {
 }
 
 -- a struct and a mapping hold members alone
-members_only : {X : Type 0} (j k : ℕ) → among j (kinds.struct ∷ kinds.mapping ∷ []) ≡ true → may_hold j k ≡ true → eqb k kinds.member ≡ false → X
+pub only_members : (j k : ℕ) → among j (kinds.struct ∷ kinds.mapping ∷ []) ≡ true → may_hold j k ≡ true → k ≡ kinds.member
 unfolding may_hold
-members_only {X} j k e b o =
-    among_each (λ j. may_hold j k ≡ true → X) j (kinds.struct ∷ kinds.mapping ∷ []) e ((λ m. never (rw o at m)), ((λ m. never (rw o at m)), tt)) b
+only_members j k e =
+    among_each (λ j. may_hold j k ≡ true → k ≡ kinds.member) j (kinds.struct ∷ kinds.mapping ∷ []) e (is, (is, tt))
+  where
+    is : if (eqb k kinds.member) true false ≡ true → k ≡ kinds.member
+    is m = eqb-true k kinds.member (sym (if_same (eqb k kinds.member)) ∙ m)
 
 module _ (k : ℕ) (t : Tag) (r : Row Shown) (fs : List Frame) (rs : List (Row Shown)) (b : Begins (length rs) k fs) (kind : r.kind ≡ k) (h : Holds fs rs) where
   abbrev n : ℕ
@@ -314,7 +317,7 @@ module _ (k : ℕ) (t : Tag) (r : Row Shown) (fs : List Frame) (rs : List (Row S
     part_tallies : (gs : List Frame) → Begins n k gs → among k parts ≡ true → Tallies n rs gs → Tallies n rs (noted_in k t gs)
     part_tallies [] b e g = tt
     part_tallies (element c m q ∷ gs) b e g = g
-    part_tallies (definition d ∷ gs) b e g = (g.0, g.1, (λ f. members_only d.kind k f b.1 other), g.3, g.4)
+    part_tallies (definition d ∷ gs) b e g = (g.0, g.1, (λ f. absurd (eqb-false k kinds.member other (only_members d.kind k f b.1))), g.3, g.4)
     part_tallies (passing p ns ∷ gs) b e g = g
 
     noted_tallies : Tallies n rs (noted k t fs)

@@ -60,14 +60,14 @@ module _ {lent out rs : List ℕ} {a : Result ℕ Fault} (h : rs ≡ answer_word
   -- of a message
   pub message_made : (document ws : List ℕ) → Makes (message_of document (told_by ws)) lent out a → MakesText (message_by document ws) lent out rs
   unfolding message_by
-  message_made document ws s = record { words = h ∙ ap answer_words s.answer; of_output = s.left }
+  message_made document ws s = text_made (message_by document ws) (record { answer = s.answer; left = s.left })
 
   pub warning_made :
       (document ws : List ℕ) →
       Makes (warning_message_of document (get_or ws 0 0) (get_or ws 2 0) (get_or ws 3 0)) lent out a →
       MakesText (warning_message_by document ws) lent out rs
   unfolding warning_message_by
-  warning_made document ws s = record { words = h ∙ ap answer_words s.answer; of_output = s.left }
+  warning_made document ws s = text_made (warning_message_by document ws) (record { answer = s.answer; left = s.left })
 
   -- of several rows
   pub items_made :

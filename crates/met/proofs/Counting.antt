@@ -11,10 +11,10 @@ use Rattle.document.specs.Kinds as kinds
 use Rattle.document.specs.Tags.{Shown}
 use Rattle.document.specs.Tokens.{Tag, start, close}
 use Rattle.document.specs.Elements.{among}
-use Rattle.document.specs.Reading.{captures, Frame, element, definition, passing, State, begun, reading, accepted, refused, noted_in, noted, frame_of, step}
+use Rattle.document.specs.Reading.{captures, Frame, element, definition, passing, State, begun, reading, accepted, refused, noted, frame_of, step}
 use Rattle.document.specs.Outcome.{whole}
 use Rattle.document.proofs.Tests.{either}
-use Rattle.document.proofs.Steps.{Known, Kept, Closes, Shuts, Starts, step_kept}
+use Rattle.document.proofs.Steps.{noted_keeps, Known, Kept, Closes, Shuts, Starts, step_kept}
 use Rattle.met.specs.Met.{goes_on}
 use Rattle.met.specs.Open.{opens_in, Open, Counted, Stands}
 
@@ -40,13 +40,7 @@ known_counted n (accepted u) h = h
 known_counted n (refused x) h = h
 
 noted_open : (n k : ℕ) (t : Tag) (fs : List Frame) → Open n fs → Open n (noted k t fs)
-noted_open n k t fs h = either (Open n) (among k kinds.parts) (λ e. go fs h) (λ e. h)
-  where
-    go : (fs : List Frame) → Open n fs → Open n (noted_in k t fs)
-    go [] h = h
-    go (element c m r ∷ fs) h = h
-    go (definition d ∷ fs) h = h
-    go (passing p ns ∷ fs) h = h
+noted_open n k t = noted_keeps (Open n) k t (λ d fs h. h)
 
 frame_one : (k : ℕ) (t : Tag) (i : ℕ) → opens_in (frame_of k t i) ≡ 1
 frame_one k t i = either (λ (f : Frame). opens_in f ≡ 1) (among k kinds.definitions) (λ e. refl) (λ e. refl)

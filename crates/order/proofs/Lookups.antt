@@ -158,7 +158,7 @@ module _ (t : List Row) (i j : ℕ) where
   unfolding uses targets
   uses_targets = members_use t
 
--- ---- names of no row
+-- ---- names that no row has
 
 -- a row defines a name exactly when looking it up finds one
 named_found : (s : List ℕ) (i : ℕ) (rs : List Row) → any_row (λ r. defines r && same s (present r.name)) rs ≡ not (empty (listed (first_named s i rs)))

@@ -144,8 +144,8 @@ pub content_back : (c : Item) (b m : List Row) (p : ℕ) → p ≤ length b → 
 unfolding content
 content_back (annotated a) b m p o h k = rw (drop-append_seam b)
 content_back (argument a) b m p o h k = rw (drop-append_seam b) (ap (λ x. some (argument x)) (arg_back b m p a (b ++ (arg_rows p (length b) a ++ m)) (length b) refl refl h k))
-content_back (method c) b m p o h k = rw (drop-append_seam b) (ap (λ x. some (method x)) (member_back 3 refl refl b m p c (b ++ (member_rows 3 p (length b) c ++ m)) (length b) refl o refl h k))
-content_back (signal c) b m p o h k = rw (drop-append_seam b) (ap (λ x. some (signal x)) (member_back 5 refl refl b m p c (b ++ (member_rows 5 p (length b) c ++ m)) (length b) refl o refl h k))
+content_back (method c) b m p o h k = rw (drop-append_seam b) (ap (λ x. some (method x)) (member_back kinds.method refl refl b m p c (b ++ (member_rows kinds.method p (length b) c ++ m)) (length b) refl o refl h k))
+content_back (signal c) b m p o h k = rw (drop-append_seam b) (ap (λ x. some (signal x)) (member_back kinds.signal refl refl b m p c (b ++ (member_rows kinds.signal p (length b) c ++ m)) (length b) refl o refl h k))
 
 -- so the table of the document that holds an item tells it
 pub table_back : (n : List ℕ) (c : Item) → content (node_row ∷ interface_row n ∷ rows 2 2 c) 2 ≡ some c

@@ -124,8 +124,8 @@ module _ (k : ℕ) (n : Name) (i : ℕ) (fs : List Frame) (ws : List Warning) wh
       enters doc at false = unfold step kind_of begins opens_as in rw (h, e)
 
   member_element : (c : ℕ) → may_hold c kinds.arg ≡ true → may_hold c kinds.annotation ≡ true → (t : List ℕ) (m : Member) → Signed m.args → (rs : List Row) → Opens c t (named m.name ∷ []) (inside (element k n i ∷ fs) rs ws) (marked (bare_row c (suc i) (some m.name) none 0)) (element k n i ∷ fs) rs ws → Element (written_member t m) (inside (element k n i ∷ fs) rs ws) (inside (element k n i ∷ fs) (rs ++ map marked (member_rows c (suc i) (length rs) m)) ws)
-  member_element c h7 h6 t m e rs o =
-      rw (snoc_rows) at (an_element o (map written_arg m.args ++ map written_annotation m.annotations) (λ at. arguments c h7 (name_from at t) (length rs) (element k n i ∷ fs) ws h6 m.args m.annotations e (rs ++ own ∷ [])))
+  member_element c args notes t m e rs o =
+      rw (snoc_rows) at (an_element o (map written_arg m.args ++ map written_annotation m.annotations) (λ at. arguments c args (name_from at t) (length rs) (element k n i ∷ fs) ws notes m.args m.annotations e (rs ++ own ∷ [])))
     where
       own : Row
       own = marked (bare_row c (suc i) (some m.name) none 0)

@@ -44,30 +44,30 @@ use Rattle.roundtrip.proofs.Room.{sizes, texts_size, table_size}
 abbrev holding : List ℕ → Item → List ℕ
 holding n c = element (bytes "node") [] (element (bytes "interface") (named n ∷ []) (written c ∷ []) ∷ [])
 
-node_enters : (doc : List ℕ) (at : ℕ) (self : Bool) → step keeps doc begun (start (tag_at at (bytes "node") [] self)) ≡ entered 1 (bytes "node") at self (marked node_row) [] [] []
+node_enters : (doc : List ℕ) (at : ℕ) (self : Bool) → step keeps doc begun (start (tag_at at (bytes "node") [] self)) ≡ entered kinds.node (bytes "node") at self (marked node_row) [] [] []
 unfolding step begins opens_as
 node_enters doc at true = refl
 node_enters doc at false = refl
 
-node_opens : Opens 1 (bytes "node") [] begun (marked node_row) [] [] []
+node_opens : Opens kinds.node (bytes "node") [] begun (marked node_row) [] [] []
 node_opens = record { name = (refl, refl, refl, refl); keys = tt; few = omega arith; enters = node_enters }
 
 abbrev in_node : ℕ → List states.Frame
-in_node at = states.element 1 (name_from at (bytes "node")) 0 ∷ []
+in_node at = states.element kinds.node (name_from at (bytes "node")) 0 ∷ []
 
 module _ (n : List ℕ) (h : interface_name n ≡ true) where
-  interface_enters : (root : ℕ) (doc : List ℕ) (at : ℕ) (self : Bool) → step keeps doc (inside (in_node root) (marked node_row ∷ []) []) (start (tag_at at (bytes "interface") (named n ∷ []) self)) ≡ entered 2 (bytes "interface") at self (marked (interface_row n)) (in_node root) (marked node_row ∷ []) []
+  interface_enters : (root : ℕ) (doc : List ℕ) (at : ℕ) (self : Bool) → step keeps doc (inside (in_node root) (marked node_row ∷ []) []) (start (tag_at at (bytes "interface") (named n ∷ []) self)) ≡ entered kinds.interface (bytes "interface") at self (marked (interface_row n)) (in_node root) (marked node_row ∷ []) []
   unfolding step begins opens_as kind_of may_hold
   interface_enters root doc at true = rw h
   interface_enters root doc at false = rw h
 
-  interface_opens : (root : ℕ) → Opens 2 (bytes "interface") (named n ∷ []) (inside (in_node root) (marked node_row ∷ []) []) (marked (interface_row n)) (in_node root) (marked node_row ∷ []) []
+  interface_opens : (root : ℕ) → Opens kinds.interface (bytes "interface") (named n ∷ []) (inside (in_node root) (marked node_row ∷ []) []) (marked (interface_row n)) (in_node root) (marked node_row ∷ []) []
   interface_opens root = record { name = (refl, refl, refl, refl); keys = (refl, refl, tt); few = omega arith; enters = interface_enters root }
 
   holding_element : (c : Item) → may_hold kinds.interface (kind c) ≡ true → Good c → Element (holding n c) begun (accepted (table (map marked (node_row ∷ interface_row n ∷ rows 2 2 c)) []))
   holding_element c i g =
       an_element node_opens _
-      (λ root. child (an_element (interface_opens root) _ (λ at. child (item_element 2 c i g (name_from at (bytes "interface")) 1 (in_node root) (marked node_row ∷ marked (interface_row n) ∷ []) []).passes childless)).passes childless)
+      (λ root. child (an_element (interface_opens root) _ (λ at. child (item_element kinds.interface c i g (name_from at (bytes "interface")) 1 (in_node root) (marked node_row ∷ marked (interface_row n) ∷ []) []).passes childless)).passes childless)
 
   -- the name holds nothing that is escaped
   same_escaped : escape n ≡ n

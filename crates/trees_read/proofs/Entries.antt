@@ -160,7 +160,7 @@ module _ (doc : List ℕ) (u : Tables Shown) (e : meaning doc ≡ accepted u) (y
   asked =
       let a = meaning_accepts doc u e in
       let l = accepts_rooted doc a in
-      let k : kind_at (rows_of n ws) 0 ≡ 1 = ap (λ rs. kind_at rs 0) (rows_words 0 u.rows z) ∙ kind_first 0 u.rows l ∙ ((accepts_holds doc a.sound.utf8 a).fine 0 l).0.0 in
+      let k : kind_at (rows_of n ws) 0 ≡ kinds.node = ap (λ rs. kind_at rs 0) (rows_words 0 u.rows z) ∙ kind_first 0 u.rows l ∙ ((accepts_holds doc a.sound.utf8 a).fine 0 l).0.0 in
       rw (lt-ltb 0 n l, k)
 
   pub tree_made : length x ≤ 1048576 → (room : ℕ) → tree_writing doc x ws n 0 room ≡ roomy room (text (written_tree (tree_at doc x ws n 0)))

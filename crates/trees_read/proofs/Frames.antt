@@ -1,10 +1,10 @@
 -- Steps in an open element: a written start tag, a closing tag, a docstring; and what a definition has seen of its parts.
 use Prim.Native.Nat.{ℕ, suc, ◌≤◌}
 use native.Mathlib.Omega.{arith}
-use mathlib.Core.Path.{◌≡◌, refl, ap, sym, subst, ◌∙◌}
+use mathlib.Core.Path.{◌≡◌, refl, ap, sym, ◌∙◌}
 use mathlib.Core.List.{List, [], ◌∷◌, ◌++◌}
 use mathlib.Core.Bool.{Bool, true, false, or-false}
-use borrow.Author.Tests.{eqb-true, ne_eqb}
+use borrow.Author.Tests.{ne_eqb}
 use lib.Dec.{eqb}
 use lib.ListN.{length}
 use Rattle.slices.specs.Bytes.{if}
@@ -20,6 +20,7 @@ use Rattle.roundtrip.proofs.Held.{keeps, Row, marked, table, inside}
 use Rattle.roundtrip.proofs.Elements.{name_from}
 use Rattle.trees.specs.Trees.{Tree, tree, Forest, bare, more}
 use Rattle.trees.specs.Written.{Element, tag_of, doc_tag}
+use Rattle.accepted.proofs.Members.{only_members}
 use Rattle.trees_read.proofs.Good as good
 use Rattle.trees_read.proofs.Good.{kind_in, Goods}
 use Rattle.trees_read.proofs.Runs.{catching}
@@ -61,27 +62,13 @@ count_after : (f : Forest Element) (p : Parts) → p.count ≤ (parts_after f p)
 count_after bare p = omega arith
 count_after (more t f) p = omega (arith, count_after f (plus_if (element_in t) p), count_one (element_in t) p)
 
--- a struct and a mapping hold members only
-only_members : (k c : ℕ) → among k (kinds.struct ∷ kinds.mapping ∷ []) ≡ true → may_hold k c ≡ true → eqb c kinds.member ≡ true
-unfolding may_hold
-only_members k c h m = go (eqb k kinds.struct) refl (eqb k kinds.mapping) refl h
-  where
-    so : (b : Bool) → if b true false ≡ true → b ≡ true
-    so true e = refl
-    so false e = cc
-
-    go : (a : Bool) → eqb k kinds.struct ≡ a → (b : Bool) → eqb k kinds.mapping ≡ b → if a true (if b true false) ≡ true → eqb c kinds.member ≡ true
-    go true e b f h = so (eqb c kinds.member) (subst (λ x. may_hold x c ≡ true) (eqb-true k 11 e) m)
-    go false e true f h = so (eqb c kinds.member) (subst (λ x. may_hold x c ≡ true) (eqb-true k 13 f) m)
-    go false e false f h = cc
-
-member_part : (c : ℕ) → eqb c kinds.member ≡ true → among c kinds.parts ≡ true
-member_part c e = rw (eqb-true c kinds.member e)
+member_part : (c : ℕ) → c ≡ kinds.member → among c kinds.parts ≡ true
+member_part c e = rw e
 
 value_in : (t : Tree Element) → good.value_in t ≡ present (element_in t).value
 value_in (tree e f) = refl
 
-one_member : (k : ℕ) (t : Tree Element) (p : Parts) → among k (kinds.struct ∷ kinds.mapping ∷ []) ≡ true → may_hold k (kind_in t) ≡ true → (plus_if (element_in t) p ≡ plus (element_in t) p) × (eqb (element_in t).kind kinds.member ≡ true)
+one_member : (k : ℕ) (t : Tree Element) (p : Parts) → among k (kinds.struct ∷ kinds.mapping ∷ []) ≡ true → may_hold k (kind_in t) ≡ true → (plus_if (element_in t) p ≡ plus (element_in t) p) × ((element_in t).kind ≡ kinds.member)
 one_member k (tree e f) p h m =
     let z = only_members k e.kind h m in
     (rw (member_part e.kind z), z)

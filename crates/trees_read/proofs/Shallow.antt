@@ -144,11 +144,11 @@ in_nodes k =
     P : List ℕ → Type 0
     P xs = among kinds.node xs ≡ true → k ≡ kinds.node
 
-placed_in : (ks : ℕ → ℕ) (c i : ℕ) → Placed ks c (ks c) (suc i) → ks c ≡ 1 → ks i ≡ 1
+placed_in : (ks : ℕ → ℕ) (c i : ℕ) → Placed ks c (ks c) (suc i) → ks c ≡ kinds.node → ks i ≡ kinds.node
 placed_in ks zero i h e = absurd (omega (arith, h.1))
 placed_in ks (suc c) i h e =
     let z : suc i - 1 ≡ i = omega arith in
-    in_nodes (ks i) (subst (λ j. may_hold (ks j) 1 ≡ true) z (subst (λ j. may_hold (ks (suc i - 1)) j ≡ true) e h.2))
+    in_nodes (ks i) (subst (λ j. may_hold (ks j) kinds.node ≡ true) z (subst (λ j. may_hold (ks (suc i - 1)) j ≡ true) e h.2))
 
 module _ (doc : List ℕ) (u : Tables Shown) (a : Accepts doc u) (x z : List ℕ) where
   abbrev rs : List (Row Shown)

@@ -16,7 +16,7 @@ use Rattle.names.specs.Signature.{basic_signature}
 use Rattle.tables.specs.Triple as triples
 use Rattle.tables.specs.declared.Triple.{Triple}
 use Rattle.document.specs.Kinds as kinds
-use Rattle.document.specs.Elements.{among, held_by, may_hold}
+use Rattle.document.specs.Elements.{among, may_hold}
 use Rattle.items.specs.Words.{RowWords, absent, row_of, rows_of, shown_by}
 use Rattle.items.specs.Sound.{Use, name_use, value_use, tp_use, valid_name, valid_value, any_text, kind_at, good_triple, members_of, any_member, keyed, counted, sound, soundness}
 use Rattle.items.proofs.Rows.{RowIs, kind_word, row_word, row_parts, row_is_sound, before_it}
@@ -26,6 +26,7 @@ use Rattle.trees.specs.Shape.{Link, link_of, links_of, grouped, chosen, forest, 
 use Rattle.trees.specs.Written.{Element, element_at, tree_at}
 use Rattle.trees.specs.Writing.{is_open_node, too_deep, too_deeps}
 use Rattle.trees.proofs.Zipper.{joined_bare}
+use Rattle.accepted.proofs.Members.{only_members}
 use Rattle.trees_read.proofs.Good.{Good, Goods, Fit, Fitting, Documented, kind_in, of_kinds, any_tree, keyed_in, complete, open_in}
 use Rattle.trees_read.proofs.Regrown.{map_grouped}
 use Rattle.trees_read.proofs.Shallow.{first-none}
@@ -194,19 +195,6 @@ module _ (ws : List ℕ) (e : ℕ → Element) (same : (i : ℕ) → (e i).kind 
 -- a struct or a mapping holds members only
 abbrev held_kinds : List ℕ
 held_kinds = kinds.struct ∷ kinds.mapping ∷ []
-
-only_members : (k c : ℕ) → among k held_kinds ≡ true → may_hold k c ≡ true → c ≡ kinds.member
-unfolding may_hold
-only_members k c = go (eqb k kinds.struct) refl (eqb k kinds.mapping) refl
-  where
-    one : (b : Bool) → eqb c kinds.member ≡ b → if b true false ≡ true → c ≡ 12
-    one true e h = eqb-true c kinds.member e
-    one false e h = absurd (not_both h)
-
-    go : (a : Bool) → eqb k kinds.struct ≡ a → (b : Bool) → eqb k kinds.mapping ≡ b → if a true (if b true false) ≡ true → among c (held_by k) ≡ true → c ≡ 12
-    go true e b f h q = let z = eqb-true k kinds.struct e in one (eqb c kinds.member) refl (rw z at q)
-    go false e true f h q = let z = eqb-true k kinds.mapping f in one (eqb c kinds.member) refl (rw z at q)
-    go false e false f h q = absurd (not_both h)
 
 no_others : (d k : ℕ) (ks : List ℕ) (f : Forest Element) → among k held_kinds ≡ true → among kinds.member ks ≡ false → Goods d k f → Within ks f → f ≡ bare
 no_others d k ks bare h a g w = refl

@@ -38,11 +38,11 @@ empty_map f (a ∷ l) = refl
 abbrev arg_attributes : List ℕ → List ℕ → List ℕ → ℕ → List Pair
 arg_attributes d x ws i = optional (name_at d x ws i) ++ (type_at d x ws i ++ direction_at ws i)
 
-abbrev noted_in : List ℕ → List ℕ → List ℕ → ℕ → ℕ → List Annotation
-noted_in d x ws i to = annotations (suc i) (rows_in d x ws (suc i) (to - suc i))
+abbrev pub notes_of : List ℕ → List ℕ → List ℕ → ℕ → ℕ → List Annotation
+notes_of d x ws i to = annotations (suc i) (rows_in d x ws (suc i) (to - suc i))
 
 abbrev arg_in : List ℕ → List ℕ → List ℕ → ℕ → ℕ → Arg
-arg_in d x ws i to = record { name = name_at d x ws i; type = shown d x (triple_at 5 (drop (i * 16) ws)); direction = direction (word_at ws i 14); annotations = noted_in d x ws i to }
+arg_in d x ws i to = record { name = name_at d x ws i; type = shown d x (triple_at 5 (drop (i * 16) ws)); direction = direction (word_at ws i 14); annotations = notes_of d x ws i to }
 
 module _ (d x ws : List ℕ) (i to : ℕ) where
   arg_is : (m : ℕ) → Held ws m → Last ws m i to → arg_in d x ws i to ≡ arg_of (rows_shown d x ws m) i (shown_row d x ws i)
@@ -53,26 +53,26 @@ module _ (d x ws : List ℕ) (i to : ℕ) where
       let w = ap direction (get_or-drop (i * 16) ws 14 0) in
       λ j. record { name = name_at d x ws i; type = sym t j; direction = sym w j; annotations = sym a j }
 
-  some_noted : {p : ℕ} {b : Bool} → p ≡ i + 1 → SomeChild ws kinds.annotation p p to b → b ≡ not (empty (map written_annotation (noted_in d x ws i to)))
+  some_noted : {p : ℕ} {b : Bool} → p ≡ i + 1 → SomeChild ws kinds.annotation p p to b → b ≡ not (empty (map written_annotation (notes_of d x ws i to)))
   some_noted {p} e c =
       let f : p ≡ suc i = omega (arith, e) in
       c.is
       ∙ ap (λ q. any_child kinds.annotation q (words_in ws q (to - q))) f
       ∙ any_given (give_annotations (suc i)) d x (suc i) (words_in ws (suc i) (to - suc i))
-      ∙ ap not (sym (empty_map written_annotation (noted_in d x ws i to)))
+      ∙ ap not (sym (empty_map written_annotation (notes_of d x ws i to)))
 
   module _ {p : ℕ} {b : Bool} (e : p ≡ i + 1) (c : SomeChild ws kinds.annotation p p to b) where
     bare_bytes : b ≡ false → (bytes "<arg" ++ pairs (arg_attributes d x ws i)) ++ bytes "/>" ≡ written_arg (arg_in d x ws i to)
     unfolding tag type_at direction_at
-    bare_bytes f = sym (element_bare (bytes "arg") (arg_attributes d x ws i) (map written_annotation (noted_in d x ws i to)) (sym (some_noted e c) ∙ f))
+    bare_bytes f = sym (element_bare (bytes "arg") (arg_attributes d x ws i) (map written_annotation (notes_of d x ws i to)) (sym (some_noted e c) ∙ f))
 
     full_bytes : b ≡ true → (bytes "<arg" ++ pairs (arg_attributes d x ws i)) ++ (bytes ">" ++ (annotations_in d x ws p p to ++ bytes "</arg>")) ≡ written_arg (arg_in d x ws i to)
     unfolding tag closing_tag annotations_in type_at direction_at
     full_bytes f =
         let g : p ≡ suc i = omega (arith, e) in
         ap (λ k. (bytes "<arg" ++ pairs (arg_attributes d x ws i)) ++ (bytes ">" ++ (concat (map written_annotation (annotations k (rows_in d x ws k (to - k)))) ++ bytes "</arg>"))) g
-        ∙ ap (λ l. bytes "<arg" ++ l) (sym (append_assoc (pairs (arg_attributes d x ws i)) (bytes ">") (concat (map written_annotation (noted_in d x ws i to)) ++ bytes "</arg>")))
-        ∙ sym (element_full (bytes "arg") (arg_attributes d x ws i) (map written_annotation (noted_in d x ws i to)) (sym (some_noted e c) ∙ f))
+        ∙ ap (λ l. bytes "<arg" ++ l) (sym (append_assoc (pairs (arg_attributes d x ws i)) (bytes ">") (concat (map written_annotation (notes_of d x ws i to)) ++ bytes "</arg>")))
+        ∙ sym (element_full (bytes "arg") (arg_attributes d x ws i) (map written_annotation (notes_of d x ws i to)) (sym (some_noted e c) ∙ f))
 
 module _ {d x ws : List ℕ} {i to p : ℕ} {b : Bool} (e : p ≡ i + 1) (o : i < to) (c : SomeChild ws kinds.annotation p p to b) where
   module _ {t t₁ : List ℕ} {n m : ℕ} (q : ArgTagPut d x ws i n t t₁ m) where

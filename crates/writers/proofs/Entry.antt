@@ -14,6 +14,7 @@ use Rattle.std.specs.Prelude.{Result, Ok, Err}
 use Rattle.std.proofs.lemmas.List.{drop-map}
 use Rattle.faults.specs.declared.Fault.{Fault}
 use Rattle.slices.specs.Bytes.{if, bytes}
+use Rattle.slices.proofs.Runs.{if_same}
 use Rattle.tables.proofs.Tables.{empty_stands}
 use Rattle.answers.specs.Text.{wrong, Says, Finishes}
 use Rattle.answers.proofs.Answers.{told, finished}
@@ -47,17 +48,17 @@ content_past d x ws m i h =
     (drop-map (viewed d x) i (rows_of m ws) ∙ ap (map (viewed d x)) (drop_of_length-le (rows_of m ws) l))
 
 module _ (t : List Row) (i : ℕ) (r : Row) where
-  item_three : r.kind ≡ kinds.method → item_of t i r ≡ some (method (member_of t i r))
-  item_three e = rw (eq-eqb r.kind kinds.method e)
+  of_method : r.kind ≡ kinds.method → item_of t i r ≡ some (method (member_of t i r))
+  of_method e = rw (eq-eqb r.kind kinds.method e)
 
-  item_five : r.kind ≡ kinds.signal → item_of t i r ≡ some (signal (member_of t i r))
-  item_five e = rw (ne_eqb r.kind kinds.method (λ f. omega (arith, e, f)), eq-eqb r.kind kinds.signal e)
+  of_signal : r.kind ≡ kinds.signal → item_of t i r ≡ some (signal (member_of t i r))
+  of_signal e = rw (ne_eqb r.kind kinds.method (λ f. omega (arith, e, f)), eq-eqb r.kind kinds.signal e)
 
-  item_six : r.kind ≡ kinds.annotation → item_of t i r ≡ some (annotated (annotation_of r))
-  item_six e = rw (ne_eqb r.kind kinds.method (λ f. omega (arith, e, f)), ne_eqb r.kind kinds.signal (λ f. omega (arith, e, f)), eq-eqb r.kind kinds.annotation e)
+  of_annotation : r.kind ≡ kinds.annotation → item_of t i r ≡ some (annotated (annotation_of r))
+  of_annotation e = rw (ne_eqb r.kind kinds.method (λ f. omega (arith, e, f)), ne_eqb r.kind kinds.signal (λ f. omega (arith, e, f)), eq-eqb r.kind kinds.annotation e)
 
-  item_seven : r.kind ≡ kinds.arg → item_of t i r ≡ some (argument (arg_of t i r))
-  item_seven e = rw (ne_eqb r.kind kinds.method (λ f. omega (arith, e, f)), ne_eqb r.kind kinds.signal (λ f. omega (arith, e, f)), ne_eqb r.kind kinds.annotation (λ f. omega (arith, e, f)), eq-eqb r.kind kinds.arg e)
+  of_arg : r.kind ≡ kinds.arg → item_of t i r ≡ some (argument (arg_of t i r))
+  of_arg e = rw (ne_eqb r.kind kinds.method (λ f. omega (arith, e, f)), ne_eqb r.kind kinds.signal (λ f. omega (arith, e, f)), ne_eqb r.kind kinds.annotation (λ f. omega (arith, e, f)), eq-eqb r.kind kinds.arg e)
 
   pub there_item : there (item_of t i r) ≡ among r.kind kinds.written
   there_item = go (eqb r.kind kinds.method) (eqb r.kind kinds.signal) (eqb r.kind kinds.annotation) (eqb r.kind kinds.arg)
@@ -85,36 +86,34 @@ module _ {ws : List ℕ} {m i k : ℕ} (h : MemberScannable ws m i) (w : Word ws
     unfolding annotation_at
     item_annotation e q = record {
       item = annotated (annotation_of (shown_row d x ws i));
-      is = content_is d x ws m i h.within ∙ item_six (rows_shown d x ws m) i (shown_row d x ws i) (kind_is d x e);
+      is = content_is d x ws m i h.within ∙ of_annotation (rows_shown d x ws m) i (shown_row d x ws i) (kind_is d x e);
       puts = q.puts;
     }
 
     pub item_arg : k ≡ kinds.arg → ArgPut d x ws i m n t t' r → ItemPut d x ws m i n t t' r
     item_arg e q = record {
       item = argument (arg_of (rows_shown d x ws m) i (shown_row d x ws i));
-      is = content_is d x ws m i h.within ∙ item_seven (rows_shown d x ws m) i (shown_row d x ws i) (kind_is d x e);
+      is = content_is d x ws m i h.within ∙ of_arg (rows_shown d x ws m) i (shown_row d x ws i) (kind_is d x e);
       puts = q.puts m h.held (last_all h.within);
     }
 
     pub item_member : Writable k true → (k ≡ kinds.annotation → ⊥) → (k ≡ kinds.arg → ⊥) → MemberPut d x ws m i k n t t' r → ItemPut d x ws m i n t t' r
     item_member y a b q = go (eqb k kinds.method) refl
       where
-        five : eqb k kinds.method ≡ false → k ≡ kinds.signal
-        five c = eqb-true k kinds.signal (only (eqb k kinds.signal) (y.is ∙ rw (c, ne_eqb k kinds.annotation a, ne_eqb k kinds.arg b)))
-          where
-            only : (z : Bool) → true ≡ if z true false → z ≡ true
-            only true e = refl
-            only false e = sym e
+        a_signal : eqb k kinds.method ≡ false → k ≡ kinds.signal
+        a_signal c =
+            let w : true ≡ if (eqb k kinds.signal) true false = y.is ∙ rw (c, ne_eqb k kinds.annotation a, ne_eqb k kinds.arg b) in
+            eqb-true k kinds.signal (sym (w ∙ if_same (eqb k kinds.signal)))
 
         go : (z : Bool) → eqb k kinds.method ≡ z → ItemPut d x ws m i n t t' r
         go true e = record {
           item = method (member_of (rows_shown d x ws m) i (shown_row d x ws i));
-          is = content_is d x ws m i h.within ∙ item_three (rows_shown d x ws m) i (shown_row d x ws i) (kind_is d x (eqb-true k kinds.method e));
+          is = content_is d x ws m i h.within ∙ of_method (rows_shown d x ws m) i (shown_row d x ws i) (kind_is d x (eqb-true k kinds.method e));
           puts = puts_as (ap (λ n. written_member n (member_of (rows_shown d x ws m) i (shown_row d x ws i))) (ap (λ z. if z (bytes "method") (bytes "signal")) e)) q.puts;
         }
         go false e = record {
           item = signal (member_of (rows_shown d x ws m) i (shown_row d x ws i));
-          is = content_is d x ws m i h.within ∙ item_five (rows_shown d x ws m) i (shown_row d x ws i) (kind_is d x (five e));
+          is = content_is d x ws m i h.within ∙ of_signal (rows_shown d x ws m) i (shown_row d x ws i) (kind_is d x (a_signal e));
           puts = puts_as (ap (λ n. written_member n (member_of (rows_shown d x ws m) i (shown_row d x ws i))) (ap (λ z. if z (bytes "method") (bytes "signal")) e)) q.puts;
         }
 

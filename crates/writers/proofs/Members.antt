@@ -14,7 +14,7 @@ use Rattle.answers.proofs.Putting.{puts_none, puts_then, puts_as}
 use Rattle.references.specs.Escape.{escape}
 use Rattle.document.specs.Kinds as kinds
 use Rattle.items.specs.Words.{triple_at, rows_shown, shown_row}
-use Rattle.items.specs.Written.{Annotation, Arg, named, tag, closing_tag, concat, written_annotation, written_arg, written_member}
+use Rattle.items.specs.Written.{Arg, named, tag, closing_tag, concat, written_annotation, written_arg, written_member}
 use Rattle.items.specs.Content.{annotations, args, member_of}
 use Rattle.items.proofs.Words.{present_shown}
 use Rattle.items.proofs.Written.{concat-append}
@@ -24,7 +24,7 @@ use Rattle.writers.specs.Writes.{annotations_in, ArgPut, if_arg, IfArgPut, ArgsS
 use Rattle.writers.proofs.Scans.{last_all}
 use Rattle.writers.proofs.Rows.{give_annotations, give_args, write_one, write_none, any_given, own_given}
 use Rattle.writers.proofs.Appending.{Appending, append_begins, append_ends, append_more}
-use Rattle.writers.proofs.Args.{element_bare, element_full, empty_map}
+use Rattle.writers.proofs.Args.{element_bare, element_full, empty_map, notes_of}
 
 -- one row, if it is an arg
 module _ {ws : List ℕ} {m p i n : ℕ} {b : Bool} (c : Child ws kinds.arg p i b) where
@@ -106,17 +106,14 @@ full_group g b e w = simp (append_assoc, append-nil)
 abbrev args_of : List ℕ → List ℕ → List ℕ → ℕ → ℕ → List Arg
 args_of d x ws m i = args (rows_shown d x ws m) (suc i) (suc i) (rows_in d x ws (suc i) (m - suc i))
 
-abbrev notes_of : List ℕ → List ℕ → List ℕ → ℕ → ℕ → List Annotation
-notes_of d x ws m i = annotations (suc i) (rows_in d x ws (suc i) (m - suc i))
-
 abbrev children_of : List ℕ → List ℕ → List ℕ → ℕ → ℕ → List (List ℕ)
-children_of d x ws m i = map written_arg (args_of d x ws m i) ++ map written_annotation (notes_of d x ws m i)
+children_of d x ws m i = map written_arg (args_of d x ws m i) ++ map written_annotation (notes_of d x ws i m)
 
 abbrev name_of : List ℕ → List ℕ → List ℕ → ℕ → List ℕ
 name_of d x ws i = shown d x (triple_at 2 (drop (i * 16) ws))
 
 module _ (d x ws : List ℕ) (m i kind : ℕ) (h : Held ws m) (o : i < m) where
-  member_is : member_of (rows_shown d x ws m) i (shown_row d x ws i) ≡ record { name = name_of d x ws i; args = args_of d x ws m i; annotations = notes_of d x ws m i }
+  member_is : member_of (rows_shown d x ws m) i (shown_row d x ws i) ≡ record { name = name_of d x ws i; args = args_of d x ws m i; annotations = notes_of d x ws i m }
   member_is =
       let a = own_given (give_args (rows_shown d x ws m) (suc i)) d x ws m m h (last_all o) in
       let n = own_given (give_annotations (suc i)) d x ws m m h (last_all o) in
@@ -128,12 +125,12 @@ module _ (d x ws : List ℕ) (m i kind : ℕ) (h : Held ws m) (o : i < m) where
       let f : p ≡ suc i = omega (arith, e) in
       let rs = words_in ws (suc i) (m - suc i) in
       let a = any_given (give_args (rows_shown d x ws m) (suc i)) d x (suc i) rs ∙ ap not (sym (empty_map written_arg (args_of d x ws m i))) in
-      let n = any_given (give_annotations (suc i)) d x (suc i) rs ∙ ap not (sym (empty_map written_annotation (notes_of d x ws m i))) in
+      let n = any_given (give_annotations (suc i)) d x (suc i) rs ∙ ap not (sym (empty_map written_annotation (notes_of d x ws i m))) in
       c.is
       ∙ ap (λ q. any_child kinds.arg q (words_in ws q (m - q)) || any_child kinds.annotation q (words_in ws q (m - q))) f
       ∙ ap (λ u. u || any_child kinds.annotation (suc i) rs) a
       ∙ ap (λ u. not (empty (map written_arg (args_of d x ws m i))) || u) n
-      ∙ sym (some_of (map written_arg (args_of d x ws m i)) (map written_annotation (notes_of d x ws m i)))
+      ∙ sym (some_of (map written_arg (args_of d x ws m i)) (map written_annotation (notes_of d x ws i m)))
 
   member_bare_bytes : not (empty (children_of d x ws m i)) ≡ false → (60 ∷ tag_of kind ++ (bytes " name=\"" ++ escape (name_of d x ws i))) ++ bytes "\"/>" ≡ written_member (tag_of kind) (member_of (rows_shown d x ws m) i (shown_row d x ws i))
   unfolding tag
@@ -145,7 +142,7 @@ module _ (d x ws : List ℕ) (m i kind : ℕ) (h : Held ws m) (o : i < m) where
   member_full_bytes : not (empty (children_of d x ws m i)) ≡ true → (60 ∷ tag_of kind ++ (bytes " name=\"" ++ escape (name_of d x ws i))) ++ (bytes "\">" ++ ((args_in d x ws m (suc i) (suc i) ++ annotations_in d x ws (suc i) (suc i) m) ++ closing_tag (tag_of kind))) ≡ written_member (tag_of kind) (member_of (rows_shown d x ws m) i (shown_row d x ws i))
   unfolding tag args_in annotations_in
   member_full_bytes f =
-      ap (λ l. (60 ∷ tag_of kind ++ (bytes " name=\"" ++ escape (name_of d x ws i))) ++ (bytes "\">" ++ (l ++ closing_tag (tag_of kind)))) (sym (concat-append (map written_arg (args_of d x ws m i)) (map written_annotation (notes_of d x ws m i))))
+      ap (λ l. (60 ∷ tag_of kind ++ (bytes " name=\"" ++ escape (name_of d x ws i))) ++ (bytes "\">" ++ (l ++ closing_tag (tag_of kind)))) (sym (concat-append (map written_arg (args_of d x ws m i)) (map written_annotation (notes_of d x ws i m))))
       ∙ ap (◌∷◌ 60) (full_group (tag_of kind) (bytes " name=\"") (escape (name_of d x ws i)) (concat (children_of d x ws m i) ++ closing_tag (tag_of kind)))
       ∙ sym (element_full (tag_of kind) (named (name_of d x ws i) ∷ []) (children_of d x ws m i) f)
       ∙ ap (written_member (tag_of kind)) (sym member_is)
