@@ -7,22 +7,31 @@ ghost use Rattle.std.specs.Prelude.{◌<◌};
 use document::Counts;
 use output::Sink;
 use output::failure::Failure;
-use std::io;
 use std::io::{Result, Write};
 
+// Puts a word in decimal digits, and what follows it. Byte by byte and not by `write!`, which takes twice as long: most of a listing is words.
+fn put_word<W: Write>(out: &mut Sink<W>, word: u32, end: u8) -> Result<()> {
+    let mut digits = [0u8; 20];
+    let n = io::decimal(u64::from(word), &mut digits);
+    for digit in &digits[..n] {
+        out.put(*digit)?;
+    }
+    out.put(end)
+}
+
 // Puts words as a line.
-fn put_line<W: Write>(out: &mut W, words: &[u32]) -> Result<()> {
+fn put_line<W: Write>(out: &mut Sink<W>, words: &[u32]) -> Result<()> {
     if let Some((last, before)) = words.split_last() {
         for word in before {
-            write!(out, "{word} ")?;
+            put_word(out, *word, b' ')?;
         }
-        writeln!(out, "{last}")?;
+        put_word(out, *last, b'\n')?;
     }
     Ok(())
 }
 
 // Puts words, a line for each `width`.
-fn put_table<W: Write>(out: &mut W, words: &[u32], width: usize) -> Result<()>
+fn put_table<W: Write>(out: &mut Sink<W>, words: &[u32], width: usize) -> Result<()>
     requires { 0 < width }
 {
     for record in words.chunks(width) {
@@ -33,7 +42,7 @@ fn put_table<W: Write>(out: &mut W, words: &[u32], width: usize) -> Result<()>
 
 // The counts of rows, text bytes and warnings, then the rows and the warnings.
 fn put_accepted<W: Write>(
-    out: &mut W,
+    out: &mut Sink<W>,
     rows: &[u32],
     warnings: &[u32],
     counts: Counts,
@@ -47,7 +56,7 @@ fn put_accepted<W: Write>(
 }
 
 // Reads a document, and puts what was read.
-fn put_listing<W: Write>(out: &mut W, document: &[u8]) -> Result<()> {
+fn put_listing<W: Write>(out: &mut Sink<W>, document: &[u8]) -> Result<()> {
     let mut rows = [0u32; 16384];
     let mut warnings = [0u32; 16384];
     let mut text = [0u8; 65536];
@@ -64,7 +73,7 @@ fn put_listing<W: Write>(out: &mut W, document: &[u8]) -> Result<()> {
 }
 
 // Puts what a file is read as; one of more bytes than the program takes is over-long.
-fn put_answer<W: Write>(out: &mut W, document: &[u8]) -> Result<()> {
+fn put_answer<W: Write>(out: &mut Sink<W>, document: &[u8]) -> Result<()> {
     if 65536 < document.len() {
         return writeln!(out, "refused 2 65536");
     }
@@ -73,7 +82,7 @@ fn put_answer<W: Write>(out: &mut W, document: &[u8]) -> Result<()> {
 
 // Writes what a file is read as.
 fn write_answer<P: Print>(to: &P, document: &[u8]) -> Result<()> {
-    let mut out = Sink::new(io::writer(to));
+    let mut out = Sink::new(std::io::writer(to));
     put_answer(&mut out, document)?;
     out.flush()
 }

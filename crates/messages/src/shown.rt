@@ -142,8 +142,12 @@ pub fn unexpected(document: Part, closing: Wide, element: Wide, out: &mut [u8]) 
     ensures { Unexpected document.entry.bytes.now closing element (length out.old)
         out.new result }
 {
-    match (excerpt(document, closing), excerpt(document, element)) {
-        (Some(tag), Some(name)) => mismatched(tag, name, out),
-        _ => answers::refuse(out, Fault::new(19, 0)),
+    // The second name is looked at only where the first is there: its bytes are gone through.
+    let Some(tag) = excerpt(document, closing) else {
+        return answers::refuse(out, Fault::new(19, 0));
+    };
+    match excerpt(document, element) {
+        Some(name) => mismatched(tag, name, out),
+        None => answers::refuse(out, Fault::new(19, 0)),
     }
 }

@@ -159,15 +159,14 @@ fn complete(s: &[u8], at: usize, arrays: u32, parens: u32) -> Option<usize>
 }
 
 // Complete types one after another; at most 255 bytes.
+// A call of its own, so that `signature` is short enough to tell the usual type, of one byte, where it is asked for.
+#[inline(never)]
 #[tactic(auto, using(crate::proofs::Checks::signatures))]
-pub fn signature(s: &[u8]) -> bool
+fn are_types(s: &[u8]) -> bool
     ensures { result ≡ signature s.now }
 {
     if 255 < s.len() {
         return false;
-    }
-    if s.len() == 1 {
-        return s[0] == b'v' || basic(s[0]);
     }
     let mut at = 0;
     // The next place is what the call found, so no range gives it.
@@ -178,6 +177,18 @@ pub fn signature(s: &[u8]) -> bool
         }
     }
     true
+}
+
+// Complete types one after another; at most 255 bytes. One byte is looked at here.
+#[inline]
+#[tactic(auto, using(crate::proofs::Checks::signatures))]
+pub fn signature(s: &[u8]) -> bool
+    ensures { result ≡ signature s.now }
+{
+    if s.len() == 1 {
+        return s[0] == b'v' || basic(s[0]);
+    }
+    are_types(s)
 }
 
 // A signature of one basic type.

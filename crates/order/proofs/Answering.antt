@@ -74,7 +74,11 @@ finish_leaves {t} v f = record {
       leaves_order t free (sym (given_count t s) ∙ o.count) v.is (λ l. s) f;
 }
 
-pub ruleset finishing = (finish_leaves, rules)
+-- 18 is the same, however many members are not defined
+pub finish_short : {t : List Row} {out out' : List ℕ} {c : ℕ} {r : Result Ordered Fault} {f : Fault} → length out < c → f ≡ fault 18 c → Says (wrong f.number f.place) (length out) out' r → Finishes t out c out' r
+finish_short h q s = finish_leaves (record { is = refl }) (leave_short h q s)
+
+pub ruleset finishing = (finish_short, finish_leaves, rules)
 
 -- ---- a circle, or none
 

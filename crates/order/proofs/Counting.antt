@@ -100,6 +100,20 @@ module _ {d x ws : List ℕ} {n m : ℕ} {b : Bool} {p : Triple} (t : TripleIs w
             said = not-false s (sym o)
         go None h (Some i) j e o = record { is = not-true s (sym o) ∙ sym (neither d x ws n m (tp_is t f ∙ q) none (some i) (finds_none g.finds h) (finds_some k.finds j)) }
 
+-- a tp type that names a row is there, and bears its name
+named_there : (d x ws : List ℕ) (n m : ℕ) {i : ℕ} → target (rows_shown d x ws n) false (shown_row d x ws m).tp ≡ some i → absent (row_of (drop (m * 16) ws)).tp ≡ false
+unfolding target
+named_there d x ws n m {i} e = by (absent (row_of (drop (m * 16) ws)).tp) refl
+  where
+    by : (b : Bool) → absent (row_of (drop (m * 16) ws)).tp ≡ b → absent (row_of (drop (m * 16) ws)).tp ≡ false
+    by false h = h
+    by true h = let z : ◌≡◌ {A = Option ℕ} none (some i) = rw h at e in absurd (cc)
+
+bears_found : {d x ws : List ℕ} {n m i : ℕ} {v : Maybe ℕ} → Target d x ws n false m v → v ≡ Some i → BearsNone d x ws n m false
+bears_found {d} {x} {ws} {n} {m} {i} g e =
+    let t = finds_some g.finds e in
+    record { is = sym (neither d x ws n m (named_there d x ws n m t) (some i) (target (rows_shown d x ws n) true (shown_row d x ws m).tp) t refl) }
+
 pub ruleset bearing = (bears_absent, bears_whole, bears_less, rules)
 
 module _ {d x ws : List ℕ} {n m k : ℕ} (a : Word ws m 0 k) where
@@ -109,7 +123,10 @@ module _ {d x ws : List ℕ} {n m k : ℕ} (a : Word ws m 0 k) where
   pub undefined_member : {r : Bool} → k ≡ kinds.member → BearsNone d x ws n m r → IsUndefined d x ws n m r
   undefined_member e b = record { is = b.is ∙ rw (← word_in a, e) }
 
-pub ruleset undefineds = (undefined_other, undefined_member, row_held, rules)
+  pub undefined_found : {i : ℕ} {v : Maybe ℕ} → k ≡ kinds.member → Target d x ws n false m v → v ≡ Some i → IsUndefined d x ws n m false
+  undefined_found e g h = undefined_member e (bears_found g h)
+
+pub ruleset undefineds = (undefined_other, undefined_member, undefined_found, row_held, rules)
 
 module _ (t : List Row) (k : ℕ) (row : Row) (rest : List Row) where
   more_missing : undefined_in t (row ∷ rest) ≡ if (is_undefined t row) 1 0 + undefined_in t rest

@@ -9,7 +9,7 @@
 // - work[r]: the row that it is in.
 // - work[n + r]: the edge that comes after its first edge in the list that this is in; for the check, where a row's run begins.
 // - work[2n + r]: the edge that comes after its second edge in the list that this is in.
-ghost use Rattle.std.specs.Prelude.{◌+◌, ◌*◌, ◌≤◌, ◌<◌};
+ghost use Rattle.std.specs.Prelude.{◌+◌, ◌*◌, ◌≤◌, ◌<◌, IfSome};
 ghost use Rattle.order.specs.Table.{over};
 ghost use Rattle.order.specs.Certificate.{Kept};
 ghost use Rattle.order.specs.Index.{Indexed};
@@ -64,7 +64,9 @@ impl Ready {
     }
 
     // The first row that is marked, which then is not.
-    fn take(&mut self) -> Option<usize> {
+    fn take(&mut self) -> Option<usize>
+        ensures { IfSome result (λ r. r < 262144) }
+    {
         if self.top == 0 {
             return None;
         }

@@ -44,9 +44,12 @@ fn is_undefined(table: &Table, m: usize) -> bool
     if items::word(table.rows, m, 0) != kinds::MEMBER {
         return false;
     }
+    // The second name is looked up only where the first is not found: each look-up is a pass over the rows.
     let whole = definitions::find_target(table, false, m);
-    let less = definitions::find_target(table, true, m);
-    bears_none(table, m, whole, less)
+    match whole {
+        Some(_) => false,
+        None => bears_none(table, m, whole, definitions::find_target(table, true, m)),
+    }
 }
 
 // The number of members whose tp type no row defines.

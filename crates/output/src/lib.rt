@@ -1,7 +1,7 @@
 // What the programs share: what they print goes through a buffer, `failure` tells what went wrong, and `input` reads all that comes.
 #![tactic(auto)]
 
-ghost use Rattle.std.specs.Prelude.{◌≡◌, ◌≤◌, length};
+ghost use Rattle.std.specs.Prelude.{◌≡◌, ◌-◌, ◌<◌, ◌≤◌, length, get_or, IfOk};
 
 use std::io::{Result, Write};
 
@@ -36,9 +36,24 @@ impl<W: Write> Sink<W> {
     }
 
     // Writes out what the buffer holds.
-    fn write_out(&mut self) -> Result<()> {
+    fn write_out(&mut self) -> Result<()>
+        ensures { IfOk result (λ u. self.new.held ≡ 0) }
+    {
         self.to.write_all(&self.buffer[..self.held])?;
         self.held = 0;
+        Ok(())
+    }
+
+    // Puts a byte; a full buffer is written out first. For what is put byte by byte: `write` takes several times as long for one.
+    pub fn put(&mut self, b: u8) -> Result<()>
+        ensures some { IfOk result (λ u. 0 < self.new.held) }
+        ensures last { IfOk result (λ u. get_or self.new.buffer (self.new.held - 1) 0 ≡ b) }
+    {
+        if self.held == self.buffer.len() {
+            self.write_out()?;
+        }
+        self.buffer[self.held] = b;
+        self.held += 1;
         Ok(())
     }
 }

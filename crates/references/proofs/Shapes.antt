@@ -17,20 +17,9 @@ use Rattle.answers.specs.Text.{Text, text, wrong}
 use Rattle.references.specs.Characters.{xml_char}
 use Rattle.references.specs.Unescape.{Reference, character, fault, reference, Piece, shows, bad, referred, after_ampersand, after_cr, piece, before, joined, shown_from, unescape, plain}
 use Rattle.references.proofs.Entities.{reference_good}
-use Rattle.references.proofs.Values.{taken, before_nil, before_before}
+use Rattle.references.proofs.Values.{taken, before_nil, before_before, plain_piece}
 
 -- ---- bytes that show themselves
-
-plain_piece : (b : ℕ) (l : List ℕ) → plain b ≡ true → piece b l ≡ shows (b ∷ []) 0
-unfolding piece
-plain_piece b l h = go (eqb b 38) (eqb b 9) (eqb b 10) (eqb b 13) h
-  where
-    go : (p q r s : Bool) → not (p || q || r || s) ≡ true → if p (after_ampersand l) (if s (after_cr l) (if (r || q) (shows (32 ∷ []) 0) (shows (b ∷ []) 0))) ≡ shows (b ∷ []) 0
-    go true q r s e = cc
-    go false true r s e = cc
-    go false false true s e = cc
-    go false false false true e = cc
-    go false false false false e = refl
 
 pub plain_shows : (s x : List ℕ) (at : ℕ) → all plain s ≡ true → shown_from 0 (s ++ x) at ≡ before s (shown_from 0 x (at + length s))
 plain_shows [] x at h = rw add-zero (sym (before_nil (shown_from 0 x at)))

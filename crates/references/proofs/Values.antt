@@ -2,7 +2,7 @@
 use Prim.Native.Nat.{ℕ, zero, suc, ◌+◌, ◌-◌, ◌^◌, ◌≤◌, ◌<◌}
 use mathlib.Core.Path.{◌≡◌, refl, sym, ap, subst, ◌∙◌}
 use mathlib.Core.List.{List, [], ◌∷◌, ◌++◌, append-nil, append_assoc}
-use mathlib.Core.Bool.{Bool, true, false, ◌||◌}
+use mathlib.Core.Bool.{Bool, true, false, not, ◌||◌}
 use borrow.Author.Rules.{rules}
 use borrow.Author.Tests.{ne_eqb, eqb-true, not-true, not-false}
 use native.Mathlib.Nat.{add-zero}
@@ -20,7 +20,7 @@ use Rattle.utf8.proofs.Encodings.{utf8_short}
 use Rattle.answers.specs.Text.{Text, text, wrong}
 use Rattle.answers.specs.Puts.{Puts}
 use Rattle.answers.proofs.Putting.{puts_none, puts_one, puts_then}
-use Rattle.references.specs.Unescape.{shows, bad, after_cr, piece, before, joined, shown_from, unescape, plain}
+use Rattle.references.specs.Unescape.{shows, bad, after_ampersand, after_cr, piece, before, joined, shown_from, unescape, plain}
 use Rattle.references.specs.Outcome.{Pieces, IsShown, Checks, Shows}
 use Rattle.references.specs.declared.ValuePlace.{ValuePlace}
 use Rattle.references.specs.declared.Piece.{Piece}
@@ -172,6 +172,17 @@ pub ruleset checks = (check_begins, check_ampersand, check_ends, check_fault, pi
 
 -- ---- bytes that show themselves
 
+pub plain_piece : (b : ℕ) (l : List ℕ) → plain b ≡ true → piece b l ≡ shows (b ∷ []) 0
+unfolding piece
+plain_piece b l h = go (eqb b 38) (eqb b 9) (eqb b 10) (eqb b 13) h
+  where
+    go : (p q r s : Bool) → not (p || q || r || s) ≡ true → if p (after_ampersand l) (if s (after_cr l) (if (r || q) (shows (32 ∷ []) 0) (shows (b ∷ []) 0))) ≡ shows (b ∷ []) 0
+    go true q r s e = cc
+    go false true r s e = cc
+    go false false true s e = cc
+    go false false false true e = cc
+    go false false false false e = refl
+
 pub plain_above : (b : ℕ) → 38 < b → true ≡ plain b
 plain_above b h = rw (ne_eqb b 38 (omega arith), ne_eqb b 9 (omega arith), ne_eqb b 10 (omega arith), ne_eqb b 13 (omega arith))
 
@@ -211,6 +222,23 @@ module _ {v t₀ t : List ℕ} {n at m : ℕ} (g : Showing v n t₀ t at m) wher
           let q : text (g.shown ++ []) ≡ text s = sym (g.left ∙ rw (rest_ends v at h)) ∙ e in
           sym (append-nil g.shown) ∙ cc
 
+  show_on : {s t' : List ℕ} {next r : ℕ} → at < length v → piece (get_or v at 0) (drop (suc at) v) ≡ shows s (next - suc at) → next ≤ length v → at < next → at + length s ≤ next → length t' ≡ length t → Puts s m t t' r → Showing v n t₀ t' next r
+  show_on {s} {t'} {next} h e b a k l q = record {
+    shown = g.shown ++ s;
+    left = g.left ∙ rw (rest_shows v at h e a b) (before_before g.shown s (rest v next));
+    puts = puts_then g.puts q;
+    least = omega (arith, g.least, q.counts);
+    most = omega (arith, g.most, q.counts);
+    inside = b;
+    same = l ∙ g.same;
+  }
+
+  -- a byte that shows itself
+  pub show_plain : {b : ℕ} {x : Bool} {t' : List ℕ} {r : ℕ} → at < length v → b ≡ get_or v at 0 → x ≡ plain b → x ≡ true → length t' ≡ length t → Put 1 (b ∷ []) m t t' r → Showing v n t₀ t' (at + 1) r
+  show_plain {b} h e f i l q =
+      let w : at + 1 - suc at ≡ 0 = omega arith in
+      show_on h (rw (← e, w) (plain_piece b (drop (suc at) v) (sym f ∙ i))) (omega arith) (omega arith) (omega arith) l (puts_one q)
+
   module _ (h : at < length v) {p : Result Piece ℕ} (c : Pieces v at p) where
     pub show_stops : {k : ℕ} → p ≡ Err k → Shows v n t₀ t m
     show_stops {k} e = record {
@@ -225,28 +253,17 @@ module _ {v t₀ t : List ℕ} {n at m : ℕ} (g : Showing v n t₀ t at m) wher
             let z : ◌≡◌ {A = ℕ} 0 1 = cc in
             omega arith
 
-    show_on : {s t' : List ℕ} {next r : ℕ} → piece (get_or v at 0) (drop (suc at) v) ≡ shows s (next - suc at) → next ≤ length v → at < next → at + length s ≤ next → length t' ≡ length t → Puts s m t t' r → Showing v n t₀ t' next r
-    show_on {s} {t'} {next} e b a k l q = record {
-      shown = g.shown ++ s;
-      left = g.left ∙ rw (rest_shows v at h e a b) (before_before g.shown s (rest v next));
-      puts = puts_then g.puts q;
-      least = omega (arith, g.least, q.counts);
-      most = omega (arith, g.most, q.counts);
-      inside = b;
-      same = l ∙ g.same;
-    }
-
     module _ {x : Piece} (e : p ≡ Ok x) where
       module _ {b : ℕ} (f : x.shown ≡ Byte b) where
         pub show_byte : {t' : List ℕ} {r : ℕ} → length t' ≡ length t → Put 1 (b ∷ []) m t t' r → Showing v n t₀ t' x.next r
-        show_byte l q = let d = is_kind c e f in show_on d.0 d.2 d.1 (omega (arith, d.1)) l (puts_one q)
+        show_byte l q = let d = is_kind c e f in show_on h d.0 d.2 d.1 (omega (arith, d.1)) l (puts_one q)
 
         pub show_byte_less : length v - x.next < length v - at
         show_byte_less = let d = is_kind c e f in omega (arith, d.1, d.2)
 
       module _ {k : ℕ} (f : x.shown ≡ Char k) where
         pub show_char : {t' : List ℕ} {r : ℕ} → length t' ≡ length t → Puts (utf8 k) m t t' r → Showing v n t₀ t' x.next r
-        show_char l q = let d = is_kind c e f in show_on d.0 d.2 (omega (arith, d.1)) (omega (arith, d.1, utf8_short k)) l q
+        show_char l q = let d = is_kind c e f in show_on h d.0 d.2 (omega (arith, d.1)) (omega (arith, d.1, utf8_short k)) l q
 
         pub show_char_less : length v - x.next < length v - at
         show_char_less = let d = is_kind c e f in omega (arith, d.1, d.2)
@@ -257,4 +274,4 @@ module _ {v t₀ t : List ℕ} {n at m : ℕ} (g : Showing v n t₀ t at m) wher
         pub show_char_room : n + length v < 2 ^ 62 → m + 4 < 2 ^ 62
         show_char_room b = let d = is_kind c e f in omega (arith, d.1, d.2, g.most)
 
-pub ruleset shown = (show_begins, show_ends, show_stops, show_byte, show_byte_less, show_char, show_char_less, show_char_small, show_char_room, rules)
+pub ruleset shown = (show_begins, show_ends, show_plain, show_stops, show_byte, show_byte_less, show_char, show_char_less, show_char_small, show_char_room, rules)

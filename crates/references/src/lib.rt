@@ -6,7 +6,7 @@ ghost use Rattle.faults.specs.Fault.{fault};
 ghost use Rattle.answers.specs.Text.{Makes};
 ghost use Rattle.answers.specs.Puts.{Puts};
 ghost use Rattle.references.specs.Escape.{escaped, escape};
-ghost use Rattle.references.specs.Unescape.{of_number, reference};
+ghost use Rattle.references.specs.Unescape.{of_number, reference, plain};
 ghost use Rattle.references.specs.Outcome.{reference_of, Pieces, Checks, Shows};
 ghost use Rattle.references.specs.Entries.{escaping, unescaping};
 ghost use Rattle.references.specs.Admission.{Admits, Reads};
@@ -149,6 +149,13 @@ fn piece_at(v: &[u8], at: usize) -> Result<Piece, u32>
     }
 }
 
+// Whether a byte of a value shows itself.
+fn is_plain(b: u8) -> bool
+    ensures { result ≡ plain b }
+{
+    !matches!(b, b'&' | b'\t' | b'\n' | b'\r')
+}
+
 // Whether the references of a value are good. Writes nothing.
 #[tactic(auto, using(crate::proofs::Values::checks))]
 pub fn check(value: &[u8]) -> Result<(), ValueFault>
@@ -181,15 +188,22 @@ pub fn put_shown(value: &[u8], out: &mut [u8], n: usize) -> usize
     let mut m = n;
     // The next place is what the call found, so no range gives it.
     while at < value.len() {
-        match piece_at(value, at) {
-            Ok(piece) => {
-                m = match piece.shown {
-                    Shown::Byte(b) => tables::put_byte(out, m, b),
-                    Shown::Char(c) => put::put_char(out, m, c),
-                };
-                at = piece.next;
+        let b = value[at];
+        // A byte that shows itself is put at once: the answer of `piece_at` takes as long again to make and to read.
+        if is_plain(b) {
+            m = tables::put_byte(out, m, b);
+            at += 1;
+        } else {
+            match piece_at(value, at) {
+                Ok(piece) => {
+                    m = match piece.shown {
+                        Shown::Byte(b) => tables::put_byte(out, m, b),
+                        Shown::Char(c) => put::put_char(out, m, c),
+                    };
+                    at = piece.next;
+                }
+                Err(_) => return m,
             }
-            Err(_) => return m,
         }
     }
     m

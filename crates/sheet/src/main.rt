@@ -1,7 +1,8 @@
 // The sheet program: reads names of files from standard input, reads each file, and writes what came of them, added up (docs/FORMAT.md, The sheet program).
 #![tactic(auto)]
 
-ghost use Rattle.std.specs.Prelude.{◌≤◌, false, length, IfOk};
+ghost use Rattle.std.specs.Prelude.{◌≤◌, false, length, take, IfOk, IfErr};
+ghost use Rattle.sheets.specs.Sheet.{unreadable};
 ghost use Rattle.sheets.specs.Counts.{Adds};
 ghost use Rattle.sheets.specs.Files.{document_outcome, file_outcome, AddsFile, AddsName, Sums, PrintsList};
 
@@ -43,16 +44,29 @@ fn read<F: Read + Drop>(file: Result<F>, document: &mut [u8]) -> Result<usize>
     output::input::read_all(&mut file, document).map_err(|stopped| stopped.why)
 }
 
+// Adds a file of which so many bytes are in the buffer, or which could not be read.
+#[tactic(auto, using(sheets::proofs::Filing::filing))]
+fn add_came(counts: &mut Counts, document: &[u8], came: Result<usize>)
+    requires { IfOk came (λ n. n ≤ length document.now) }
+    ensures read { IfOk came (λ n. Adds (file_outcome false (take n document.now)) counts.old
+        counts.new) }
+    ensures failed { IfErr came (λ e. Adds unreadable counts.old counts.new) }
+    ensures either { AddsFile counts.old counts.new }
+{
+    match came {
+        Err(_) => counts.add_unreadable(),
+        Ok(end) => add_read(counts, &document[..end]),
+    }
+}
+
 // Adds what came of a file. The buffer has room for one byte more than the program takes.
 #[tactic(auto, using(sheets::proofs::Filing::filing))]
 fn add_file<F: Read + Drop>(counts: &mut Counts, file: Result<F>)
     ensures { AddsFile counts.old counts.new }
 {
     let mut document: [u8; 65537] = output::filled(0);
-    match read(file, &mut document) {
-        Err(_) => counts.add_unreadable(),
-        Ok(end) => add_read(counts, &document[..end]),
-    }
+    let came = read(file, &mut document);
+    add_came(counts, &document, came);
 }
 
 // Opens the file of a name, which std takes as text alone.

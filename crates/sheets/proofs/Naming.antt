@@ -2,11 +2,12 @@
 use Rattle.std.proofs.Common.{◌≡◌, ℕ, suc, ◌+◌, ◌-◌, ◌<◌, ◌≤◌, Bool, true, false, ◌&&◌, eqb, leb, List, [], ◌∷◌, length, get_or, take, drop, take_all, sym, refl, ap, ◌∙◌, add-one, arith, length-drop, drop_of_length-le, drop-cons, rules, le-leb, eq-eqb, ne_eqb}
 use native.Mathlib.Decide.{dec_lt}
 use borrow.Author.Tests.{not-false, lt-leb}
+use lib.Seq.{length-take-le}
 use Rattle.slices.specs.Bytes.{if, other, span, past, all, empty}
 use Rattle.slices.specs.Run.{Run}
 use Rattle.slices.proofs.Runs.{span_end}
 use Rattle.slices.proofs.Ends.{run_length, run_span, run_rest, run_some}
-use Rattle.sheets.specs.Names.{later_lines, named, names_of, openable}
+use Rattle.sheets.specs.Names.{later_lines, named, names_of, openable, Placed}
 
 -- ---- lines
 
@@ -83,11 +84,23 @@ module _ {s : List ℕ} {at r : ℕ} (g : Seeking s at) (n : Run (other 10) s at
   pub seek_found : at < r → names_of s ≡ take (r - at) (drop at s) ∷ names_of (take (length s - r) (drop r s))
   seek_found h = rw (take_all (length s - r) (drop r s) (rw length-drop (omega arith))) (g.same ∙ name_here n h)
 
+-- a name from a place up to another, and the rest from there on
+placed : {s n t : List ℕ} {at r : ℕ} → at < r → r ≤ length s → n ≡ take (r - at) (drop at s) → t ≡ drop r s → Placed s n t
+placed {s} {n} {t} {at} {r} h l e f =
+    let k : length n ≡ r - at = rw e (length-take-le (r - at) (drop at s) (rw length-drop (omega arith))) in
+    let m : length t ≡ length s - r = rw f (length-drop r s) in
+    let b : length s - length t ≡ r = omega (arith, m) in
+    let a : length s - length t - length n ≡ at = omega (arith, m, k) in
+    record { some = omega (arith, k); named = rw (a, k) e; follows = rw b f }
+
+pub found_placed : {s : List ℕ} {at r : ℕ} → Run (other 10) s at r → at < r → Placed s (take (r - at) (drop at s)) (take (length s - r) (drop r s))
+found_placed {s} {at} {r} n h = placed h n.within refl (take_all (length s - r) (drop r s) (rw length-drop (omega arith)))
+
 pub seek_ends : {s : List ℕ} {at : ℕ} → Seeking s at → length s ≤ at → names_of s ≡ []
 unfolding names_of
 seek_ends {s} g h = g.same ∙ rw (drop_of_length-le s h)
 
-pub ruleset seeking = (seek_begins, seek_more, seek_found, seek_ends, rules)
+pub ruleset seeking = (seek_begins, seek_more, seek_found, found_placed, seek_ends, rules)
 
 -- ---- names that are opened
 

@@ -1,5 +1,5 @@
 -- The names of a list of files, and which of them are opened (docs/FORMAT.md, Sheets).
-use Rattle.std.specs.Prelude.{ℕ, Bool, ◌&&◌, List, [], ◌∷◌, length, take, ◌==◌, nat_le, nat_lt}
+use Rattle.std.specs.Prelude.{◌≡◌, ℕ, ◌-◌, ◌<◌, Bool, ◌&&◌, List, [], ◌∷◌, length, take, drop, ◌==◌, nat_le, nat_lt}
 use Rattle.slices.specs.Bytes.{if, other, span, all, empty}
 
 -- a line begins at the start and after each LF, and goes up to the next LF or to the end
@@ -17,6 +17,12 @@ named (n ∷ ns) = let r = named ns in if (empty n) r (n ∷ r)
 
 unfoldable pub names_of : List ℕ → List (List ℕ)
 names_of s = named (lines_of s)
+
+-- a name of a list, and what follows it, by their places: what follows reaches to the end of the list, and the name to what follows
+pub record Placed (s name rest : List ℕ) : Type 0 where
+  pub some : 0 < length name
+  pub named : name ≡ take (length name) (drop (length s - length rest - length name) s)
+  pub follows : rest ≡ drop (length s - length rest) s
 
 -- the names that are looked at, and whether there are more
 abbrev pub looked : List ℕ → List (List ℕ)

@@ -1,11 +1,12 @@
 // The names of a list of files: a line each.
 ghost use Rattle.std.specs.Prelude.{◌≡◌, [], ◌∷◌, IfSome, IfNone};
-ghost use Rattle.sheets.specs.Names.{names_of, openable};
+ghost use Rattle.sheets.specs.Names.{names_of, openable, Placed};
 
 // The first name of a list, past empty lines, and what follows it.
 #[tactic(auto, using(crate::proofs::Naming::seeking))]
 pub fn next(list: &[u8]) -> Option<(&[u8], &[u8])>
     ensures some { IfSome result (λ r. names_of list.now ≡ r.0.now ∷ names_of r.1.now) }
+    ensures places { IfSome result (λ r. Placed list.now r.0.now r.1.now) }
     ensures none { IfNone result (names_of list.now ≡ []) }
 {
     let mut at = 0;

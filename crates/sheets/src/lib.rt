@@ -13,14 +13,14 @@ pub mod lines;
 
 // How many files are accepted, refused and unreadable; how many files are refused with each number, how many rows are of each kind, how many
 // warnings have each reason. Numbers, kinds and reasons are below 32.
-#[derive(Drop)]
+#[derive(Clone, Copy)]
 pub struct Counts {
-    accepted: u32,
-    refused: u32,
-    unreadable: u32,
-    numbers: [u32; 32],
-    kinds: [u32; 32],
-    reasons: [u32; 32],
+    pub accepted: u32,
+    pub refused: u32,
+    pub unreadable: u32,
+    pub numbers: [u32; 32],
+    pub kinds: [u32; 32],
+    pub reasons: [u32; 32],
 }
 
 // Counts a word, if it is below 32.

@@ -6,6 +6,7 @@ ghost use Rattle.soundness.specs.Outcome.{Knows, edge};
 use super::lent::Buffer;
 
 // Whether a place is the end of the known beginning, or has a byte that continues no character.
+#[inline(always)]
 #[tactic(auto, unfolding(crate::specs::Outcome::edge))]
 fn is_edge(buffer: &Buffer, at: usize) -> bool
     requires { at ≤ buffer.now.known }
@@ -28,6 +29,7 @@ fn is_checked(s: &[u8], from: usize, end: usize) -> bool
 }
 
 // Whether `len` bytes of a buffer from a place on are UTF-8.
+#[inline(always)]
 #[tactic(auto, using(crate::proofs::Known::parts))]
 pub fn is_formed(buffer: &Buffer, from: usize, len: usize) -> bool
     requires { from + len ≤ length buffer.now.bytes.now }

@@ -8,6 +8,7 @@ use super::{ends, kinds};
 use tables::Triple;
 
 // Whether a triple leads to a part of a buffer that is UTF-8.
+#[inline(always)]
 #[tactic(auto, using(crate::proofs::Triples::in_buffers))]
 fn is_part(buffer: &Buffer, t: Triple) -> bool
     ensures { result ≡ is_part buffer.now.bytes.now t }
@@ -17,18 +18,18 @@ fn is_part(buffer: &Buffer, t: Triple) -> bool
     from + len <= buffer.bytes.len() && ends::is_formed(buffer, from, len)
 }
 
-// Whether a triple leads to a part of the buffer that it names, and the part is UTF-8. The buffer is chosen first: with a call for each
-// buffer the check of rows takes longer.
+// Whether a triple leads to a part of the buffer that it names, and the part is UTF-8. A look for each buffer, put in place here: where the
+// buffer is chosen first, or the look is a call, the check of rows takes longer.
+#[inline(always)]
 #[tactic(auto, using(crate::proofs::Triples::in_buffers))]
 fn is_text(table: &Table, t: Triple) -> bool
     ensures { result ≡ is_text table.now.document.bytes.now table.now.text.bytes.now t }
 {
-    let buffer = match t.source {
-        1 => &table.document,
-        2 => &table.text,
-        _ => return false,
-    };
-    is_part(buffer, t)
+    match t.source {
+        1 => is_part(&table.document, t),
+        2 => is_part(&table.text, t),
+        _ => false,
+    }
 }
 
 // Words 2-4: the name that a kind must or may have.

@@ -129,11 +129,14 @@ pub fn next_child(table: &Table, i: usize, group: u32, from: usize) -> Result<us
     requires group { group < 5 }
     ensures { Next table.now.rows.now table.now.n i group from table.now.standing result }
 {
+    // Taken out of the table first: read through the reference at each turn, a long search takes half as long again.
+    let rows = table.rows;
+    let standing = table.standing;
     for k in from..table.n {
-        if is_child(table.rows, i, group, k) {
+        if is_child(rows, i, group, k) {
             return Ok(k);
         }
-        if is_past(table.rows, i, group, k, table.standing) {
+        if is_past(rows, i, group, k, standing) {
             return Err(k);
         }
     }
@@ -147,8 +150,9 @@ pub fn has_child(table: &Table, i: usize) -> bool
     ensures { HasChild table.now.rows.now table.now.n i result }
 {
     let p = i + 1;
+    let rows = table.rows;
     if table.standing.ordered {
-        return p < table.n && items::word(table.rows, p, 1) as usize == p;
+        return p < table.n && items::word(rows, p, 1) as usize == p;
     }
-    (p..table.n).any(|k| items::word(table.rows, k, 1) as usize == p)
+    (p..table.n).any(|k| items::word(rows, k, 1) as usize == p)
 }

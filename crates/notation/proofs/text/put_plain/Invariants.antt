@@ -3,4 +3,4 @@ use Rattle.std.proofs.Common.{length}
 use Rattle.notation.proofs.text.put_plain.Given as goal
 
 abbrev pub decreases-loop-b : goal.decreases-loop-b
-decreases-loop-b g l = length l.rest
+decreases-loop-b l = length l.rest
